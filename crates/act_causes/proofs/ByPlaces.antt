@@ -1,9 +1,6 @@
 -- Deeds are caused where each is, at its place, by those before that place.
-use Rattle.std.proofs.Common.{◌≡◌, ℕ, suc, List, [], ◌∷◌, ◌++◌, Some, refl, sym, subst, take}
-use Rattle.std.specs.Prelude.{slice_get}
-use Rattle.std.proofs.lemmas.List.{append-nil, append_assoc}
-use Rattle.act_rules.specs.History.{ActorSpec}
-use Rattle.act_causes.specs.Deeds.{Deed, IsCaused, AreCaused}
+use Rattle.act_causes.proofs.Common.{◌≡◌, ℕ, suc, List, [], ◌∷◌, ◌++◌, Some, refl, sym, subst, take, slice_get, append-nil, append_assoc, ActorSpec, Deed}
+use Rattle.act_causes.proofs.Common.{IsCaused, AreCaused}
 
 caused_after : (casts : List ActorSpec) (before deeds : List Deed) → ((i : ℕ) (deed : Deed) → slice_get deeds i ≡ Some deed → IsCaused casts (before ++ take i deeds) deed) → AreCaused casts before deeds
 caused_after casts before [] each = tt

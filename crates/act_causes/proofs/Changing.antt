@@ -1,41 +1,15 @@
 -- A caller that copies, releases, submits, sends, or asks a kill.
-use Rattle.std.proofs.Common.{◌≡◌, ℕ, ◌+◌, ◌<◌, ◌≤◌, Bool, true, false, cond, List, [], ◌∷◌, ◌++◌, length, Option, Some, None, Ok, All, inl, inr, refl, ap, sym, ◌∙◌, subst, arith, get_or}
-use Rattle.std.specs.Prelude.{◌==◌, find, slice_get, slice_set, unwrap_or, is_some, nat_lt}
-use Rattle.std.specs.List.{list_all}
-use Rattle.std.proofs.lemmas.Bool.{eqb-true}
-use Rattle.std.proofs.lemmas.Bool.Decides.{eqb_tells}
-use Rattle.std.proofs.lemmas.List.{get_or-set_same, length-set}
-use Rattle.std.proofs.lemmas.Option.{slice_get_within, slice_get-get_or}
-use Rattle.act_types.specs.declared.call.Arg.{Arg}
-use Rattle.act_types.specs.declared.call.Method.{Method}
-use Rattle.act_types.specs.declared.call.KillNote.{KillNote}
-use Rattle.act_rules.specs.declared.event.Event.TheVariants.{Submit, Copy, Release, Send, AskKill}
-use Rattle.act_rules.specs.declared.history.Submission.{Submission}
-use Rattle.act_rules.specs.declared.outcome.Did.TheVariants.{Future, Copies, Mail, Asked}
-use Rattle.act_rules.specs.declared.outcome.HandleRefusal.{HandleRefusal}
-use Rattle.act_rules.specs.declared.outcome.HandleRefusal.TheVariants.{NoActor, NoHandle}
-use Rattle.act_rules.specs.declared.outcome.SendRefusal.TheVariants.{NotReady}
-use Rattle.act_rules.specs.Submissions.{needs, number_of, is_known, copies_held, copy_refusal, handle_refusal, send_refusal}
-use Rattle.act_rules.specs.History.{ActorSpec, History, names}
-use Rattle.act_rules.specs.Rules.{add_event}
-use Rattle.act_rules.proofs.Ended.{needs-none}
-use Rattle.act_rules.proofs.Finding.{find-tells}
-use Rattle.act_handles.specs.Handles.{copies_in, or_else, with_copy, without_copy}
-use Rattle.act_owner.specs.Owner.{OwnerView, is_sent, address_at, refusal_to_submit, sending_refusal, release_note, with_handles, with_submission, with_sent}
-use Rattle.act_owner.specs.Life.{Change, Copied, Released, Submitted, Sent, after_change, is_known_at}
-use Rattle.act_plans.specs.Runs.{cast_at}
+use Rattle.act_causes.proofs.Common.{◌≡◌, ℕ, ◌+◌, ◌<◌, ◌≤◌, Bool, true, false, cond, List, [], ◌∷◌, ◌++◌, length, Option, Some, None, Ok, All, inl, inr, refl}
+use Rattle.act_causes.proofs.Common.{ap, sym, ◌∙◌, subst, arith, get_or, ◌==◌, find, slice_get, slice_set, unwrap_or, is_some, nat_lt, list_all, eqb-true}
+use Rattle.act_causes.proofs.Common.{eqb_tells, get_or-set_same, length-set, slice_get_within, slice_get-get_or, Arg, Method, KillNote, Submit, Copy, Release}
+use Rattle.act_causes.proofs.Common.{Send, AskKill, Submission, Future, Copies, Mail, Asked, HandleRefusal, NoActor, NoHandle, NotReady, needs, number_of}
+use Rattle.act_causes.proofs.Common.{is_known, copies_held, copy_refusal, handle_refusal, send_refusal, ActorSpec, History, names, add_event, needs-none}
+use Rattle.act_causes.proofs.Common.{find-tells, copies_in, or_else, with_copy, without_copy, OwnerView, is_sent, address_at, refusal_to_submit}
+use Rattle.act_causes.proofs.Common.{sending_refusal, release_note, with_handles, with_submission, with_sent, Change, Copied, Released, Submitted, Sent}
+use Rattle.act_causes.proofs.Common.{after_change, is_known_at, cast_at, NetworkView, is_owner, SlotView, ask_follows, copy_follows, contains-last}
+use Rattle.act_causes.proofs.Common.{get_set-same, release_follows, last_follows, is_named, send_follows, submit_follows, Deed, Changed, AskedKill, IsNamed}
+use Rattle.act_causes.proofs.Common.{owner_by}
 use Rattle.act_world.specs.declared.network.MailEntry.TheVariants.{Call as CallEntry, Note as NoteEntry}
-use Rattle.act_world.specs.Network.{NetworkView, is_owner}
-use Rattle.act_world.specs.View.{SlotView}
-use Rattle.act_world.proofs.Asking.{ask_follows}
-use Rattle.act_world.proofs.Copying.{copy_follows}
-use Rattle.act_world.proofs.Killing.{contains-last}
-use Rattle.act_world.proofs.Lists.{get_set-same}
-use Rattle.act_world.proofs.Releasing.{release_follows, last_follows}
-use Rattle.act_world.proofs.Seeing.{is_named}
-use Rattle.act_world.proofs.Sending.{send_follows}
-use Rattle.act_world.proofs.Submitting.{submit_follows}
-use Rattle.act_causes.specs.Deeds.{Deed, Changed, AskedKill, IsNamed, owner_by}
 use Rattle.act_causes.proofs.Made.{owner_changed, owner_other, owner_same, owner_id, IsNoEnd, actors_stay}
 use Rattle.act_causes.proofs.Places.{IsFoundAt, found_at, written_here, written_other}
 use Rattle.act_causes.proofs.Keeping.{Keeps, GoesOn, go_on, cast_is, owner_of}

@@ -1,33 +1,12 @@
 -- A caller that collects a notice.
-use Rattle.std.proofs.Common.{◌≡◌, ℕ, ◌<◌, ◌≤◌, Bool, true, false, cond, List, length, Option, Some, None, All, refl, ap, sym, ◌∙◌, subst, arith, get_or, Contains}
-use Rattle.std.specs.Prelude.{slice_get, slice_set, option_map, option_and_then, unwrap_or, is_some}
-use Rattle.std.proofs.lemmas.Option.{slice_get-get_or}
-use Rattle.act_types.specs.KindState.{KindState}
-use Rattle.act_types.specs.declared.call.Notice.{Notice}
-use Rattle.act_types.specs.declared.call.Notice.TheVariants.{Answered, Death}
-use Rattle.act_types.specs.declared.call.Reply.{Reply}
-use Rattle.act_rules.specs.declared.event.Event.TheVariants.{Collect}
-use Rattle.act_rules.specs.declared.history.Post.{Post}
+use Rattle.act_causes.proofs.Common.{◌≡◌, ℕ, ◌<◌, ◌≤◌, Bool, true, false, cond, List, length, Option, Some, None, All, refl, ap, sym, ◌∙◌, subst, arith, get_or}
+use Rattle.act_causes.proofs.Common.{Contains, slice_get, slice_set, option_map, option_and_then, unwrap_or, is_some, slice_get-get_or, KindState, Notice}
+use Rattle.act_causes.proofs.Common.{Answered, Death, Reply, Collect, Post, RunItem, WorldRefusal, NoReply, Answer, answer_at, needs, ActorSpec, History}
+use Rattle.act_causes.proofs.Common.{runs_of, answer_of, did, refusal_of, outcome_by, add_event, copies_in, Noticed, Posted, told_collected, reply_as, reply_at}
+use Rattle.act_causes.proofs.Common.{posted_notice, collect_follows, get_set-same, answer_at-front, slice_get_front, Deed, Changed, ToldDeath, IsNamed}
+use Rattle.act_causes.proofs.Common.{IsReplyGiven, log_by, owner_by, IsEventOf}
 use Rattle.act_rules.specs.declared.history.Post.TheVariants.{Reply as ReplyPost, Death as DeathPost}
-use Rattle.act_rules.specs.declared.history.RunItem.{RunItem}
-use Rattle.act_rules.specs.declared.outcome.WorldRefusal.{WorldRefusal}
-use Rattle.act_rules.specs.declared.outcome.WorldRefusal.TheVariants.{NoReply}
-use Rattle.act_rules.specs.RunList.{Answer, answer_at}
-use Rattle.act_rules.specs.Submissions.{needs}
-use Rattle.act_rules.specs.History.{ActorSpec, History, runs_of, answer_of}
-use Rattle.act_rules.specs.Rules.{did, refusal_of, outcome_by, add_event}
-use Rattle.act_handles.specs.Handles.{copies_in}
 use Rattle.act_owner.specs.Owner.{OwnerView, is_known_dead as knows_dead, collect_result, after_collect, with_death, KnowsDeath}
-use Rattle.act_owner.specs.Life.{Noticed}
-use Rattle.act_world.specs.declared.network.Posted.{Posted}
-use Rattle.act_world.specs.Network.{told_collected}
-use Rattle.act_world.specs.Refines.{reply_as, reply_at, posted_notice}
-use Rattle.act_world.proofs.Collecting.{collect_follows}
-use Rattle.act_world.proofs.Lists.{get_set-same}
-use Rattle.act_rules.proofs.Kept.{answer_at-front}
-use Rattle.act_rules.proofs.Lists.{slice_get_front}
-use Rattle.act_causes.specs.Deeds.{Deed, Changed, ToldDeath, IsNamed, IsReplyGiven, log_by, owner_by}
-use Rattle.act_causes.specs.Plays.{IsEventOf}
 use Rattle.act_causes.proofs.Made.{marks_are, actors_stay}
 use Rattle.act_causes.proofs.Marks.{HasPost}
 use Rattle.act_causes.proofs.Keeping.{Keeps, GoesOn, go_on, cast_is}

@@ -1,30 +1,13 @@
 -- An actor that takes a kill, tells its death, or retires.
-use Rattle.std.proofs.Common.{◌≡◌, ℕ, true, false, List, [], ◌∷◌, ◌++◌, length, Option, Some, None, Ok, refl, ap, sym, ◌∙◌, Contains}
-use Rattle.std.specs.Prelude.{slice_get, slice_set}
-use Rattle.std.proofs.lemmas.Bool.{eqb-true}
-use Rattle.act_types.specs.declared.call.Notice.TheVariants.{Death}
-use Rattle.act_types.specs.declared.call.ReleaseNote.{ReleaseNote}
-use Rattle.act_rules.specs.declared.event.Event.TheVariants.{TakeKill, Tell, Retire}
+use Rattle.act_causes.proofs.Common.{◌≡◌, ℕ, true, false, List, [], ◌∷◌, ◌++◌, length, Option, Some, None, Ok, refl, ap, sym, ◌∙◌, Contains, slice_get}
+use Rattle.act_causes.proofs.Common.{slice_set, eqb-true, Death, ReleaseNote, TakeKill, Tell, Retire, RunItem, items_of, ActorSpec, History, cast_of, names}
+use Rattle.act_causes.proofs.Common.{has_letter, add_event, handed_of, note_of, OwnerView, RetiredView, cast_at, NetworkView, SlotView, Runs, Ended}
+use Rattle.act_causes.proofs.Common.{is_dead_slot, dead_slot, is_note_of, IsStage, still_lives, kill_follows, retire_follows, Deed, AskedKill, TookNote}
+use Rattle.act_causes.proofs.Common.{TookKill, ToldDeath, Retired, log_by, is_dead_by, is_ended_by, HasRunAllCalls}
 use Rattle.act_rules.specs.declared.history.Letter.TheVariants.{Note as NoteLetter}
 use Rattle.act_rules.specs.declared.history.Post.TheVariants.{Death as DeathPost}
-use Rattle.act_rules.specs.declared.history.RunItem.{RunItem}
 use Rattle.act_rules.specs.declared.outcome.Did.TheVariants.{Dead, Told, Retired as DidRetire}
-use Rattle.act_rules.specs.RunList.{items_of}
-use Rattle.act_rules.specs.History.{ActorSpec, History, cast_of, names, has_letter}
-use Rattle.act_rules.specs.Rules.{add_event}
-use Rattle.act_inbox.specs.Inbox.{handed_of, note_of}
-use Rattle.act_owner.specs.Owner.{OwnerView}
-use Rattle.act_actor.specs.View.{RetiredView}
-use Rattle.act_plans.specs.Runs.{cast_at}
-use Rattle.act_world.specs.Network.{NetworkView}
-use Rattle.act_world.specs.View.{SlotView, Runs, Ended}
-use Rattle.act_world.specs.Slots.{is_dead_slot, dead_slot}
-use Rattle.act_world.specs.Refines.{is_note_of, IsStage}
-use Rattle.act_world.proofs.Frames.{still_lives}
-use Rattle.act_world.proofs.Killing.{kill_follows}
-use Rattle.act_world.proofs.Retiring.{retire_follows}
 use Rattle.act_world.proofs.Telling.{tell_follows, dead_is as dead_seen_is}
-use Rattle.act_causes.specs.Deeds.{Deed, AskedKill, TookNote, TookKill, ToldDeath, Retired, log_by, is_dead_by, is_ended_by, HasRunAllCalls}
 use Rattle.act_causes.proofs.Made.{owner_same, dead_is, actors_stay, actors_killed, actors_retired}
 use Rattle.act_causes.proofs.Marks.{last_post}
 use Rattle.act_causes.proofs.Keeping.{Keeps, GoesOn, go_on, cast_is}

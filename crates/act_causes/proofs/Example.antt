@@ -1,24 +1,10 @@
 -- Deeds of each sort that meet all premises: one caller, a counter that ran its call and retired, and one that died.
-use Rattle.std.proofs.Common.{◌≡◌, ◌≢◌, ℕ, zero, suc, ◌≤◌, Bool, true, false, List, [], ◌∷◌, ◌++◌, length, None, Ok, All, AllPairs, refl, subst, arith, Contains, take}
-use Rattle.std.specs.Prelude.{◌==◌, ◌||◌, pos}
-use Rattle.std.proofs.lemmas.Bool.{eqb-true}
-use Rattle.std.proofs.lemmas.List.Elements.{All-nil, All-cons}
-use Rattle.act_types.specs.KindState.{CounterAt}
-use Rattle.act_types.specs.declared.call.Arg.TheVariants.{Plain}
+use Rattle.act_causes.proofs.Common.{◌≡◌, ◌≢◌, ℕ, zero, suc, ◌≤◌, Bool, true, false, List, [], ◌∷◌, ◌++◌, length, None, Ok, All, AllPairs, refl, subst, arith}
+use Rattle.act_causes.proofs.Common.{Contains, take, ◌==◌, ◌||◌, pos, eqb-true, All-nil, All-cons, CounterAt, Plain, Good, Answered, Death, Reply, ReleaseNote}
+use Rattle.act_causes.proofs.Common.{RunItem, ActorSpec, items_of, All-two, Copied, Released, Submitted, Sent, Noticed, packet_of_item, Deed, Changed}
+use Rattle.act_causes.proofs.Common.{AskedKill, TookCall, TookNote, Ran, TookKill, ToldDeath, Retired, changes_by, AreCaused, SpecsFit}
 use Rattle.act_types.specs.declared.call.Method.TheVariants as method
-use Rattle.act_types.specs.declared.call.Settled.TheVariants.{Good}
-use Rattle.act_types.specs.declared.call.Notice.TheVariants.{Answered, Death}
-use Rattle.act_types.specs.declared.call.Reply.{Reply}
-use Rattle.act_types.specs.declared.call.ReleaseNote.{ReleaseNote}
 use Rattle.act_types.specs.declared.call.Value.TheVariants as value
-use Rattle.act_rules.specs.declared.history.RunItem.{RunItem}
-use Rattle.act_rules.specs.History.{ActorSpec}
-use Rattle.act_rules.specs.RunList.{items_of}
-use Rattle.act_rules.proofs.Lists.{All-two}
-use Rattle.act_owner.specs.Life.{Copied, Released, Submitted, Sent, Noticed}
-use Rattle.act_actor.specs.Actor.{packet_of_item}
-use Rattle.act_causes.specs.Deeds.{Deed, Changed, AskedKill, TookCall, TookNote, Ran, TookKill, ToldDeath, Retired, changes_by, AreCaused}
-use Rattle.act_causes.specs.Plays.{SpecsFit}
 
 -- a counter that this caller may call
 abbrev counter : ℕ → ActorSpec

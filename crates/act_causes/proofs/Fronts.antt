@@ -1,23 +1,11 @@
 -- What each front of a play keeps of the same front of the deeds that it stands for, and what it collects and delivers.
-use Rattle.std.proofs.Common.{◌≡◌, ℕ, zero, suc, Bool, true, false, List, [], ◌∷◌, ◌++◌, Option, Some, None, refl, ap, sym, ◌∙◌, subst}
-use Rattle.std.specs.Prelude.{filter_map, slice_get, unwrap_or, replicate}
-use Rattle.std.specs.List.{list_any, cons_option}
-use Rattle.std.proofs.lemmas.List.{append-nil, append_assoc}
-use Rattle.act_types.specs.declared.call.Notice.TheVariants.{Answered, Death}
-use Rattle.act_rules.specs.declared.event.Event.{Event}
-use Rattle.act_rules.specs.declared.history.Letter.{Letter}
+use Rattle.act_causes.proofs.Common.{◌≡◌, ℕ, zero, suc, Bool, true, false, List, [], ◌∷◌, ◌++◌, Option, Some, None, refl, ap, sym, ◌∙◌, subst, filter_map}
+use Rattle.act_causes.proofs.Common.{slice_get, unwrap_or, replicate, list_any, cons_option, append-nil, append_assoc, Answered, Death, Event, Letter, Post}
+use Rattle.act_causes.proofs.Common.{RunItem, ActorSpec, History, kept_of, next_item, history, add_event, after_run, and_also, is_known_dead, Change, Copied}
+use Rattle.act_causes.proofs.Common.{Released, Submitted, Sent, Noticed, is_death_to, Deed, Changed, AskedKill, TookCall, TookNote, Ran, TookKill, ToldDeath}
+use Rattle.act_causes.proofs.Common.{Retired, owner_by, owner_after, IsEventOf, IsPlayOfDeeds}
 use Rattle.act_rules.specs.declared.history.Letter.TheVariants.{Call as CallLetter, Note as NoteLetter}
-use Rattle.act_rules.specs.declared.history.Post.{Post}
 use Rattle.act_rules.specs.declared.history.Post.TheVariants.{Reply as ReplyPost, Death as DeathPost}
-use Rattle.act_rules.specs.declared.history.RunItem.{RunItem}
-use Rattle.act_rules.specs.History.{ActorSpec, History, kept_of, next_item}
-use Rattle.act_rules.specs.Laws.{history}
-use Rattle.act_rules.specs.Rules.{add_event, after_run, and_also}
-use Rattle.act_owner.specs.Owner.{is_known_dead}
-use Rattle.act_owner.specs.Life.{Change, Copied, Released, Submitted, Sent, Noticed}
-use Rattle.act_world.specs.Refines.{is_death_to}
-use Rattle.act_causes.specs.Deeds.{Deed, Changed, AskedKill, TookCall, TookNote, Ran, TookKill, ToldDeath, Retired, owner_by, owner_after}
-use Rattle.act_causes.specs.Plays.{IsEventOf, IsPlayOfDeeds}
 use Rattle.act_causes.proofs.Keeping.{Keeps, told_of, owner_of, is_named}
 
 -- each caller's answers are kept as the deeds leave them, and of each actor that it knows to be dead it collected that

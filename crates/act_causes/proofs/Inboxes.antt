@@ -1,21 +1,8 @@
 -- An inbox that a letter comes to.
-use Rattle.std.proofs.Common.{◌≡◌, ◌≢◌, ℕ, zero, suc, ◌<◌, Bool, true, false, cond, List, [], ◌∷◌, Option, Some, None, inl, inr, refl, ap, sym, ◌∙◌, subst}
-use Rattle.std.specs.Prelude.{◌==◌, slice_index_or}
-use Rattle.std.proofs.lemmas.Bool.Decides.{eqb_tells}
-use Rattle.std.proofs.lemmas.List.Elements.{All-cons}
-use Rattle.act_types.specs.declared.call.Packet.{Packet}
-use Rattle.act_types.specs.declared.call.ReleaseNote.{ReleaseNote}
-use Rattle.act_rules.specs.declared.outcome.Arrival.{Arrival}
-use Rattle.act_rules.specs.declared.outcome.Arrival.TheVariants.{New, Repeat, Stranger}
-use Rattle.act_inbox.specs.View.{IsInbox}
-use Rattle.act_inbox.specs.Inbox.{InboxView, arrival_of, with_held}
-use Rattle.act_inbox.proofs.Packets.{new_tells, waits_holding}
-use Rattle.act_owner.specs.Owner.{OwnerView}
-use Rattle.act_actor.specs.View.{ActorView}
-use Rattle.act_actor.specs.Actor.{arrival_at, note_arrival_at}
-use Rattle.act_world.specs.declared.network.CallKey.{CallKey}
-use Rattle.act_world.specs.Network.{packet_in, named_as}
-use Rattle.act_world.specs.Slots.{HasTakenPacket, HasTakenCall, HasNoted}
+use Rattle.act_causes.proofs.Common.{◌≡◌, ◌≢◌, ℕ, zero, suc, ◌<◌, Bool, true, false, cond, List, [], ◌∷◌, Option, Some, None, inl, inr, refl, ap, sym, ◌∙◌}
+use Rattle.act_causes.proofs.Common.{subst, ◌==◌, slice_index_or, eqb_tells, All-cons, Packet, ReleaseNote, Arrival, New, Repeat, Stranger, IsInbox, InboxView}
+use Rattle.act_causes.proofs.Common.{arrival_of, with_held, new_tells, waits_holding, OwnerView, ActorView, arrival_at, note_arrival_at, CallKey, packet_in}
+use Rattle.act_causes.proofs.Common.{named_as, HasTakenPacket, HasTakenCall, HasNoted}
 
 -- ---- a call
 

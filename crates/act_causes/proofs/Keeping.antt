@@ -1,37 +1,15 @@
 -- What a history keeps of the deeds that its events stand for, and one deed more.
-use Rattle.std.proofs.Common.{◌≡◌, ℕ, ◌≤◌, true, List, [], ◌∷◌, ◌++◌, length, Option, Some, None, Ok, inl, inr, refl, ap, sym, ◌∙◌, subst, Contains, cond, Bool, false, map}
-use Rattle.std.specs.Prelude.{find, slice_get, ◌==◌}
-use Rattle.std.specs.List.{cons_option, list_any, enumerate_from}
-use Rattle.std.proofs.lemmas.Bool.{eqb-true}
-use Rattle.std.proofs.lemmas.List.{append-nil}
-use Rattle.std.proofs.lemmas.List.Elements.{Contains-push_cases, filter_map-append}
-use Rattle.act_types.specs.declared.call.Packet.{Packet}
-use Rattle.act_rules.specs.declared.event.Event.{Event}
-use Rattle.act_rules.specs.declared.event.Event.TheVariants.{Submit, Copy, Release, Send, Deliver, Run, Collect, AskKill, TakeKill, Tell, Retire}
-use Rattle.act_rules.specs.declared.outcome.Did.{Did}
-use Rattle.act_rules.specs.declared.outcome.WorldRefusal.{WorldRefusal}
-use Rattle.act_rules.specs.declared.history.Letter.{Letter}
+use Rattle.act_causes.proofs.Common.{◌≡◌, ℕ, ◌≤◌, true, List, [], ◌∷◌, ◌++◌, length, Option, Some, None, Ok, inl, inr, refl, ap, sym, ◌∙◌, subst, Contains}
+use Rattle.act_causes.proofs.Common.{cond, Bool, false, map, find, slice_get, ◌==◌, cons_option, list_any, enumerate_from, eqb-true, append-nil}
+use Rattle.act_causes.proofs.Common.{Contains-push_cases, filter_map-append, Packet, Event, Submit, Copy, Release, Send, Deliver, Run, Collect, AskKill}
+use Rattle.act_causes.proofs.Common.{TakeKill, Tell, Retire, Did, WorldRefusal, Letter, RunItem, Submission, AllNamed, IsPrefix, ActorSpec, History, contains}
+use Rattle.act_causes.proofs.Common.{cast_of, names, is_caller, has_letter, next_item, calls_of, kept_of, first_answer, refusal_of, outcome_by, outcome_of}
+use Rattle.act_causes.proofs.Common.{add_event, after_run, after_by, after, whole_front, more_front, added_grows, contains_more, IsInbox, packet_at, is_sent}
+use Rattle.act_causes.proofs.Common.{Change, Copied, Released, Submitted, Sent, Noticed, is_known_at, cast_at, is_owner, SlotView, Runs, WorldView, IsOwnerOf}
+use Rattle.act_causes.proofs.Common.{IsOwnerAt, Refines, IsLawful, lawful_step, sent_call_named, named_caller, Deed, Changed, AskedKill, TookCall, TookNote}
+use Rattle.act_causes.proofs.Common.{Ran, TookKill, ToldDeath, Retired, IsNamed, owner_by, change_of, changes_by, owner_after, IsEventOf}
 use Rattle.act_rules.specs.declared.history.Letter.TheVariants.{Call as CallLetter, Note as NoteLetter}
 use Rattle.act_rules.specs.declared.history.Post.TheVariants.{Death as DeathPost}
-use Rattle.act_rules.specs.declared.history.RunItem.{RunItem}
-use Rattle.act_rules.specs.declared.history.Submission.{Submission}
-use Rattle.act_rules.proofs.RanAll.{AllNamed}
-use Rattle.act_rules.specs.Consistent.{IsPrefix}
-use Rattle.act_rules.specs.History.{ActorSpec, History, contains, cast_of, names, is_caller, has_letter, next_item, calls_of, kept_of, first_answer}
-use Rattle.act_rules.specs.Rules.{refusal_of, outcome_by, outcome_of, add_event, after_run, after_by, after}
-use Rattle.act_rules.proofs.Lists.{whole_front, more_front}
-use Rattle.act_rules.proofs.Growth.{added_grows}
-use Rattle.act_rules.proofs.Ended.{contains_more}
-use Rattle.act_inbox.specs.View.{IsInbox}
-use Rattle.act_owner.specs.Owner.{packet_at, is_sent}
-use Rattle.act_owner.specs.Life.{Change, Copied, Released, Submitted, Sent, Noticed, is_known_at}
-use Rattle.act_plans.specs.Runs.{cast_at}
-use Rattle.act_world.specs.Network.{is_owner}
-use Rattle.act_world.specs.View.{SlotView, Runs, WorldView}
-use Rattle.act_world.specs.Refines.{IsOwnerOf, IsOwnerAt, Refines}
-use Rattle.act_world.proofs.Lawful.{IsLawful, lawful_step, sent_call_named, named_caller}
-use Rattle.act_causes.specs.Deeds.{Deed, Changed, AskedKill, TookCall, TookNote, Ran, TookKill, ToldDeath, Retired, IsNamed, owner_by, change_of, changes_by, owner_after}
-use Rattle.act_causes.specs.Plays.{IsEventOf}
 use Rattle.act_causes.proofs.Unrefused.{IsUnrefused, AreUnrefused, unrefused_more}
 use Rattle.act_causes.proofs.Made.{known_on, sent_on, AreActorsOf}
 use Rattle.act_causes.proofs.Marks.{HasPost, AreReplied, AreNoted, letters_stay, post_stays, replied_step, noted_step}

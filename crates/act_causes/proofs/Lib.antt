@@ -1,3 +1,4 @@
+pub mod Common
 pub mod Merging
 pub mod Unrefused
 pub mod Made

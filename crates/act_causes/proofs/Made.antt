@@ -1,28 +1,11 @@
 -- What one deed more makes of each caller and of each actor.
-use Rattle.std.proofs.Common.{◌≡◌, ◌≢◌, ℕ, Bool, true, false, cond, List, [], ◌∷◌, ◌++◌, length, Option, Some, None, refl, ap, sym, ◌∙◌, subst}
-use Rattle.std.specs.Prelude.{◌==◌, ◌||◌, filter_map, is_some}
-use Rattle.std.specs.List.{cons_option, list_any}
-use Rattle.std.proofs.Math.Bool.{or-false}
-use Rattle.std.proofs.lemmas.Bool.{eq-eqb, ne_eqb}
-use Rattle.std.proofs.lemmas.List.{append-nil, length-set}
-use Rattle.std.proofs.lemmas.List.Elements.{filter_map-append}
-use Rattle.std.proofs.lemmas.List.Folds.{list_any-append}
-use Rattle.act_types.specs.declared.call.Notice.TheVariants.{Answered, Death}
-use Rattle.act_types.specs.declared.call.Reply.{Reply}
-use Rattle.act_rules.specs.declared.history.RunItem.{RunItem}
-use Rattle.act_rules.specs.History.{ActorSpec, History, contains, actors_naming, runs_of, under, is_dead, is_ended}
-use Rattle.act_rules.specs.RunList.{has_terminated}
-use Rattle.act_rules.specs.Submissions.{kept_at}
-use Rattle.act_handles.specs.Handles.{copies_in}
-use Rattle.act_owner.specs.declared.owner.Collected.TheVariants.{First, Late, Stray}
-use Rattle.act_owner.specs.Owner.{OwnerView, opened_under, packet_at, is_sent, with_death, after_reply_that, is_of_call}
-use Rattle.act_owner.specs.Life.{Change, Copied, Released, Submitted, Sent, Noticed, after_change, after_changes, is_known_at}
-use Rattle.act_owner.proofs.Life.{step, places_all, packet_stays_all, after_all-append}
-use Rattle.act_owner.proofs.Told.{sent_stays_all}
-use Rattle.act_plans.specs.Runs.{limits_naming}
-use Rattle.act_rules.proofs.Ended.{under-push}
-use Rattle.act_world.proofs.RanOn.{ran_on}
-use Rattle.act_causes.specs.Deeds.{Deed, Changed, Ran, TookKill, Retired, change_of, item_of_deed, is_kill_taken, is_end_of, owner_by, log_by, is_dead_by, is_ended_by}
+use Rattle.act_causes.proofs.Common.{◌≡◌, ◌≢◌, ℕ, Bool, true, false, cond, List, [], ◌∷◌, ◌++◌, length, Option, Some, None, refl, ap, sym, ◌∙◌, subst, ◌==◌}
+use Rattle.act_causes.proofs.Common.{◌||◌, filter_map, is_some, cons_option, list_any, or-false, eq-eqb, ne_eqb, append-nil, length-set, filter_map-append}
+use Rattle.act_causes.proofs.Common.{list_any-append, Answered, Death, Reply, RunItem, ActorSpec, History, contains, actors_naming, runs_of, under, is_dead}
+use Rattle.act_causes.proofs.Common.{is_ended, has_terminated, kept_at, copies_in, First, Late, Stray, OwnerView, opened_under, packet_at, is_sent, with_death}
+use Rattle.act_causes.proofs.Common.{after_reply_that, is_of_call, Change, Copied, Released, Submitted, Sent, Noticed, after_change, after_changes, is_known_at}
+use Rattle.act_causes.proofs.Common.{step, places_all, packet_stays_all, after_all-append, sent_stays_all, limits_naming, under-push, ran_on, Deed, Changed}
+use Rattle.act_causes.proofs.Common.{Ran, TookKill, Retired, change_of, item_of_deed, is_kill_taken, is_end_of, owner_by, log_by, is_dead_by, is_ended_by}
 
 -- ---- a caller
 

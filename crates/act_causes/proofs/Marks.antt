@@ -1,31 +1,14 @@
 -- What every history keeps of replies and notes: each call that ran was replied to, and each last release sent its note.
-use Rattle.std.proofs.Common.{◌≡◌, ℕ, zero, suc, ◌+◌, ◌-◌, ◌<◌, Bool, true, false, cond, List, [], ◌∷◌, ◌++◌, length, Some, None, ◌⊎◌, inl, inr, refl, ap, sym, ◌∙◌, subst, arith}
-use Rattle.std.specs.Prelude.{Option, ◌==◌, ◌&&◌, slice_get, option_map, is_some, nat_lt}
-use Rattle.std.proofs.lemmas.Bool.{eqb-true, eq-eqb, ltb-true, and_parts}
-use Rattle.std.proofs.lemmas.Bool.Decides.{eqb_tells}
-use Rattle.act_rules.specs.declared.event.Event.{Event}
-use Rattle.act_rules.specs.declared.event.Event.TheVariants.{Submit, Copy, Release, Send, Deliver, Run, Collect, AskKill, TakeKill, Tell, Retire}
-use Rattle.act_rules.specs.declared.history.Letter.{Letter}
+use Rattle.act_causes.proofs.Common.{◌≡◌, ℕ, zero, suc, ◌+◌, ◌-◌, ◌<◌, Bool, true, false, cond, List, [], ◌∷◌, ◌++◌, length, Some, None, ◌⊎◌, inl, inr, refl}
+use Rattle.act_causes.proofs.Common.{ap, sym, ◌∙◌, subst, arith, Option, ◌==◌, ◌&&◌, slice_get, option_map, is_some, nat_lt, eqb-true, eq-eqb, ltb-true}
+use Rattle.act_causes.proofs.Common.{and_parts, eqb_tells, Event, Submit, Copy, Release, Send, Deliver, Run, Collect, AskKill, TakeKill, Tell, Retire, Letter}
+use Rattle.act_causes.proofs.Common.{Post, RunItem, Submission, NoActor, NoHandle, TooManyCopies, NoCaller, Handle, IsPrefix, calls_to, needs, copies_held}
+use Rattle.act_causes.proofs.Common.{copy_refusal, handle_refusal, ActorSpec, History, opening, is_caller, cast_of, names, count_pairs, calls_of, copies_of}
+use Rattle.act_causes.proofs.Common.{runs_of, has_letter, next_item, refusal_of, add_event, after_run, is_last, and_also, slice_get_front, option_map-none}
+use Rattle.act_causes.proofs.Common.{added_grows, IsKept, needs-none, next_item_caller, times-push, gone_step, has_letter-more, has_last, ran_on, runs_here}
+use Rattle.act_causes.proofs.Common.{runs_other}
 use Rattle.act_rules.specs.declared.history.Letter.TheVariants.{Note as NoteLetter}
-use Rattle.act_rules.specs.declared.history.Post.{Post}
 use Rattle.act_rules.specs.declared.history.Post.TheVariants.{Reply as ReplyPost}
-use Rattle.act_rules.specs.declared.history.RunItem.{RunItem}
-use Rattle.act_rules.specs.declared.history.Submission.{Submission}
-use Rattle.act_rules.specs.declared.outcome.HandleRefusal.TheVariants.{NoActor, NoHandle, TooManyCopies}
-use Rattle.act_rules.specs.declared.outcome.WorldRefusal.TheVariants.{NoCaller, Handle}
-use Rattle.act_rules.specs.Consistent.{IsPrefix}
-use Rattle.act_rules.specs.Submissions.{calls_to, needs, copies_held, copy_refusal, handle_refusal}
-use Rattle.act_rules.specs.History.{ActorSpec, History, opening, is_caller, cast_of, names, count_pairs, calls_of, copies_of, runs_of, has_letter, next_item}
-use Rattle.act_rules.specs.Rules.{refusal_of, add_event, after_run, is_last, and_also}
-use Rattle.act_rules.proofs.Lists.{slice_get_front, option_map-none}
-use Rattle.act_rules.proofs.Growth.{added_grows}
-use Rattle.act_rules.proofs.Steps.{IsKept}
-use Rattle.act_rules.proofs.Ended.{needs-none}
-use Rattle.act_rules.proofs.Posts.{next_item_caller}
-use Rattle.act_rules.proofs.Retired.{times-push, gone_step}
-use Rattle.act_world.proofs.Lawful.{has_letter-more}
-use Rattle.act_world.proofs.Mail.{has_last}
-use Rattle.act_world.proofs.RanOn.{ran_on, runs_here, runs_other}
 
 -- ---- each call that ran was replied to
 

@@ -1,14 +1,10 @@
 -- Deeds of threads, merged by their stamps.
-use Rattle.std.proofs.Common.{◌≡◌, ◌≢◌, ℕ, zero, suc, ◌≤◌, ◌<◌, ◌==◌, Bool, true, false, cond, List, [], ◌∷◌, ◌++◌, Some, refl, sym, ap, subst, ◌∙◌, arith, append-nil}
-use Rattle.std.specs.Prelude.{find, map, filter, slice_get, nat_le, AllPairs}
-use Rattle.std.specs.List.{AllByRecursion, Contains}
-use Rattle.std.proofs.lemmas.Bool.{eqb-true, eq-eqb, ne_eqb, leb-true, leb-false}
-use Rattle.std.proofs.lemmas.List.{map-append}
-use Rattle.std.proofs.lemmas.List.Elements.{filter-append, All-from_recursion, recursion_from_All, All-head, All-tail}
-use Rattle.std.proofs.lemmas.List.Kept.{AllPairs-cons}
-use Rattle.std.proofs.lemmas.Option.{slice_get-get_or}
-use Rattle.act_rules.specs.History.{under}
-use Rattle.act_causes.specs.Merge.{Thread, deeds_in, deeds_of, AreApart, NeverFall, IsMergeOf}
+use Rattle.act_causes.proofs.Common.{◌≡◌, ◌≢◌, ℕ, zero, suc, ◌≤◌, ◌<◌, ◌==◌, Bool, true, false, cond, List, [], ◌∷◌, ◌++◌, Some, refl, sym, ap, subst, ◌∙◌}
+use Rattle.act_causes.proofs.Common.{arith, find, map, filter, slice_get, nat_le, AllPairs, AllByRecursion, eqb-true, eq-eqb, ne_eqb, leb-true, leb-false}
+use Rattle.act_causes.proofs.Common.{map-append, filter-append, All-from_recursion, recursion_from_All, All-head, All-tail, AllPairs-cons, slice_get-get_or}
+use Rattle.act_causes.proofs.Common.{under, Thread, deeds_in, deeds_of, AreApart, NeverFall, IsMergeOf}
+use Rattle.std.proofs.Common.{append-nil}
+use Rattle.std.specs.List.{Contains}
 
 -- a deed with the number of its thread
 abbrev Deed : Type 0 → Type 0

@@ -1,33 +1,12 @@
 -- The world before any deed.
-use Rattle.std.proofs.Common.{◌≡◌, ◌≢◌, ℕ, ◌<◌, ◌≤◌, Bool, true, false, cond, List, [], ◌∷◌, length, map, filter, Option, Some, None, All, AllPairs, inl, inr, refl, ap, sym, ◌∙◌, subst, arith}
-use Rattle.std.specs.Prelude.{◌==◌, ◌||◌, find, slice_get, replicate, nat_lt}
-use Rattle.std.specs.List.{list_any, range_with_len}
-use Rattle.std.proofs.lemmas.Bool.{eqb-true}
-use Rattle.std.proofs.lemmas.Bool.Decides.{eqb_tells, leb_tells}
-use Rattle.std.proofs.lemmas.List.Elements.{All-contains}
-use Rattle.std.proofs.lemmas.List.Folds.{list_any-append}
-use Rattle.std.proofs.lemmas.List.FromFn.{get_or-map-range_with_len, length-map-range_with_len}
-use Rattle.std.proofs.lemmas.Option.{slice_get-get_or, slice_get_past}
-use Rattle.std.proofs.lemmas.Simd.{map-map}
-use Rattle.act_types.specs.KindState.{KindState}
-use Rattle.act_types.specs.declared.call.Packet.{Packet}
-use Rattle.act_rules.specs.History.{ActorSpec, opening, contains, cast_of, names}
-use Rattle.act_rules.proofs.Finding.{find-tells}
-use Rattle.act_rules.proofs.Lists.{AllPairs-map}
-use Rattle.act_inbox.specs.Inbox.{InboxView, lane_at_first, IsOpened}
-use Rattle.act_inbox.proofs.Opening.{no_notes, opened, opened_is_inbox}
-use Rattle.act_owner.specs.Owner.{OwnerView, opened_under, opened_with}
-use Rattle.act_actor.specs.declared.cast.Cast.{Cast}
+use Rattle.act_causes.proofs.Common.{◌≡◌, ◌≢◌, ℕ, ◌<◌, ◌≤◌, Bool, true, false, cond, List, [], ◌∷◌, length, map, filter, Option, Some, None, All, AllPairs, inl}
+use Rattle.act_causes.proofs.Common.{inr, refl, ap, sym, ◌∙◌, subst, arith, ◌==◌, ◌||◌, find, slice_get, replicate, nat_lt, list_any, range_with_len, eqb-true}
+use Rattle.act_causes.proofs.Common.{eqb_tells, leb_tells, All-contains, list_any-append, get_or-map-range_with_len, length-map-range_with_len}
+use Rattle.act_causes.proofs.Common.{slice_get-get_or, slice_get_past, map-map, KindState, Packet, ActorSpec, opening, contains, cast_of, names, find-tells}
+use Rattle.act_causes.proofs.Common.{AllPairs-map, InboxView, lane_at_first, IsOpened, no_notes, opened, opened_is_inbox, OwnerView, opened_under, opened_with}
+use Rattle.act_causes.proofs.Common.{Cast, ActorView, cast_at, limits_naming, is_owner, SlotView, Runs, Vacant, WorldView, IsLive, IsStage, IsOwnerAt, Refines}
+use Rattle.act_causes.proofs.Common.{world_lawful, owners_opened, nothing_asked, Deed, IsNamed, owner_by, SpecsFit}
 use Rattle.act_actor.specs.Casts.{actor_spec, actor_limit, callers_named, limits_that_name as limits_of_casts}
-use Rattle.act_actor.specs.View.{ActorView}
-use Rattle.act_plans.specs.Runs.{cast_at, limits_naming}
-use Rattle.act_world.specs.Network.{is_owner}
-use Rattle.act_world.specs.View.{SlotView, Runs, Vacant, WorldView}
-use Rattle.act_world.specs.Refines.{IsLive, IsStage, IsOwnerAt, Refines}
-use Rattle.act_world.proofs.Lawful.{world_lawful}
-use Rattle.act_world.proofs.OpenedOwners.{owners_opened, nothing_asked}
-use Rattle.act_causes.specs.Deeds.{Deed, IsNamed, owner_by}
-use Rattle.act_causes.specs.Plays.{SpecsFit}
 use Rattle.act_causes.proofs.Keeping.{HasInbox, HasLeft, Keeps}
 use Rattle.act_causes.proofs.Marks.{replied_opening, noted_opening}
 

@@ -1,16 +1,7 @@
 -- Where something stands in a list, once it was found there.
-use Rattle.std.proofs.Common.{◌≡◌, ◌≢◌, ℕ, zero, suc, ◌<◌, Bool, true, false, List, [], ◌∷◌, length, Option, Some, None, refl, ap, sym, ◌∙◌, get_or}
-use Rattle.std.specs.Prelude.{◌||◌, find, position, slice_get, slice_set}
-use Rattle.std.proofs.lemmas.Bool.{eqb-true, eq-eqb}
-use Rattle.std.proofs.lemmas.List.Folds.{find-set, find_past}
-use Rattle.std.proofs.lemmas.List.Quantifiers.{position-Some}
-use Rattle.act_rules.specs.declared.history.Letter.{Letter}
-use Rattle.act_rules.specs.History.{is_letter, has_letter}
-use Rattle.act_rules.proofs.Finding.{find-Some, find-None, position_or_len-Some}
-use Rattle.act_rules.proofs.Letters.{letter_is}
-use Rattle.act_owner.specs.Owner.{OwnerView}
-use Rattle.act_world.specs.Network.{is_owner}
-use Rattle.act_world.proofs.Frames.{not_owner}
+use Rattle.act_causes.proofs.Common.{◌≡◌, ◌≢◌, ℕ, zero, suc, ◌<◌, Bool, true, false, List, [], ◌∷◌, length, Option, Some, None, refl, ap, sym, ◌∙◌, get_or}
+use Rattle.act_causes.proofs.Common.{◌||◌, find, position, slice_get, slice_set, eqb-true, eq-eqb, find-set, find_past, position-Some, Letter, is_letter}
+use Rattle.act_causes.proofs.Common.{has_letter, find-Some, find-None, position_or_len-Some, letter_is, OwnerView, is_owner, not_owner}
 
 -- what is found stands at its place
 pub record IsFoundAt {X : Type 0} (p : X → Bool) (xs : List X) (x : X) : Type 0 where

@@ -1,25 +1,12 @@
 -- Each deed is an event that a play takes, and so are all of them.
-use Rattle.std.proofs.Common.{◌≡◌, List, [], ◌∷◌, ◌++◌, None, refl, ap, sym, ◌∙◌, subst}
-use Rattle.std.specs.Prelude.{Option, IsOk}
-use Rattle.std.specs.List.{AllByRecursion, AllZip, cons_option}
-use Rattle.std.proofs.lemmas.List.{append-nil, append_assoc}
-use Rattle.std.proofs.lemmas.List.Elements.{All-from_recursion, filter_map-append}
-use Rattle.act_types.specs.declared.call.Notice.TheVariants.{Answered, Death}
-use Rattle.act_rules.specs.declared.event.Event.{Event}
-use Rattle.act_rules.specs.declared.history.Letter.{Letter}
+use Rattle.act_causes.proofs.Common.{◌≡◌, List, [], ◌∷◌, ◌++◌, None, refl, ap, sym, ◌∙◌, subst, Option, IsOk, AllByRecursion, AllZip, cons_option, append-nil}
+use Rattle.act_causes.proofs.Common.{append_assoc, All-from_recursion, filter_map-append, Answered, Death, Event, Letter, Post, WorldRefusal, ActorSpec}
+use Rattle.act_causes.proofs.Common.{History, opening, history, Outcome, outcome_by, outcome_of, outcomes, add_event, after_by, Grows, added_grows, All_more}
+use Rattle.act_causes.proofs.Common.{slice_get_front, outcomes-append, Copied, Released, Submitted, Sent, Noticed, Deed, Changed, AskedKill, TookCall, TookNote}
+use Rattle.act_causes.proofs.Common.{Ran, TookKill, ToldDeath, Retired, IsCaused, AreCaused, SpecsFit, IsEventOf}
 use Rattle.act_rules.specs.declared.history.Letter.TheVariants.{Call as CallLetter, Note as NoteLetter}
-use Rattle.act_rules.specs.declared.history.Post.{Post}
 use Rattle.act_rules.specs.declared.history.Post.TheVariants.{Reply as ReplyPost, Death as DeathPost}
-use Rattle.act_rules.specs.declared.outcome.WorldRefusal.{WorldRefusal}
-use Rattle.act_rules.specs.History.{ActorSpec, History, opening}
-use Rattle.act_rules.specs.Laws.{history}
-use Rattle.act_rules.specs.Rules.{Outcome, outcome_by, outcome_of, outcomes, add_event, after_by}
-use Rattle.act_rules.proofs.Growth.{Grows, added_grows}
-use Rattle.act_rules.proofs.Lists.{All_more, slice_get_front}
-use Rattle.act_rules.proofs.Steps.{after_all-append, outcomes-append}
-use Rattle.act_owner.specs.Life.{Copied, Released, Submitted, Sent, Noticed}
-use Rattle.act_causes.specs.Deeds.{Deed, Changed, AskedKill, TookCall, TookNote, Ran, TookKill, ToldDeath, Retired, IsCaused, AreCaused}
-use Rattle.act_causes.specs.Plays.{SpecsFit, IsEventOf}
+use Rattle.act_rules.proofs.Steps.{after_all-append}
 use Rattle.act_causes.proofs.Changing.{copied, released, submitted, sent, asked}
 use Rattle.act_causes.proofs.Collecting.{heard_death, heard_reply}
 use Rattle.act_causes.proofs.Ending.{took_kill, told_death, retired}

@@ -1,37 +1,14 @@
 -- An actor that runs its caller's next call.
-use Rattle.std.proofs.Common.{◌≡◌, ℕ, Bool, true, false, cond, List, [], ◌∷◌, ◌++◌, length, Option, Some, None, refl, ap, sym, ◌∙◌, subst}
-use Rattle.std.specs.Prelude.{IfSome, slice_get, slice_set, option_map}
-use Rattle.std.proofs.lemmas.Bool.{eq-eqb}
-use Rattle.act_types.specs.declared.call.Packet.{Packet}
-use Rattle.act_types.specs.declared.call.Notice.TheVariants.{Answered}
-use Rattle.act_types.specs.declared.call.Reply.{Reply}
-use Rattle.act_rules.specs.declared.event.Event.TheVariants.{Run}
+use Rattle.act_causes.proofs.Common.{◌≡◌, ℕ, Bool, true, false, cond, List, [], ◌∷◌, ◌++◌, length, Option, Some, None, refl, ap, sym, ◌∙◌, subst, IfSome}
+use Rattle.act_causes.proofs.Common.{slice_get, slice_set, option_map, eq-eqb, Packet, Answered, Reply, Run, RunItem, Submission, Answer, after_item, items_of}
+use Rattle.act_causes.proofs.Common.{has_terminated, calls_to, number_of, ActorSpec, History, cast_of, names, calls_of, kept_of, ran_count, has_letter}
+use Rattle.act_causes.proofs.Common.{run_item, next_item, after_run, calls_to-number, Lane, IsInbox, InboxView, is_lane_of, lane_of, next_of, IsNextTaken}
+use Rattle.act_causes.proofs.Common.{one_more, unlisted_next, listed_next, sound_then, next_taken, ActorView, cast_at, Runs, dead_slot, bury_ended, HasRunNext}
+use Rattle.act_causes.proofs.Common.{IsOwnerOf, still_lives, next_is, item_is, run_follows, Deed, TookCall, Ran, owner_by, IsNextCall}
 use Rattle.act_rules.specs.declared.history.Letter.TheVariants.{Call as CallLetter}
-use Rattle.act_rules.specs.declared.history.RunItem.{RunItem}
-use Rattle.act_rules.specs.declared.history.Submission.{Submission}
 use Rattle.act_rules.specs.declared.outcome.Did.TheVariants.{Ran as DidRun}
-use Rattle.act_rules.specs.RunList.{Answer, after_item, items_of, has_terminated}
-use Rattle.act_rules.specs.Submissions.{calls_to, number_of}
-use Rattle.act_rules.specs.History.{ActorSpec, History, cast_of, names, calls_of, kept_of, ran_count, has_letter, run_item, next_item}
-use Rattle.act_rules.specs.Rules.{after_run}
-use Rattle.act_rules.proofs.Letters.{calls_to-number}
-use Rattle.act_inbox.specs.declared.inbox.Lane.{Lane}
-use Rattle.act_inbox.specs.View.{IsInbox}
-use Rattle.act_inbox.specs.Inbox.{InboxView, is_lane_of, lane_of, next_of, IsNextTaken}
-use Rattle.act_inbox.proofs.Lanes.{one_more}
-use Rattle.act_inbox.proofs.Packets.{unlisted_next, listed_next}
-use Rattle.act_inbox.proofs.Taking.{sound_then, next_taken}
 use Rattle.act_owner.specs.Owner.{OwnerView, packet_for as packet_made, packet_at}
-use Rattle.act_actor.specs.View.{ActorView}
 use Rattle.act_actor.specs.Actor.{item_of as item_made, packet_of_item, reply_of_run, next_call, HasRunCall}
-use Rattle.act_plans.specs.Runs.{cast_at}
-use Rattle.act_world.specs.View.{Runs}
-use Rattle.act_world.specs.Slots.{dead_slot, bury_ended, HasRunNext}
-use Rattle.act_world.specs.Refines.{IsOwnerOf}
-use Rattle.act_world.proofs.Frames.{still_lives}
-use Rattle.act_world.proofs.NextCall.{next_is, item_is}
-use Rattle.act_world.proofs.Running.{run_follows}
-use Rattle.act_causes.specs.Deeds.{Deed, TookCall, Ran, owner_by, IsNextCall}
 use Rattle.act_causes.proofs.Keeping.{Keeps, GoesOn, HasInbox, go_on, named_is, cast_is, owner_of}
 use Rattle.act_causes.proofs.Made.{AreActorsOf, owner_same, actors_ran}
 use Rattle.act_causes.proofs.Places.{found_at}

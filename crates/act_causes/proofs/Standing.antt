@@ -1,22 +1,8 @@
 -- Where an actor stands in the world of the deeds.
-use Rattle.std.proofs.Common.{◌≡◌, ℕ, Bool, true, false, List, Option, Some, None, inl, inr, refl, ap, sym, ◌∙◌, subst}
-use Rattle.std.specs.Prelude.{◌||◌, find, slice_get, slice_set, is_some}
-use Rattle.std.proofs.lemmas.Bool.Decides.{eqb_tells}
-use Rattle.act_rules.specs.declared.outcome.HandleRefusal.TheVariants.{NoActor}
-use Rattle.act_rules.specs.declared.outcome.WorldRefusal.TheVariants.{Handle}
-use Rattle.act_rules.specs.History.{ActorSpec, History, cast_of, names, is_caller, is_dead, is_retired, is_ended}
-use Rattle.act_handles.specs.Handles.{copies_in}
-use Rattle.act_owner.specs.Owner.{OwnerView}
-use Rattle.act_actor.specs.View.{ActorView}
-use Rattle.act_plans.specs.Runs.{cast_at}
-use Rattle.act_world.specs.Network.{is_owner, naming_refusal}
-use Rattle.act_world.specs.View.{SlotView, Runs, Died, Ended, Vacant}
-use Rattle.act_world.specs.Refines.{IsLive, IsStage}
-use Rattle.act_world.proofs.Lawful.{named_caller}
-use Rattle.act_world.proofs.Lists.{get_set-same, get_set-other}
-use Rattle.act_world.proofs.OneCaller.{needs_holds}
-use Rattle.act_world.proofs.Seeing.{is_named}
-use Rattle.act_causes.specs.Deeds.{Deed, IsNamed, owner_by, is_ended_by}
+use Rattle.act_causes.proofs.Common.{◌≡◌, ℕ, Bool, true, false, List, Option, Some, None, inl, inr, refl, ap, sym, ◌∙◌, subst, ◌||◌, find, slice_get, slice_set}
+use Rattle.act_causes.proofs.Common.{is_some, eqb_tells, NoActor, Handle, ActorSpec, History, cast_of, names, is_caller, is_dead, is_retired, is_ended}
+use Rattle.act_causes.proofs.Common.{copies_in, OwnerView, ActorView, cast_at, is_owner, naming_refusal, SlotView, Runs, Died, Ended, Vacant, IsLive, IsStage}
+use Rattle.act_causes.proofs.Common.{named_caller, get_set-same, get_set-other, needs_holds, is_named, Deed, IsNamed, owner_by, is_ended_by}
 use Rattle.act_causes.proofs.Made.{ended_is}
 use Rattle.act_causes.proofs.Keeping.{HasInbox, Keeps, cast_is, owner_of}
 

@@ -1,38 +1,13 @@
 -- An actor that takes a letter.
-use Rattle.std.proofs.Common.{Contains, ◌≡◌, ℕ, true, List, [], ◌∷◌, ◌++◌, length, Option, Some, None, Ok, refl, ap, sym, ◌∙◌, subst}
-use Rattle.std.specs.Prelude.{slice_get, slice_set, option_map, option_and_then, is_some}
-use Rattle.act_types.specs.declared.call.Packet.{Packet}
-use Rattle.act_types.specs.declared.call.ReleaseNote.{ReleaseNote}
-use Rattle.act_rules.specs.declared.event.Event.TheVariants.{Deliver}
-use Rattle.act_rules.specs.declared.history.Letter.{Letter}
+use Rattle.act_causes.proofs.Common.{Contains, ◌≡◌, ℕ, true, List, [], ◌∷◌, ◌++◌, length, Option, Some, None, Ok, refl, ap, sym, ◌∙◌, subst, slice_get}
+use Rattle.act_causes.proofs.Common.{slice_set, option_map, option_and_then, is_some, Packet, ReleaseNote, Deliver, Letter, Submission, Arrival, Arrived}
+use Rattle.act_causes.proofs.Common.{calls_to, number_of, ActorSpec, History, cast_of, names, calls_of, copies_of, has_letter, add_event, and_also, was_sent}
+use Rattle.act_causes.proofs.Common.{Contains-append_left, IsPrefix, All_at, IsSoundLetter, copies_in, IsInbox, OwnerView, packet_for, packet_at, is_sent}
+use Rattle.act_causes.proofs.Common.{Change, Sent, after_changes, is_known_at, places_all, packet_stays_all, after_all-append, ActorView, MailEntry}
+use Rattle.act_causes.proofs.Common.{entry_actor, SlotView, Runs, HasArrived, IsOwnerOf, call_key, mail_entry, deliver_follows, IsNamedLetter, has_last, Deed}
+use Rattle.act_causes.proofs.Common.{Changed, TookCall, TookNote, change_of, changes_by, owner_after, owner_by, IsSentCall, IsLastNote, IsEventOf}
 use Rattle.act_rules.specs.declared.history.Letter.TheVariants.{Call as CallLetter, Note as NoteLetter}
-use Rattle.act_rules.specs.declared.history.Submission.{Submission}
-use Rattle.act_rules.specs.declared.outcome.Arrival.{Arrival}
-use Rattle.act_rules.specs.declared.outcome.Did.TheVariants.{Arrived}
-use Rattle.act_rules.specs.Submissions.{calls_to, number_of}
-use Rattle.act_rules.specs.History.{ActorSpec, History, cast_of, names, calls_of, copies_of, has_letter}
-use Rattle.act_rules.specs.Rules.{add_event, and_also, was_sent}
-use Rattle.std.proofs.lemmas.List.Elements.{Contains-append_left}
-use Rattle.act_rules.specs.Consistent.{IsPrefix}
-use Rattle.act_rules.proofs.Lists.{All_at}
-use Rattle.act_rules.proofs.Letters.{IsSoundLetter}
-use Rattle.act_handles.specs.Handles.{copies_in}
-use Rattle.act_inbox.specs.View.{IsInbox}
-use Rattle.act_owner.specs.Owner.{OwnerView, packet_for, packet_at, is_sent}
-use Rattle.act_owner.specs.Life.{Change, Sent, after_changes, is_known_at}
-use Rattle.act_owner.proofs.Life.{places_all, packet_stays_all, after_all-append}
-use Rattle.act_actor.specs.View.{ActorView}
-use Rattle.act_world.specs.declared.network.MailEntry.{MailEntry}
 use Rattle.act_world.specs.declared.network.MailEntry.TheVariants.{Call as CallEntry, Note as NoteEntry}
-use Rattle.act_world.specs.Network.{entry_actor}
-use Rattle.act_world.specs.View.{SlotView, Runs}
-use Rattle.act_world.specs.Slots.{HasArrived}
-use Rattle.act_world.specs.Refines.{IsOwnerOf, call_key, mail_entry}
-use Rattle.act_world.proofs.Delivering.{deliver_follows}
-use Rattle.act_world.proofs.Lawful.{IsNamedLetter}
-use Rattle.act_world.proofs.Mail.{has_last}
-use Rattle.act_causes.specs.Deeds.{Deed, Changed, TookCall, TookNote, change_of, changes_by, owner_after, owner_by, IsSentCall, IsLastNote}
-use Rattle.act_causes.specs.Plays.{IsEventOf}
 use Rattle.act_causes.proofs.Inboxes.{takes_call, takes_note}
 use Rattle.act_causes.proofs.Keeping.{Keeps, GoesOn, HasLeft, HasInbox, IsFree, go_on, cast_is, owner_of}
 use Rattle.act_causes.proofs.Made.{owner_same, IsNoEnd, actors_stay}

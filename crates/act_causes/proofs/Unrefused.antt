@@ -1,25 +1,12 @@
 -- What changes leave that nothing refused: a call that was sent has its packet, and a handle that was let go stays so.
-use Rattle.std.proofs.Common.{◌≡◌, ℕ, zero, suc, ◌+◌, Bool, true, false, cond, List, [], ◌∷◌, ◌++◌, length, Option, Some, None, inl, inr, refl, ap, sym, ◌∙◌, subst, arith, Contains}
-use Rattle.std.specs.Prelude.{◌==◌, slice_get, is_some}
-use Rattle.std.specs.List.{cons_option, list_all}
-use Rattle.std.proofs.lemmas.Bool.{eqb-true}
-use Rattle.std.proofs.lemmas.Bool.Decides.{eqb_tells}
-use Rattle.std.proofs.lemmas.List.{append-nil}
-use Rattle.act_types.specs.declared.call.Notice.TheVariants.{Answered, Death}
-use Rattle.act_types.specs.declared.call.Reply.{Reply}
-use Rattle.act_rules.specs.declared.history.Submission.{Submission}
-use Rattle.act_rules.specs.declared.outcome.SendRefusal.TheVariants.{NotReady}
-use Rattle.act_rules.specs.Submissions.{calls_to, kept_at, is_known, copy_refusal, handle_refusal, submit_refusal, limit_refusal, send_refusal}
-use Rattle.act_rules.proofs.Ended.{needs-none}
-use Rattle.act_rules.proofs.Lists.{option_or-none}
-use Rattle.act_rules.proofs.Retired.{calls_to-push}
-use Rattle.act_handles.specs.Handles.{copies_in}
-use Rattle.act_handles.proofs.Lookups.{copies-with_copy-other, copies-without_copy-other, copies-with_number}
-use Rattle.act_owner.specs.declared.owner.Collected.TheVariants.{First, Late, Stray}
-use Rattle.act_owner.specs.Owner.{OwnerView, is_sent, is_of_call, owner_limit, pending, refusal_to_submit, sending_refusal, with_death, after_reply_that}
-use Rattle.act_owner.specs.Life.{Change, Copied, Released, Submitted, Sent, Noticed, after_change, after_changes, is_known_at}
-use Rattle.act_owner.proofs.Life.{step, packet_stays_all}
-use Rattle.act_causes.specs.Deeds.{Deed, Changed, AskedKill, TookCall, TookNote, Ran, TookKill, ToldDeath, Retired, change_of, changes_by}
+use Rattle.act_causes.proofs.Common.{◌≡◌, ℕ, zero, suc, ◌+◌, Bool, true, false, cond, List, [], ◌∷◌, ◌++◌, length, Option, Some, None, inl, inr, refl, ap, sym}
+use Rattle.act_causes.proofs.Common.{◌∙◌, subst, arith, Contains, ◌==◌, slice_get, is_some, cons_option, list_all, eqb-true, eqb_tells, append-nil, Answered}
+use Rattle.act_causes.proofs.Common.{Death, Reply, Submission, NotReady, calls_to, kept_at, is_known, copy_refusal, handle_refusal, submit_refusal}
+use Rattle.act_causes.proofs.Common.{limit_refusal, send_refusal, needs-none, option_or-none, calls_to-push, copies_in, copies-with_copy-other}
+use Rattle.act_causes.proofs.Common.{copies-without_copy-other, copies-with_number, First, Late, Stray, OwnerView, is_sent, is_of_call, owner_limit, pending}
+use Rattle.act_causes.proofs.Common.{refusal_to_submit, sending_refusal, with_death, after_reply_that, Change, Copied, Released, Submitted, Sent, Noticed}
+use Rattle.act_causes.proofs.Common.{after_change, after_changes, is_known_at, step, packet_stays_all, Deed, Changed, AskedKill, TookCall, TookNote, Ran}
+use Rattle.act_causes.proofs.Common.{TookKill, ToldDeath, Retired, change_of, changes_by}
 
 -- nothing refuses the change
 abbrev pub IsUnrefused : OwnerView → Change → Type 0

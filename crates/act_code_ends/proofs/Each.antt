@@ -1,8 +1,6 @@
 -- What a loop knows that asks the same of each item of a list.
-use Rattle.std.proofs.Common.{◌≡◌, ◌↔◌, ℕ, ◌+◌, ◌<◌, ◌≤◌, Bool, true, false, List, [], ◌++◌, length, take, Option, Some, None, option_to_list, get_or, refl, sym, ◌∙◌, subst, true≢false}
-use Rattle.std.specs.Prelude.{All, IsTrue, IfSome}
-use Rattle.std.proofs.lemmas.List.{take_all}
-use Rattle.std.proofs.lemmas.List.Elements.{All-append, All-cons, All-nil, All-more, All-get_or}
+use Rattle.act_code_ends.proofs.Common.{◌≡◌, ◌↔◌, ℕ, ◌+◌, ◌<◌, ◌≤◌, Bool, true, false, List, [], ◌++◌, length, take, Option, Some, None, option_to_list, get_or}
+use Rattle.act_code_ends.proofs.Common.{refl, sym, ◌∙◌, subst, true≢false, All, IsTrue, IfSome, take_all, All-append, All-cons, All-nil, All-more, All-get_or}
 
 module _ {X : Type 0} (P : X → Type 0) (xs : List X) where
   -- it holds of one item more

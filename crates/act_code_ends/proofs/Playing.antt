@@ -1,23 +1,9 @@
 -- What a world that played events says of their history, beside what codes left.
-use Rattle.std.proofs.Common.{◌≡◌, ◌↔◌, ℕ, zero, suc, ◌<◌, Bool, true, false, if◌then◌else◌, refl, map, filter, List, [], ◌∷◌, ◌++◌, length, Option, Some, ap, sym, ◌∙◌, subst, arith}
-use Rattle.std.specs.Prelude.{All, IsOk, IsTrue, is_some}
-use Rattle.std.specs.List.{list_all}
-use Rattle.act_rules.specs.declared.event.Event.{Event}
-use Rattle.std.proofs.lemmas.Simd.{map-map}
-use Rattle.act_types.specs.KindState.{KindState}
-use Rattle.act_actor.specs.declared.cast.Cast.{Cast}
-use Rattle.act_actor.specs.Casts.{actor_spec, limits_that_name}
-use Rattle.act_rules.specs.History.{ActorSpec, History, opening, contains, calls_of, kept_of}
-use Rattle.act_rules.specs.Rules.{Outcome, outcomes}
-use Rattle.act_rules.specs.Submissions.{kept_at}
-use Rattle.act_rules.specs.RunList.{Answer}
-use Rattle.act_owner.specs.Owner.{OwnerView, opened_with}
-use Rattle.act_world.specs.View.{WorldView}
-use Rattle.act_world.specs.Refines.{IsOwnerAt}
-use Rattle.act_world.specs.IsReachedBy.{IsReachedBy, HasPlayed}
-use Rattle.act_drive.specs.Sessions.{SessionView}
-use Rattle.act_code_ends.specs.Rehearsals.{AreSame, HasEnded}
-use Rattle.act_code_ends.specs.Ends.{IsThrough, opened_of}
+use Rattle.act_code_ends.proofs.Common.{◌≡◌, ◌↔◌, ℕ, zero, suc, ◌<◌, Bool, true, false, if◌then◌else◌, refl, map, filter, List, [], ◌∷◌, ◌++◌, length, Option}
+use Rattle.act_code_ends.proofs.Common.{Some, ap, sym, ◌∙◌, subst, arith, All, IsOk, IsTrue, is_some, list_all, Event, map-map, KindState, Cast, actor_spec}
+use Rattle.act_code_ends.proofs.Common.{limits_that_name, ActorSpec, History, opening, contains, calls_of, kept_of, Outcome, outcomes, kept_at, Answer}
+use Rattle.act_code_ends.proofs.Common.{OwnerView, opened_with, WorldView, IsOwnerAt, IsReachedBy, HasPlayed, SessionView, AreSame, HasEnded, IsThrough}
+use Rattle.act_code_ends.proofs.Common.{opened_of}
 
 -- what a world told of the events is what the rules tell
 pub told_in : (casts : List ActorSpec) (events : List Event) (old new : WorldView) (empty told : List Outcome) (r : Bool) → empty ≡ [] → HasPlayed events old new empty told → (IsTrue r ↔ All IsOk told) → IsReachedBy casts [] old → IsTrue r ↔ All IsOk (outcomes (opening casts) events)

@@ -1,20 +1,7 @@
 -- What stays while notices are taken.
-use Rattle.std.proofs.Common.{◌≡◌, ℕ, List, length, is_some, refl, ◌∙◌, ap, subst}
-use Rattle.act_rules.specs.Submissions.{kept_at}
-use Rattle.act_rules.specs.declared.script.Step.{Step}
-use Rattle.act_types.specs.declared.call.Arg.{Arg}
-use Rattle.act_types.specs.declared.call.Method.{Method}
-use Rattle.act_types.specs.declared.call.Notice.{Notice}
-use Rattle.act_handles.specs.Handles.{copies_in}
-use Rattle.act_handles.proofs.Lookups.{copies-with_number}
-use Rattle.act_owner.specs.Owner.{OwnerView, after_collect, with_submission}
-use Rattle.act_owner.specs.Life.{Noticed, Submitted}
-use Rattle.act_owner.proofs.Life.{step}
-use Rattle.act_drive.specs.Driven.{KeptOn}
-use Rattle.act_drive.specs.Sessions.{SessionView, session_view, IsLater, Submits}
-use Rattle.act_drive.proofs.CodeSteps.{hears_trans, later_trans}
-use Rattle.act_drive.proofs.Drivers.{notice_keeps}
-use Rattle.act_code_ends.specs.Rehearsals.{OnlyTakes}
+use Rattle.act_code_ends.proofs.Common.{◌≡◌, ℕ, List, length, is_some, refl, ◌∙◌, ap, subst, kept_at, Step, Arg, Method, Notice, copies_in, copies-with_number}
+use Rattle.act_code_ends.proofs.Common.{OwnerView, after_collect, with_submission, Noticed, Submitted, step, KeptOn, SessionView, session_view, IsLater}
+use Rattle.act_code_ends.proofs.Common.{Submits, hears_trans, later_trans, notice_keeps, OnlyTakes}
 
 -- what is seen of a caller, by the kills that it asked and the steps that it did
 abbrev pub seen_of : OwnerView → List ℕ → List Step → SessionView

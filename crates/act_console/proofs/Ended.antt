@@ -1,30 +1,14 @@
 -- A play that ends as the threads did shows their summary.
-use Rattle.std.proofs.Common.{◌≡◌, ℕ, zero, suc, ◌+◌, ◌<◌, ◌≤◌, ◌==◌, Bool, true, false, cond, List, [], ◌∷◌, ◌++◌, length, map, Option, Some, None, refl, ap, sym, ◌∙◌, subst, arith}
-use Rattle.std.specs.Prelude.{◌||◌, filter, find, flat_map, is_some, codes, All}
+use Rattle.act_console.proofs.Common.{◌≡◌, ℕ, zero, suc, ◌+◌, ◌<◌, ◌≤◌, ◌==◌, Bool, true, false, cond, List, [], ◌∷◌, ◌++◌, length, Option, Some, None, refl}
+use Rattle.act_console.proofs.Common.{ap, sym, ◌∙◌, subst, arith, ◌||◌, find, is_some, list_any, eqb-true, flat_map-append, space, actor_text, Event}
+use Rattle.act_console.proofs.Common.{Submission, Step, Answer, state_after, kept_at, ActorSpec, opening, contains, cast_of, is_caller, calls_of, kept_of}
+use Rattle.act_console.proofs.Common.{runs_of, is_retired, history, one_to, numbered_lines, line, future_text, kept_text, future_line, future_lines}
+use Rattle.act_console.proofs.Common.{actor_lines, stage_of, summary, list_any-map, OwnerView, EndView, Killed, Retired, Starved, end_id, IfRetired, owner_of}
+use Rattle.act_console.proofs.Common.{end_of, calls_of_owner, kept_of_owner, log_of_end, calls_in, kept_in, log_in, RanAll, IsJoined, casts_stay, all_in}
+use Rattle.act_console.proofs.Common.{found_is, world_lawful, calls_are, IsOwnerIn, IsEndIn, IsPlayOf, end_text, end_text_in}
+use Rattle.std.proofs.Common.{flat_map}
 use Rattle.std.specs.Option.{option_map}
-use Rattle.std.specs.List.{list_any}
-use Rattle.std.proofs.lemmas.Bool.{eqb-true}
-use Rattle.std.proofs.lemmas.Grind.{flat_map-append}
-use Rattle.act_types.specs.Texts.{space, actor_text}
-use Rattle.act_rules.specs.declared.event.Event.{Event}
-use Rattle.act_rules.specs.declared.history.Submission.{Submission}
-use Rattle.act_rules.specs.declared.script.Step.{Step}
-use Rattle.act_rules.specs.RunList.{Answer, state_after}
-use Rattle.act_rules.specs.Submissions.{kept_at}
-use Rattle.act_rules.specs.History.{ActorSpec, History, opening, contains, cast_of, is_caller, calls_of, kept_of, runs_of, is_dead, is_retired}
-use Rattle.act_rules.specs.Laws.{history}
-use Rattle.act_rules.specs.Report.{one_to, numbered_lines, line, future_text, kept_text, future_line, future_lines, actor_lines, stage_of, summary}
-use Rattle.act_rules.proofs.Lists.{list_any-map}
-use Rattle.act_owner.specs.Owner.{OwnerView}
-use Rattle.act_serve.specs.Served.{EndView, Killed, Retired, Starved, end_id, end_log, IfRetired}
-use Rattle.act_plans.specs.Runs.{callers_of_casts, actors_of_casts, cast_at}
-use Rattle.act_executor.specs.Joined.{owner_of, end_of, calls_of_owner, kept_of_owner, log_of_end, calls_in, kept_in, log_in, RanAll, IsJoined}
-use Rattle.act_executor.proofs.AsPlay.{casts_stay}
-use Rattle.act_executor.proofs.Elements.{all_in, found_is}
-use Rattle.act_world.proofs.Lawful.{world_lawful}
-use Rattle.act_world.proofs.Headline.{calls_are}
-use Rattle.act_executor.specs.Plays.{IsOwnerIn, IsEndIn, IsPlayOf}
-use Rattle.act_console.specs.Threads.{end_text, end_text_in, joined_summary}
+use Rattle.act_console.specs.Threads.{joined_summary}
 use Rattle.act_console.proofs.Shown.{uncast, stage_at}
 use Rattle.act_console.proofs.Sorting.{among_numbers}
 

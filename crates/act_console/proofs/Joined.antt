@@ -1,16 +1,8 @@
 -- What a joined run shows, as a summary tells it.
-use Rattle.std.proofs.Common.{◌≡◌, ℕ, ◌==◌, List, [], ◌++◌, map, get_or, Option, Some, None, option_map, ap, sym, ◌∙◌, append_assoc}
-use Rattle.std.specs.Prelude.{position}
-use Rattle.std.specs.List.{flat_map}
-use Rattle.act_rules.specs.Report.{one_to, numbered_lines, future_line, actor_lines}
-use Rattle.act_rules.proofs.Lists.{find-map}
-use Rattle.act_rules.proofs.Finding.{find-None}
-use Rattle.act_owner.specs.Owner.{OwnerView}
-use Rattle.act_serve.specs.Served.{EndView, end_id, end_log}
-use Rattle.act_executor.specs.Joined.{owner_of, end_of, calls_of_owner, kept_of_owner, log_of_end}
-use Rattle.act_plans.proofs.Taking.{find_some}
-use Rattle.act_console.specs.Parts.{owner_lines}
-use Rattle.act_console.specs.Threads.{end_text, owner_lines_in, end_lines_in, joined_summary}
+use Rattle.act_console.proofs.Common.{◌≡◌, ℕ, ◌==◌, List, [], ◌++◌, map, get_or, Option, Some, None, option_map, ap, sym, ◌∙◌, append_assoc, position, flat_map}
+use Rattle.act_console.proofs.Common.{one_to, numbered_lines, future_line, actor_lines, find-map, find-None, OwnerView, EndView, end_id, end_log, owner_of}
+use Rattle.act_console.proofs.Common.{end_of, calls_of_owner, kept_of_owner, log_of_end, find_some, owner_lines, end_text}
+use Rattle.act_console.specs.Threads.{owner_lines_in, end_lines_in, joined_summary}
 use Rattle.act_console.proofs.Shown.{found_named}
 
 -- ---- one caller, one actor

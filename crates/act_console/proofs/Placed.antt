@@ -1,11 +1,6 @@
 -- Writing the members of a list one after the other, as a loop does.
-use Rattle.std.proofs.Common.{◌≡◌, ℕ, Option, [], ◌∷◌, ◌+◌, ◌<◌, ◌≤◌, List, ◌++◌, length, drop, get_or, sym, ap, ◌∙◌, append_assoc, add-one, drop-cons, arith}
-use Rattle.std.specs.Prelude.{slice_get}
-use Rattle.std.specs.Option.{option_map_or}
-use Rattle.std.proofs.lemmas.List.{append-nil}
-use Rattle.std.proofs.lemmas.Option.{slice_get-get_or}
-use Rattle.std.proofs.Math.ListN.{drop_of_length-le}
-use Rattle.act_rules.specs.Report.{numbered_lines}
+use Rattle.act_console.proofs.Common.{◌≡◌, ℕ, Option, [], ◌∷◌, ◌+◌, ◌<◌, ◌≤◌, List, ◌++◌, length, drop, get_or, sym, ap, ◌∙◌, append_assoc, add-one, drop-cons}
+use Rattle.act_console.proofs.Common.{arith, slice_get, option_map_or, append-nil, slice_get-get_or, drop_of_length-le, numbered_lines}
 
 turn : {X : Type 0} (line : ℕ → X → List ℕ) (xs : List X) (i : ℕ) (d : X) → i < length xs → numbered_lines line i (drop i xs) ≡ line i (get_or xs i d) ++ numbered_lines line (i + 1) (drop (i + 1) xs)
 turn line xs i d lt = ap (numbered_lines line i) (drop-cons xs i d lt) ∙ ap (λ (j : ℕ). line i (get_or xs i d) ++ numbered_lines line (i + 1) (drop j xs)) (sym (add-one i))

@@ -1,21 +1,10 @@
 -- The plans of a script, and the line of its first step that is refused.
-use Rattle.std.proofs.Common.{◌≡◌, ℕ, suc, ◌+◌, ◌<◌, ◌==◌, Bool, true, false, not, ◌||◌, if◌then◌else◌, List, [], ◌∷◌, ◌++◌, length, map, Option, Some, None, refl, sym, ◌∙◌, ap, arith, eq-eqb, inl, inr}
-use Rattle.std.specs.Prelude.{filter, filter_map, find, slice_get, option_map, option_and_then}
-use Rattle.std.specs.List.{list_any, AllByRecursion}
-use Rattle.std.proofs.lemmas.Bool.Decides.{eqb_tells}
-use Rattle.std.proofs.lemmas.List.{length-map}
-use Rattle.std.proofs.lemmas.List.Elements.{filter_agree}
-use Rattle.std.proofs.Math.Bool.{or-true}
-use Rattle.act_rules.proofs.Lists.{filter_map-same, element}
-use Rattle.act_rules.specs.declared.script.Step.{Step}
-use Rattle.act_rules.specs.declared.script.Role.{Role}
-use Rattle.act_rules.specs.History.{ActorSpec, contains, actors_naming}
-use Rattle.act_rules.specs.Grammar.{Script}
-use Rattle.act_rules.specs.Plans.{Progress, nothing_done, is_refused, do_step, first_bad, first_bad_from}
-use Rattle.act_rules.specs.Report.{one_to}
-use Rattle.act_rules.specs.Scripts.{actor_spec_of, callers_of_roles, actors_of_roles, plan_in_script, bad_line, bad_lines}
+use Rattle.act_console.proofs.Common.{◌≡◌, ℕ, suc, ◌+◌, ◌<◌, ◌==◌, Bool, true, false, not, ◌||◌, if◌then◌else◌, List, [], ◌∷◌, ◌++◌, length, map, Option, Some}
+use Rattle.act_console.proofs.Common.{None, refl, sym, ◌∙◌, ap, arith, eq-eqb, inl, inr, filter, filter_map, find, slice_get, option_map, option_and_then}
+use Rattle.act_console.proofs.Common.{list_any, AllByRecursion, eqb_tells, length-map, filter_agree, or-true, filter_map-same, element, Step, Role, ActorSpec}
+use Rattle.act_console.proofs.Common.{contains, actors_naming, Script, Progress, nothing_done, is_refused, do_step, first_bad, first_bad_from, one_to}
+use Rattle.act_console.proofs.Common.{actor_spec_of, callers_of_roles, actors_of_roles, plan_in_script, bad_line, bad_lines, plans_in}
 use Rattle.act_plans.specs.Runs.{callers_of_casts as callers_cast, plan_of as plan_among, bad_step_of, first_bad_plan, steps_of_plan}
-use Rattle.act_console.specs.Threads.{plans_in}
 
 -- ---- the first refused step stands in its plan
 

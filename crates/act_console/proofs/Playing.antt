@@ -1,15 +1,7 @@
 -- Events that are played one after the other, each told as it happens.
-use Rattle.std.proofs.Common.{◌≡◌, ℕ, ◌+◌, List, [], ◌∷◌, ◌++◌, length, refl, ap, sym, ◌∙◌, subst, append_assoc, arith, length-append}
-use Rattle.std.proofs.lemmas.List.{append-nil}
-use Rattle.act_rules.specs.declared.event.Event.{Event}
-use Rattle.act_rules.specs.History.{ActorSpec, History, opening}
-use Rattle.act_rules.specs.Laws.{history}
-use Rattle.act_rules.specs.Report.{numbered_lines, outcome_line, outcome_lines}
-use Rattle.act_rules.specs.Rules.{Outcome, after_all, outcome_of, outcomes}
-use Rattle.act_rules.proofs.Steps.{after_all-append, outcomes-append}
-use Rattle.act_world.specs.View.{WorldView}
-use Rattle.act_world.specs.IsReachedBy.{IsReachedBy, HasRoom, IsGrown, HasPlayed}
-use Rattle.act_console.specs.Parts.{AreTold}
+use Rattle.act_console.proofs.Common.{◌≡◌, ℕ, ◌+◌, List, [], ◌∷◌, ◌++◌, length, refl, ap, sym, ◌∙◌, subst, append_assoc, arith, length-append, append-nil}
+use Rattle.act_console.proofs.Common.{Event, ActorSpec, History, opening, history, numbered_lines, outcome_line, outcome_lines, Outcome, after_all, outcome_of}
+use Rattle.act_console.proofs.Common.{outcomes, after_all-append, outcomes-append, WorldView, IsReachedBy, HasRoom, IsGrown, HasPlayed, AreTold}
 
 -- the lines of one member more
 placed-push : {X : Type 0} (line : ℕ → X → List ℕ) (n : ℕ) (xs : List X) (x : X) → numbered_lines line n (xs ++ x ∷ []) ≡ numbered_lines line n xs ++ line (n + length xs) x

@@ -1,15 +1,6 @@
 -- The casts of roles that fit can be opened.
-use Rattle.std.proofs.Common.{◌≡◌, ◌≢◌, ◌<◌, List, length, map, get_or, sym, subst, arith}
-use Rattle.std.proofs.lemmas.List.{get_or-map, length-map}
-use Rattle.act_types.specs.KindState.{KindState}
-use Rattle.act_rules.specs.declared.script.Role.{Role}
-use Rattle.act_rules.specs.History.{ActorSpec}
-use Rattle.act_rules.specs.Submissions.{IsLimit}
-use Rattle.act_rules.specs.Scripts.{actor_spec_of}
-use Rattle.act_actor.specs.declared.cast.Cast.{Cast}
-use Rattle.act_actor.specs.Cast.{CallersDiffer, IsFitting}
-use Rattle.act_actor.specs.Casts.{actor_spec}
-use Rattle.act_scripts.specs.Roles.{AreFitting}
+use Rattle.act_console.proofs.Common.{◌≡◌, ◌≢◌, ◌<◌, List, length, map, get_or, sym, subst, arith, get_or-map, length-map, KindState, Role, ActorSpec, IsLimit}
+use Rattle.act_console.proofs.Common.{actor_spec_of, Cast, CallersDiffer, IsFitting, actor_spec, AreFitting}
 
 pub casts_fit : {K : Type 0} (state : K → KindState) (casts : List (Cast K)) (roles : List Role) → map (actor_spec state) casts ≡ map actor_spec_of roles → AreFitting (map actor_spec_of roles) → IsFitting casts
 casts_fit state casts roles same fit =

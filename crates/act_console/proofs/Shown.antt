@@ -1,29 +1,12 @@
 -- What a world shows, as a report tells it.
-use Rattle.std.proofs.Common.{◌≡◌, ℕ, true, false, Bool, List, [], ◌∷◌, ◌++◌, Option, Some, None, option_map, refl, ap, sym, ◌∙◌, subst, suc, ◌+◌, append_assoc, add-one}
-use Rattle.std.specs.Prelude.{find, slice_get, if◌then◌else◌}
-use Rattle.std.proofs.lemmas.Bool.{eqb-true, or_parts}
-use Rattle.std.proofs.lemmas.Grind.{flat_map-append}
-use Rattle.std.proofs.lemmas.List.{append-nil}
-use Rattle.std.specs.Option.{option_map_or}
-use Rattle.std.specs.List.{flat_map}
-use Rattle.act_types.specs.KindState.{KindState}
-use Rattle.act_rules.specs.declared.event.Event.{Event}
-use Rattle.act_rules.specs.declared.history.RunItem.{RunItem}
-use Rattle.act_rules.specs.declared.history.Submission.{Submission}
-use Rattle.act_rules.specs.RunList.{Answer, state_after}
-use Rattle.act_rules.specs.History.{ActorSpec, History, opening, calls_of, kept_of, runs_of, cast_of, is_dead, is_retired}
-use Rattle.act_rules.specs.Laws.{history}
-use Rattle.act_rules.specs.Report.{one_to, outcome_lines, numbered_lines, future_line, stage_of, stage_text, summary, summary_of, actor_lines, report}
-use Rattle.act_rules.specs.Rules.{Outcome, outcomes}
-use Rattle.act_owner.specs.Owner.{OwnerView}
-use Rattle.act_world.specs.Network.{is_owner}
-use Rattle.act_world.specs.View.{SlotView, Runs, Died, Ended, Vacant, WorldView, stage_of_slot, stage_in}
-use Rattle.act_world.specs.Refines.{IsStage}
-use Rattle.act_world.specs.IsReachedBy.{IsReachedBy, HasPlayed}
-use Rattle.act_world.specs.Headline.{world_kept, slot_log, world_log}
-use Rattle.act_world.proofs.Lawful.{world_lawful}
-use Rattle.act_world.proofs.Headline.{calls_are, kept_are, logs_are}
-use Rattle.act_console.specs.Parts.{owner_lines, standing_text, standing_in, caller_lines, stage_lines, world_summary, world_report}
+use Rattle.act_console.proofs.Common.{◌≡◌, ℕ, true, false, Bool, List, [], ◌∷◌, ◌++◌, Option, Some, None, option_map, refl, ap, sym, ◌∙◌, subst, suc, ◌+◌}
+use Rattle.act_console.proofs.Common.{append_assoc, add-one, find, slice_get, if◌then◌else◌, eqb-true, or_parts, flat_map-append, append-nil, option_map_or}
+use Rattle.act_console.proofs.Common.{flat_map, KindState, Event, RunItem, Submission, Answer, state_after, ActorSpec, History, opening, calls_of, kept_of}
+use Rattle.act_console.proofs.Common.{runs_of, cast_of, is_dead, is_retired, history, one_to, outcome_lines, numbered_lines, future_line, stage_of, stage_text}
+use Rattle.act_console.proofs.Common.{summary, summary_of, actor_lines, report, Outcome, outcomes, OwnerView, is_owner, SlotView, Runs, Died, Ended, Vacant}
+use Rattle.act_console.proofs.Common.{WorldView, stage_of_slot, stage_in, IsStage, IsReachedBy, HasPlayed, world_kept, slot_log, world_log, world_lawful}
+use Rattle.act_console.proofs.Common.{calls_are, kept_are, logs_are, owner_lines, standing_text, standing_in, world_report}
+use Rattle.act_console.specs.Parts.{caller_lines, stage_lines, world_summary}
 
 -- ---- one caller, one actor
 

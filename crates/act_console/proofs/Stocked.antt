@@ -1,15 +1,7 @@
 -- Casts that are made of roles, one after the other, with kinds of a stock.
-use Rattle.std.proofs.Common.{◌≡◌, ℕ, ◌+◌, ◌≤◌, List, [], ◌∷◌, ◌++◌, length, map, Option, Some, IfSome, ap, sym, ◌∙◌, subst, append_assoc, add-one, arith}
-use Rattle.std.proofs.lemmas.List.{append-nil, map-append}
-use Rattle.act_types.specs.KindState.{KindState}
-use Rattle.act_rules.specs.declared.script.KindName.{KindName}
-use Rattle.act_rules.specs.declared.script.Role.{Role}
-use Rattle.act_rules.specs.History.{ActorSpec}
-use Rattle.act_rules.specs.Scripts.{actor_spec_of}
-use Rattle.act_actor.specs.declared.cast.Cast.{Cast}
-use Rattle.act_actor.specs.Casts.{actor_spec}
-use Rattle.act_console.specs.declared.console.Stock.{Stock}
-use Rattle.act_console.specs.Stock.{HasOf, HasEach}
+use Rattle.act_console.proofs.Common.{◌≡◌, ℕ, ◌+◌, ◌≤◌, List, [], ◌∷◌, ◌++◌, length, map, Option, Some, IfSome, ap, sym, ◌∙◌, subst, append_assoc, add-one}
+use Rattle.act_console.proofs.Common.{arith, append-nil, map-append, KindState, KindName, Role, ActorSpec, actor_spec_of, Cast, actor_spec, Stock, HasOf}
+use Rattle.act_console.proofs.Common.{HasEach}
 
 fewer_of : {K : Type 0} (state : K → KindState) (name : KindName) (most count : ℕ) (kinds : List K) → count ≤ most → HasOf state name most kinds → HasOf state name count kinds
 fewer_of state name most count kinds fewer has = let enough = has.enough in record { enough = omega arith; opened = has.opened }

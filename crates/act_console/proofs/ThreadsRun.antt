@@ -1,43 +1,17 @@
 -- A script's roles and plans as a run takes them, and what the run tells of the script.
-use Rattle.std.proofs.Common.{◌≡◌, ◌≢◌, ℕ, ◌<◌, ◌≤◌, ◌==◌, Bool, true, false, not, ◌||◌, if◌then◌else◌, List, [], ◌∷◌, ◌++◌, length, map, get_or, Option, Some, None, Result, Ok, Err, All, AllPairs, refl, sym, ◌∙◌, ap, subst, arith}
-use Rattle.std.specs.Prelude.{filter, slice_get, nat_lt, option_map, IsSome}
-use Rattle.std.specs.Global.{Vec}
-use Rattle.std.specs.List.{list_any}
-use Rattle.std.proofs.lemmas.Bool.Decides.{nat_tests}
-use Rattle.std.proofs.lemmas.List.{length-map, get_or-map}
-use Rattle.std.proofs.lemmas.List.Elements.{All-cons, All-map, filter_passes}
-use Rattle.std.proofs.lemmas.Option.{slice_get-map}
-use Rattle.act_types.specs.KindState.{KindState}
-use Rattle.act_rules.specs.declared.script.Role.{Role}
-use Rattle.act_rules.specs.declared.script.Step.{Step}
-use Rattle.act_rules.specs.declared.script.Wrong.{Wrong}
-use Rattle.act_rules.specs.declared.script.Wrong.TheVariants.{TooMany, BadPlan}
-use Rattle.act_rules.specs.History.{ActorSpec, contains}
-use Rattle.act_rules.specs.Report.{one_to}
-use Rattle.act_rules.specs.declared.script.Mode.TheVariants.{Threads}
+use Rattle.act_console.proofs.Common.{◌≡◌, ◌≢◌, ℕ, ◌<◌, ◌≤◌, ◌==◌, Bool, true, false, not, ◌||◌, if◌then◌else◌, List, [], ◌∷◌, ◌++◌, length, map, get_or}
+use Rattle.act_console.proofs.Common.{Option, Some, None, Result, Ok, Err, All, AllPairs, refl, sym, ◌∙◌, ap, subst, arith, filter, slice_get, nat_lt}
+use Rattle.act_console.proofs.Common.{option_map, IsSome, Vec, list_any, nat_tests, length-map, get_or-map, All-cons, All-map, filter_passes, slice_get-map}
+use Rattle.act_console.proofs.Common.{KindState, Role, Step, Wrong, TooMany, BadPlan, ActorSpec, contains, one_to, Threads, actor_spec_of, callers_of_roles}
+use Rattle.act_console.proofs.Common.{plan_in_script, is_too_many, bad_lines, or_fault, with_good_plans, list_any-map, length-filter_least, Cast, actor_spec}
+use Rattle.act_console.proofs.Common.{OwnerView, EndView, PlansFit, pairs_of_map, first_bad_plan, IsJoined, IsPlayedAsPlanned, RunFault, plan_view, IsFault}
+use Rattle.act_console.proofs.Common.{Items, Steps, AreFitting, Mark, plan_from, script_of, mark_view, step_view, line_in, first_stranger, HasLine, Explains}
+use Rattle.act_console.proofs.Common.{plans_in, joined_summary, IsSummary}
 use Rattle.act_rules.specs.Grammar.{Script as Spelled, spelled}
-use Rattle.act_rules.specs.Scripts.{actor_spec_of, callers_of_roles, plan_in_script, is_too_many, bad_lines, or_fault, with_good_plans}
-use Rattle.act_rules.proofs.Lists.{list_any-map, length-filter_least}
-use Rattle.act_actor.specs.declared.cast.Cast.{Cast}
-use Rattle.act_actor.specs.Casts.{actor_spec}
-use Rattle.act_owner.specs.Owner.{OwnerView}
-use Rattle.act_serve.specs.Served.{EndView}
-use Rattle.act_plans.specs.Setups.{PlansFit}
-use Rattle.act_plans.proofs.Keys.{pairs_of_map}
-use Rattle.act_plans.specs.Runs.{first_bad_plan}
-use Rattle.act_executor.specs.Joined.{IsJoined}
-use Rattle.act_executor.specs.PlanPlays.{IsPlayedAsPlanned}
-use Rattle.act_executor.specs.declared.run.RunFault.{RunFault}
 use Rattle.act_executor.specs.declared.run.RunFault.TheVariants as faults
-use Rattle.act_executor.specs.Runs.{plan_view, IsFault}
-use Rattle.act_scripts.specs.declared.script.Items.{Items}
-use Rattle.act_scripts.specs.declared.script.Items.TheVariants.{Steps}
 use Rattle.act_scripts.specs.declared.script.Script.{Script}
-use Rattle.act_scripts.specs.Roles.{AreFitting}
 use Rattle.act_scripts.specs.Spelled.{events_among, steps_among as items_steps, spelled_script}
-use Rattle.act_console.specs.declared.threads.Mark.{Mark}
-use Rattle.act_console.specs.Plans.{plan_from, script_of, mark_view, step_view, line_in, first_stranger, HasLine, Explains}
-use Rattle.act_console.specs.Threads.{plans_in, joined_summary, spelled_threads, IsSummary}
+use Rattle.act_console.specs.Threads.{spelled_threads}
 use Rattle.act_console.proofs.Ended.{summary_same}
 use Rattle.act_console.proofs.Sorting.{callers_differ}
 use Rattle.act_console.proofs.PlansOf.{bad_plan_line, no_bad_line}

@@ -1,20 +1,8 @@
 -- What a play and a run in threads wrote, by what there was to be written.
-use Rattle.std.proofs.Common.{ℕ, ◌+◌, List, Option, Some, None, Result, Ok, Err, refl, ap, subst, sym, ◌∙◌}
-use Rattle.std.specs.Prelude.{string_bytes}
-use Rattle.std.specs.Io.KnownBytes.{Keeps, Appends}
-use Rattle.act_types.specs.declared.limits.TheConstants.{MAX_SCRIPT_BYTES}
-use Rattle.act_rules.specs.declared.script.Wrong.{Wrong}
-use Rattle.act_rules.specs.declared.script.Mode.TheVariants.{Play}
-use Rattle.act_rules.specs.Grammar.{Script, spelled}
-use Rattle.act_rules.specs.Scripts.{text_of}
-use Rattle.act_console.specs.declared.streams.Output.{Output}
-use Rattle.act_console.specs.declared.streams.Output.TheVariants.{Report, Refusal}
-use Rattle.act_console.specs.declared.fault.ConsoleFault.{ConsoleFault}
+use Rattle.act_console.proofs.Common.{ℕ, ◌+◌, List, Option, Some, None, Result, Ok, Err, refl, ap, subst, sym, ◌∙◌, string_bytes, Keeps, Appends}
+use Rattle.act_console.proofs.Common.{MAX_SCRIPT_BYTES, Wrong, Play, Script, spelled, text_of, Output, Report, Refusal, ConsoleFault, IsWholeInput}
+use Rattle.act_console.proofs.Common.{AppendsPrefix, Wrote, IsPlayOutput, ScriptPlayed, IsToldOf, IsThreadsOutput, Threaded, spelled_threads}
 use Rattle.act_console.specs.declared.fault.ConsoleFault.TheVariants as faults
-use Rattle.act_console.specs.Input.{IsWholeInput}
-use Rattle.act_console.specs.Output.{AppendsPrefix, Wrote}
-use Rattle.act_console.specs.Console.{IsPlayOutput, ScriptPlayed}
-use Rattle.act_console.specs.Threads.{IsToldOf, IsThreadsOutput, Threaded, spelled_threads}
 
 module _ (had left old new : Option (List ℕ)) (bytes : List ℕ) (whole : IsWholeInput (MAX_SCRIPT_BYTES + 1) had left bytes) where
   -- an answer of a play was written

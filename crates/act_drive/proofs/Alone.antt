@@ -1,28 +1,10 @@
 -- What the tests stand on: the passes of a caller with one actor as they are opened, and what an actor's run leaves.
-use Rattle.std.proofs.Common.{◌≡◌, ◌≢◌, ℕ, zero, suc, ◌<◌, List, [], ◌∷◌, ◌++◌, length, get_or, refl, sym, ap, ◌∙◌, subst, arith, All, AllPairs, Option, Some, None, Ok, Err, Result, append-nil}
-use Rattle.std.specs.Prelude.{slice_get, option_map, IfOk, OnOk, OnErr, IfSome, IfNone}
-use Rattle.act_types.specs.declared.call.Packet.{Packet}
-use Rattle.act_types.specs.declared.call.Reply.{Reply}
-use Rattle.act_types.specs.declared.call.Notice.{Notice}
-use Rattle.act_types.specs.declared.call.Notice.TheVariants.{Answered}
-use Rattle.act_rules.specs.declared.history.RunItem.{RunItem}
-use Rattle.act_rules.specs.Consistent.{IsPrefix}
-use Rattle.act_rules.proofs.Lists.{All-two}
-use Rattle.act_types.specs.KindState.{KindState}
-use Rattle.act_actor.specs.View.{LiveView, ActorView}
-use Rattle.act_actor.specs.StateViews.{live_view}
-use Rattle.act_actor.specs.Actor.{item_of, reply_of_run, next_call, HasRunCall}
-use Rattle.std.proofs.lemmas.List.Elements.{All-push}
-use Rattle.std.proofs.lemmas.List.Quantifiers.{all_pairs_push}
-use Rattle.act_mailbox.specs.Mails.{MailView}
-use Rattle.act_mailbox.specs.Controls.{ControlView}
-use Rattle.act_mailbox.specs.Notices.{RepliesView, ReplyExecView, IsNoDeath, NamesPlace}
-use Rattle.act_mailbox.specs.Passes.{PutterView, new_putter, new_taker}
-use Rattle.act_mailbox.specs.declared.control.Asked.{Asked}
-use Rattle.act_mailbox.specs.declared.mail.Letter.{Letter}
-use Rattle.act_mailbox.specs.declared.thread.Endpoint.{Endpoint}
-use Rattle.act_drive.specs.declared.driver.CallerPasses.{CallerPasses}
-use Rattle.act_drive.specs.Driven.{IsFreshEndpoint, IsKillEndpoint, AreKillEndpoints, IsUnusedCaller}
+use Rattle.act_drive.proofs.Common.{◌≡◌, ◌≢◌, ℕ, zero, suc, ◌<◌, List, [], ◌∷◌, ◌++◌, length, get_or, refl, sym, ap, ◌∙◌, subst, arith, All, AllPairs, Option}
+use Rattle.act_drive.proofs.Common.{Some, None, Ok, Err, Result, append-nil, slice_get, option_map, IfOk, OnOk, OnErr, IfSome, IfNone, Packet, Reply, Notice}
+use Rattle.act_drive.proofs.Common.{Answered, RunItem, IsPrefix, All-two, KindState, LiveView, ActorView, live_view, item_of, reply_of_run, next_call}
+use Rattle.act_drive.proofs.Common.{HasRunCall, All-push, all_pairs_push, MailView, ControlView, RepliesView, ReplyExecView, IsNoDeath, NamesPlace, PutterView}
+use Rattle.act_drive.proofs.Common.{new_putter, new_taker, Asked, Letter, Endpoint, CallerPasses, IsFreshEndpoint, IsKillEndpoint, AreKillEndpoints}
+use Rattle.act_drive.proofs.Common.{IsUnusedCaller}
 
 one_endpoint : (mail : MailView) (c : ℕ) (post : PutterView Letter Unit) → post ≡ new_putter mail.line c → IsFreshEndpoint (mail ∷ []) c (record { place = 0; pass = post })
 one_endpoint mail c post is = record {

@@ -1,23 +1,12 @@
 -- A session at work.
-use Rattle.std.proofs.Common.{◌≡◌, ℕ, suc, ◌+◌, ◌<◌, Bool, List, [], ◌∷◌, ◌++◌, length, get_or, set, replicate, refl, sym, ◌∙◌, ap, subst, arith, inl, inr}
-use Rattle.std.specs.Prelude.{if◌then◌else◌, is_some, true}
-use Rattle.act_rules.specs.Submissions.{kept_at}
-use Rattle.std.proofs.lemmas.Bool.Decides.{eqb_tells, leb_tells}
-use Rattle.std.proofs.lemmas.List.{get_or-set_other, get_or-replicate, get_or_past, length-replicate}
-use Rattle.std.proofs.lemmas.Grind.{get_or-set_at}
-use Rattle.act_rules.specs.declared.script.Step.{Step}
-use Rattle.act_rules.specs.declared.script.Step.TheVariants.{Kill, Await}
-use Rattle.act_drive.specs.declared.driver.CallerLines.{CallerLines}
-use Rattle.act_drive.specs.declared.driver.Driver.{Driver}
-use Rattle.act_drive.specs.Driven.{IsCalling, Stays, Waits, FollowsSteps}
-use Rattle.act_drive.specs.Lent.{Does, IsAtWork}
-use Rattle.act_drive.specs.Tracing.{Traces, TracesStep, OnlyWaits}
+use Rattle.act_drive.proofs.Common.{◌≡◌, ℕ, suc, ◌+◌, ◌<◌, Bool, List, [], ◌∷◌, ◌++◌, length, get_or, set, replicate, refl, sym, ◌∙◌, ap, subst, arith, inl}
+use Rattle.act_drive.proofs.Common.{inr, if◌then◌else◌, is_some, true, kept_at, eqb_tells, leb_tells, get_or-set_other, get_or-replicate, get_or_past}
+use Rattle.act_drive.proofs.Common.{length-replicate, get_or-set_at, Step, Kill, Await, CallerLines, Driver, IsCalling, Stays, Waits, FollowsSteps, Does}
+use Rattle.act_drive.proofs.Common.{IsAtWork, Traces, TracesStep, OnlyWaits, kills_to, SessionView, IsLater, OnlyHears}
 use Rattle.act_drive.proofs.Drivers.{stays_trans, waits_same}
-use Rattle.act_rules.specs.Plans.{kills_to}
 use Rattle.act_drive.proofs.PlanSteps.{follows_waits, kills_more}
 use Rattle.act_drive.proofs.Tracing.{traces_awaited}
 use Rattle.act_drive.proofs.CodeSteps.{does_await}
-use Rattle.act_drive.specs.Sessions.{SessionView, IsLater, OnlyHears}
 
 all_same : (x n a : ℕ) → get_or (replicate n x) a x ≡ x
 all_same x n a = elim (leb_tells (suc a) n) [

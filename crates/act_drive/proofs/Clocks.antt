@@ -1,8 +1,6 @@
 -- What the clock of a caller's thread shows.
-use Rattle.std.proofs.Common.{◌≡◌, ℕ, zero, suc, ◌<◌, ◌≤◌, max, List, [], ◌∷◌, ◌++◌, length, map, get_or, set, ap, arith}
-use Rattle.std.specs.List.{AllZip, flat_map}
-use Rattle.std.proofs.lemmas.List.{map-append}
-use Rattle.act_mailbox.specs.Traces.{greatest, clock, IsTimed}
+use Rattle.act_drive.proofs.Common.{◌≡◌, ℕ, zero, suc, ◌<◌, ◌≤◌, max, List, [], ◌∷◌, ◌++◌, length, map, get_or, set, ap, arith, AllZip, flat_map, map-append}
+use Rattle.act_drive.proofs.Common.{greatest, clock, IsTimed}
 
 -- ---- clocks
 

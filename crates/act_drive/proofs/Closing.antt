@@ -1,18 +1,8 @@
 -- Handles that are let go.
-use Rattle.std.proofs.Common.{◌≡◌, ℕ, ◌+◌, ◌-◌, ◌<◌, ◌≤◌, List, length, Option, Some, None, is_some, get_or, refl, sym, ◌∙◌, ap, subst, arith, All, take, inl, inr}
-use Rattle.std.specs.Prelude.{option_map}
-use Rattle.std.proofs.lemmas.List.{take_more}
-use Rattle.std.proofs.lemmas.Bool.Decides.{eqb_tells}
-use Rattle.std.proofs.lemmas.List.Elements.{All-push, All-weaker}
-use Rattle.act_rules.specs.Submissions.{copies_held}
-use Rattle.act_handles.specs.Handles.{copies_in, without_copy}
-use Rattle.act_handles.specs.declared.handles.Handle.{Handle}
-use Rattle.act_handles.proofs.Lookups.{copies-without_copy, copies-without_copy-other}
-use Rattle.act_owner.specs.Owner.{OwnerView, with_handles}
-use Rattle.act_mailbox.specs.Mails.{MailView}
-use Rattle.act_drive.specs.declared.driver.Driver.{Driver}
-use Rattle.act_drive.specs.declared.driver.CallerPasses.{CallerPasses}
-use Rattle.act_drive.specs.Driven.{Waits, OnlyReleases}
+use Rattle.act_drive.proofs.Common.{◌≡◌, ℕ, ◌+◌, ◌-◌, ◌<◌, ◌≤◌, List, length, Option, Some, None, is_some, get_or, refl, sym, ◌∙◌, ap, subst, arith, All, take}
+use Rattle.act_drive.proofs.Common.{inl, inr, option_map, take_more, eqb_tells, All-push, All-weaker, copies_held, copies_in, without_copy, Handle}
+use Rattle.act_drive.proofs.Common.{copies-without_copy, copies-without_copy-other, OwnerView, with_handles, MailView, Driver, CallerPasses, Waits}
+use Rattle.act_drive.proofs.Common.{OnlyReleases}
 use Rattle.act_drive.proofs.Drivers.{stays_same, stays_trans}
 
 pub winds_trans : (one two three : Driver) → OnlyReleases one two → OnlyReleases two three → OnlyReleases one three

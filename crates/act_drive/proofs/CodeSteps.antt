@@ -1,35 +1,13 @@
 -- The steps of a caller's own code: what is told of each, and what it does.
-use Rattle.std.proofs.Common.{arith, ◌<◌, ◌≡◌, ◌≢◌, ℕ, zero, suc, Bool, true, false, nat_lt, List, [], ◌∷◌, ◌++◌, length, map, take, get_or, All, Option, Some, None, Ok, Err, Result, is_some, refl, sym, ◌∙◌, ap, subst, inl, inr, ◌⊎◌}
-use Rattle.std.specs.List.{list_all}
-use Rattle.std.specs.Prelude.{◌+◌, unwrap_or, IfErr, OnErr, if◌then◌else◌}
-use Rattle.std.proofs.lemmas.Bool.Decides.{leb_tells}
-use Rattle.std.proofs.lemmas.List.{append_assoc, map-append, take_more}
-use Rattle.std.proofs.lemmas.List.Elements.{All-push, All-weaker}
-use Rattle.std.proofs.lemmas.List.Folds.{list_all_at}
-use Rattle.std.specs.Result.{IsErrAnd}
-use Rattle.std.specs.Option.{option_or}
-use Rattle.act_types.specs.declared.call.Method.{Method}
-use Rattle.act_types.specs.declared.call.Arg.{Arg}
-use Rattle.act_rules.specs.declared.history.Submission.{Submission}
-use Rattle.act_rules.specs.declared.outcome.HandleRefusal.{HandleRefusal}
-use Rattle.act_rules.specs.declared.outcome.SubmitRefusal.{SubmitRefusal}
-use Rattle.act_rules.specs.declared.outcome.SubmitRefusal.TheVariants.{PendingLimit, NoMemory}
-use Rattle.act_rules.specs.declared.script.Step.{Step}
-use Rattle.act_rules.specs.declared.script.Step.TheVariants.{Submit, Copy, Release, Kill, Await}
-use Rattle.act_rules.specs.RunList.{Answer}
-use Rattle.act_rules.specs.Submissions.{needs, kept_at, submit_refusal, limit_refusal, copy_refusal, handle_refusal}
-use Rattle.act_rules.specs.Plans.{done_by, nothing_done}
-use Rattle.act_rules.proofs.Lists.{option_or-none}
-use Rattle.act_handles.specs.Handles.{copies_in, with_copy}
-use Rattle.act_handles.specs.declared.handles.Handle.{Handle}
-use Rattle.act_handles.proofs.Lookups.{copies-with_number}
-use Rattle.act_owner.specs.Owner.{OwnerView, refusal_to_submit, owner_limit, pending, with_submission, with_handles}
-use Rattle.act_drive.specs.declared.driver.CallerLines.{CallerLines}
-use Rattle.act_drive.specs.declared.driver.Driver.{Driver}
-use Rattle.act_drive.specs.declared.driver.CallerPasses.{CallerPasses}
-use Rattle.act_drive.specs.Driven.{bare_post, bare_ask, Stays, Waits, FollowsBy, KeptOn}
-use Rattle.act_drive.specs.Sessions.{SessionView, session_view, call_refusal, use_refusal, IsLater, DoesMore, OnlyHears, Submits}
-use Rattle.act_drive.specs.Lent.{Does}
+use Rattle.act_drive.proofs.Common.{arith, ◌<◌, ◌≡◌, ◌≢◌, ℕ, zero, suc, Bool, true, false, nat_lt, List, [], ◌∷◌, ◌++◌, length, map, take, get_or, All, Option}
+use Rattle.act_drive.proofs.Common.{Some, None, Ok, Err, Result, is_some, refl, sym, ◌∙◌, ap, subst, inl, inr, ◌⊎◌, list_all, ◌+◌, unwrap_or, IfErr, OnErr}
+use Rattle.act_drive.proofs.Common.{if◌then◌else◌, leb_tells, map-append, take_more, All-push, All-weaker, list_all_at, IsErrAnd, option_or, Method, Arg}
+use Rattle.act_drive.proofs.Common.{Submission, HandleRefusal, SubmitRefusal, PendingLimit, NoMemory, Step, Submit, Copy, Release, Kill, Await, Answer, needs}
+use Rattle.act_drive.proofs.Common.{kept_at, submit_refusal, limit_refusal, copy_refusal, handle_refusal, done_by, nothing_done, option_or-none, copies_in}
+use Rattle.act_drive.proofs.Common.{with_copy, Handle, copies-with_number, OwnerView, refusal_to_submit, owner_limit, pending, with_submission, with_handles}
+use Rattle.act_drive.proofs.Common.{CallerLines, Driver, CallerPasses, bare_post, bare_ask, Stays, Waits, FollowsBy, KeptOn, SessionView, session_view}
+use Rattle.act_drive.proofs.Common.{call_refusal, use_refusal, IsLater, DoesMore, OnlyHears, Submits, Does}
+use Rattle.std.proofs.lemmas.List.{append_assoc}
 use Rattle.act_drive.proofs.PlanSteps.{follows_waits, submit_follows, copy_follows, await_follows}
 
 -- ---- answers

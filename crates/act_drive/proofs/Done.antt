@@ -1,32 +1,12 @@
 -- A plan that is done, and the opening.
-use Rattle.std.proofs.Common.{◌≡◌, ℕ, zero, suc, ◌+◌, ◌-◌, ◌<◌, ◌==◌, ◌⊎◌, Bool, true, false, if◌then◌else◌, ◌||◌, List, [], ◌∷◌, ◌++◌, length, replicate, Option, Some, None, is_some, get_or, refl, sym, ◌∙◌, ap, subst, arith, rules, All, AllPairs, Contains, append-nil, option_to_list, inl, inr}
-use Rattle.std.specs.List.{list_any, list_all}
-use Rattle.std.proofs.lemmas.Bool.{or_right}
-use Rattle.std.proofs.lemmas.Bool.Decides.{leb_tells}
-use Rattle.std.proofs.lemmas.List.{length-replicate, get_or-replicate, get_or_past}
-use Rattle.std.proofs.lemmas.List.Elements.{All-weaker}
-use Rattle.act_types.specs.declared.call.Notice.{Notice}
-use Rattle.act_types.specs.declared.call.Notice.TheVariants.{Death}
-use Rattle.act_rules.specs.RunList.{Answer}
-use Rattle.act_rules.specs.declared.script.Step.{Step}
-use Rattle.act_rules.specs.Plans.{Progress, holds, occurrences, done_by, nothing_done}
-use Rattle.act_rules.specs.Submissions.{copies_held, kept_at}
-use Rattle.act_handles.specs.Handles.{copies_in, actors_in}
-use Rattle.act_handles.specs.declared.handles.Handle.{Handle}
-use Rattle.act_handles.proofs.Lookups.{copies-opened}
-use Rattle.act_owner.specs.Owner.{OwnerView}
-use Rattle.act_owner.specs.Life.{Hears}
-use Rattle.act_owner.proofs.Told.{hears_opened}
-use Rattle.act_mailbox.specs.Passes.{PutterView}
-use Rattle.act_mailbox.specs.Mails.{MailView}
-use Rattle.act_mailbox.specs.declared.control.Asked.{Asked}
-use Rattle.act_mailbox.specs.declared.mail.Letter.{Letter}
-use Rattle.act_mailbox.specs.declared.thread.Endpoint.{Endpoint}
-use Rattle.act_drive.specs.declared.driver.CallerLines.{CallerLines}
-use Rattle.act_drive.specs.declared.driver.Driver.{Driver}
-use Rattle.act_drive.specs.declared.driver.CallerPasses.{CallerPasses}
-use Rattle.act_drive.specs.Driven.{AreTwo, IsEndpoint, IsPosting, IsCalling, Stays, Waits, FollowsSteps, HasAsked, OnlyReleases, IsFreshCaller, IsFreshEndpoint, HasDone, HasDriven, HasEndedAt, HasPosted, AreDistinct, last_note, IsKeeping, posted_in, IsIdle, IsDue, actor_of_letter}
-use Rattle.act_drive.specs.Tracing.{IsTracingClosed}
+use Rattle.act_drive.proofs.Common.{◌≡◌, ℕ, zero, suc, ◌+◌, ◌-◌, ◌<◌, ◌==◌, ◌⊎◌, Bool, true, false, if◌then◌else◌, ◌||◌, List, [], ◌∷◌, ◌++◌, length, replicate}
+use Rattle.act_drive.proofs.Common.{Option, Some, None, is_some, get_or, refl, sym, ◌∙◌, ap, subst, arith, rules, All, AllPairs, Contains, append-nil}
+use Rattle.act_drive.proofs.Common.{option_to_list, inl, inr, list_any, list_all, or_right, leb_tells, length-replicate, get_or-replicate, get_or_past}
+use Rattle.act_drive.proofs.Common.{All-weaker, Notice, Death, Answer, Step, Progress, holds, occurrences, done_by, nothing_done, copies_held, kept_at}
+use Rattle.act_drive.proofs.Common.{copies_in, actors_in, Handle, copies-opened, OwnerView, Hears, hears_opened, PutterView, MailView, Asked, Letter, Endpoint}
+use Rattle.act_drive.proofs.Common.{CallerLines, Driver, CallerPasses, AreTwo, IsEndpoint, IsPosting, IsCalling, Stays, Waits, FollowsSteps, HasAsked}
+use Rattle.act_drive.proofs.Common.{OnlyReleases, IsFreshCaller, IsFreshEndpoint, HasDone, HasDriven, HasEndedAt, HasPosted, AreDistinct, last_note, IsKeeping}
+use Rattle.act_drive.proofs.Common.{posted_in, IsIdle, IsDue, actor_of_letter, IsTracingClosed}
 use Rattle.act_drive.proofs.Keeps.{keeps_opened}
 use Rattle.act_drive.proofs.Drivers.{posting_less}
 use Rattle.act_drive.proofs.PlanSteps.{kills_on}

@@ -1,39 +1,15 @@
 -- What stays while a caller goes on.
-use Rattle.std.proofs.Common.{◌≡◌, ℕ, zero, suc, ◌+◌, ◌<◌, Bool, true, false, if◌then◌else◌, not, ◌&&◌, List, [], ◌∷◌, ◌++◌, length, get_or, set, Option, Some, None, is_some, refl, sym, ◌∙◌, ap, subst, arith, All, AllPairs, Contains, append-nil, option_to_list, length-append}
-use Rattle.std.proofs.lemmas.Option.{slice_get_within}
-use Rattle.std.proofs.Math.Seq.{map-set_same}
-use Rattle.act_mailbox.specs.Passes.{TakerView}
-use Rattle.std.specs.Prelude.{map, slice_get, slice_set, unwrap_or, option_map}
-use Rattle.std.specs.List.{range_with_len}
-use Rattle.std.proofs.lemmas.List.Elements.{All-nil, All-cons, All-head, All-tail, All-push, All-set, All-weaker, Contains-append_left, filter_map-append}
-use Rattle.std.proofs.lemmas.List.Quantifiers.{all_pairs_push}
-use Rattle.std.proofs.lemmas.List.{get_or_append_left, length-set}
-use Rattle.act_types.specs.declared.call.Packet.{Packet}
-use Rattle.act_types.specs.declared.call.Reply.{Reply}
-use Rattle.act_types.specs.declared.call.Notice.{Notice}
-use Rattle.act_types.specs.declared.call.Notice.TheVariants.{Answered, Death}
-use Rattle.act_rules.specs.declared.history.Submission.{Submission}
-use Rattle.act_rules.specs.declared.history.RunItem.{RunItem}
-use Rattle.act_rules.specs.RunList.{Answer}
-use Rattle.act_rules.specs.Submissions.{calls_to, copies_held, kept_at}
-use Rattle.act_handles.specs.Handles.{copies_in}
-use Rattle.act_handles.specs.declared.handles.Handle.{Handle}
-use Rattle.act_owner.specs.declared.owner.Collected.TheVariants.{First, Late, Stray}
-use Rattle.act_owner.specs.Owner.{OwnerView, packet_at, packet_for, is_sent, is_of_call, after_reply_that, with_death, after_collect, with_sent, is_ready, first_ready, is_known_call}
-use Rattle.act_owner.specs.Life.{Change, Sent, Noticed, after_change, is_known_at, Hears}
-use Rattle.act_owner.proofs.Life.{step, packet_stays}
-use Rattle.act_owner.proofs.Waiting.{find_true}
-use Rattle.act_owner.proofs.Told.{sent_stays, hears_step, reply_sent, death_sent}
-use Rattle.act_mailbox.specs.Mails.{MailView}
-use Rattle.act_mailbox.specs.Passes.{PutterView}
-use Rattle.act_mailbox.specs.declared.mail.Letter.{Letter}
-use Rattle.act_mailbox.specs.declared.mail.Letter.TheVariants.{Call, Note}
-use Rattle.act_mailbox.specs.declared.thread.Endpoint.{Endpoint}
-use Rattle.act_drive.specs.declared.driver.CallerLines.{CallerLines}
-use Rattle.act_drive.specs.declared.driver.Driver.{Driver}
-use Rattle.act_drive.specs.declared.driver.CallerPasses.{CallerPasses}
-use Rattle.act_drive.specs.Driven.{actor_of_letter, future_of_letter, futures_in, AreTwo, IsSent, MayBeSent, IsPosting, IsEndpoint, AreKillEndpoints, IsCalling, Stays, Waits, OwnerGoesOn, bare_post, bare_ask, IsIdle, IsKeeping, is_note_letter, AreNoted}
-use Rattle.act_drive.specs.Tracing.{OnlyWaits}
+use Rattle.act_drive.proofs.Common.{◌≡◌, ℕ, zero, suc, ◌+◌, ◌<◌, Bool, true, false, if◌then◌else◌, not, ◌&&◌, List, [], ◌∷◌, ◌++◌, length, get_or, set, Option}
+use Rattle.act_drive.proofs.Common.{Some, None, is_some, refl, sym, ◌∙◌, ap, subst, arith, All, AllPairs, Contains, append-nil, option_to_list, length-append}
+use Rattle.act_drive.proofs.Common.{slice_get_within, map-set_same, TakerView, map, slice_get, slice_set, unwrap_or, option_map, range_with_len, All-nil}
+use Rattle.act_drive.proofs.Common.{All-cons, All-head, All-tail, All-push, All-set, All-weaker, Contains-append_left, filter_map-append, all_pairs_push}
+use Rattle.act_drive.proofs.Common.{get_or_append_left, length-set, Packet, Reply, Notice, Answered, Death, Submission, RunItem, Answer, calls_to, copies_held}
+use Rattle.act_drive.proofs.Common.{kept_at, copies_in, Handle, First, Late, Stray, OwnerView, packet_at, packet_for, is_sent, is_of_call, after_reply_that}
+use Rattle.act_drive.proofs.Common.{with_death, after_collect, with_sent, is_ready, first_ready, is_known_call, Change, Sent, Noticed, after_change}
+use Rattle.act_drive.proofs.Common.{is_known_at, Hears, step, packet_stays, find_true, sent_stays, hears_step, reply_sent, death_sent, MailView, PutterView}
+use Rattle.act_drive.proofs.Common.{Letter, Call, Note, Endpoint, CallerLines, Driver, CallerPasses, actor_of_letter, future_of_letter, futures_in, AreTwo}
+use Rattle.act_drive.proofs.Common.{IsSent, MayBeSent, IsPosting, IsEndpoint, AreKillEndpoints, IsCalling, Stays, Waits, OwnerGoesOn, bare_post, bare_ask}
+use Rattle.act_drive.proofs.Common.{IsIdle, IsKeeping, is_note_letter, AreNoted, OnlyWaits}
 use Rattle.act_drive.proofs.Keeps.{keeps_on, same_returns, keeps_taken, keeps_dropped, keeps_posted}
 use Rattle.act_drive.proofs.Noted.{noted_on, noted_same, noted_posted}
 

@@ -1,18 +1,9 @@
 -- Where a letter stands that was posted.
-use Rattle.std.proofs.Common.{◌≡◌, ◌≢◌, ℕ, zero, suc, ◌<◌, List, [], ◌∷◌, ◌++◌, length, map, get_or, Some, sym, ◌∙◌, ap, subst, arith, All, AllPairs, Contains, inl, inr}
-use Rattle.std.proofs.lemmas.Bool.Decides.{eqb_tells, leb_tells}
-use Rattle.std.proofs.lemmas.List.{get_or-map, length-map}
-use Rattle.std.proofs.lemmas.List.Elements.{All-contains, All-nil, All-cons, All-head, All-tail, All-append, All-weaker, Contains-append_cases}
-use Rattle.std.proofs.lemmas.List.Kept.{AllPairs-cons}
-use Rattle.act_types.specs.declared.call.Packet.{Packet}
-use Rattle.act_types.specs.declared.call.ReleaseNote.{ReleaseNote}
-use Rattle.act_owner.specs.Owner.{OwnerView, packet_at}
-use Rattle.act_mailbox.specs.Passes.{PutterView}
-use Rattle.act_mailbox.specs.declared.mail.Letter.{Letter}
-use Rattle.act_mailbox.specs.declared.mail.Letter.TheVariants.{Call, Note}
-use Rattle.act_mailbox.specs.declared.thread.Endpoint.{Endpoint}
-use Rattle.act_mailbox.specs.Mails.{MailView}
-use Rattle.act_drive.specs.Driven.{actor_of_letter, futures_in, AreTwo, bare_post, IsSent, HasPosted, AreDistinct, IsPostedOnce, posted_in, LettersStandAtTheirEndpoints}
+use Rattle.act_drive.proofs.Common.{◌≡◌, ◌≢◌, ℕ, zero, suc, ◌<◌, List, [], ◌∷◌, ◌++◌, length, map, get_or, Some, sym, ◌∙◌, ap, subst, arith, All, AllPairs}
+use Rattle.act_drive.proofs.Common.{Contains, inl, inr, eqb_tells, leb_tells, get_or-map, length-map, All-contains, All-nil, All-cons, All-head, All-tail}
+use Rattle.act_drive.proofs.Common.{All-append, All-weaker, Contains-append_cases, AllPairs-cons, Packet, ReleaseNote, OwnerView, packet_at, PutterView, Letter}
+use Rattle.act_drive.proofs.Common.{Call, Note, Endpoint, MailView, actor_of_letter, futures_in, AreTwo, bare_post, IsSent, HasPosted, AreDistinct}
+use Rattle.act_drive.proofs.Common.{IsPostedOnce, posted_in, LettersStandAtTheirEndpoints}
 
 -- the letter stands at an endpoint
 endpoint_of : (endpoints : List (Endpoint (PutterView Letter Unit))) (letter : Letter) → Contains (posted_in endpoints) letter → (k : ℕ) × (k < length endpoints) × ((s : Endpoint (PutterView Letter Unit)) → Contains (get_or endpoints k s).pass.put letter)

@@ -1,27 +1,12 @@
 -- No letter that is due is lost.
-use Rattle.std.proofs.Common.{◌≡◌, ◌≢◌, ℕ, zero, suc, ◌+◌, ◌-◌, ◌<◌, ◌⊎◌, Bool, true, false, if◌then◌else◌, List, [], ◌∷◌, ◌++◌, length, get_or, set, Option, Some, None, refl, sym, ◌∙◌, ap, subst, arith, All, Contains, inl, inr}
-use Rattle.std.specs.Prelude.{slice_get, unwrap_or, option_map}
-use Rattle.std.proofs.lemmas.Option.{unwrap_or-slice_get}
-use Rattle.std.proofs.lemmas.List.{get_or_default, get_or-set_other}
-use Rattle.std.proofs.lemmas.Bool.Decides.{eqb_tells}
-use Rattle.std.proofs.lemmas.List.Elements.{All-set, Contains-append_left, Contains-append_right, Contains-append_cases, Contains-push, Contains-push_cases}
-use Rattle.act_types.specs.declared.call.Method.{Method}
-use Rattle.act_types.specs.declared.call.Arg.{Arg}
-use Rattle.act_types.specs.declared.call.Packet.{Packet}
-use Rattle.act_types.specs.declared.call.ReleaseNote.{ReleaseNote}
-use Rattle.act_types.specs.declared.call.Notice.{Notice}
-use Rattle.act_types.specs.declared.call.Notice.TheVariants.{Death}
-use Rattle.act_rules.specs.Submissions.{calls_to, copies_held}
-use Rattle.act_handles.specs.Handles.{copies_in, with_copy, without_copy}
-use Rattle.act_handles.proofs.Lookups.{copies-opened, copies-with_copy, copies-with_copy-other, copies-without_copy, copies-without_copy-other, copies-with_number}
-use Rattle.act_owner.specs.Owner.{OwnerView, opened_under, packet_at, is_sent, with_handles, with_submission, with_sent}
-use Rattle.act_owner.specs.Life.{is_known_at}
-use Rattle.act_mailbox.specs.Mails.{MailView}
-use Rattle.act_mailbox.specs.Passes.{PutterView}
-use Rattle.act_mailbox.specs.declared.mail.Letter.{Letter}
-use Rattle.act_mailbox.specs.declared.mail.Letter.TheVariants.{Call, Note}
-use Rattle.act_mailbox.specs.declared.thread.Endpoint.{Endpoint}
-use Rattle.act_drive.specs.Driven.{actor_of_letter, OwnerGoesOn, last_note, IsDue, posted_in, IsApart, IsIdle, IsKeeping}
+use Rattle.act_drive.proofs.Common.{◌≡◌, ◌≢◌, ℕ, zero, suc, ◌+◌, ◌-◌, ◌<◌, ◌⊎◌, Bool, true, false, if◌then◌else◌, List, [], ◌∷◌, ◌++◌, length, get_or, set}
+use Rattle.act_drive.proofs.Common.{Option, Some, None, refl, sym, ◌∙◌, ap, subst, arith, All, Contains, inl, inr, slice_get, unwrap_or, option_map}
+use Rattle.act_drive.proofs.Common.{unwrap_or-slice_get, get_or_default, get_or-set_other, eqb_tells, All-set, Contains-append_left, Contains-append_right}
+use Rattle.act_drive.proofs.Common.{Contains-append_cases, Contains-push, Contains-push_cases, Method, Arg, Packet, ReleaseNote, Notice, Death, calls_to}
+use Rattle.act_drive.proofs.Common.{copies_held, copies_in, with_copy, without_copy, copies-opened, copies-with_copy, copies-with_copy-other}
+use Rattle.act_drive.proofs.Common.{copies-without_copy, copies-without_copy-other, copies-with_number, OwnerView, opened_under, packet_at, is_sent}
+use Rattle.act_drive.proofs.Common.{with_handles, with_submission, with_sent, is_known_at, MailView, PutterView, Letter, Call, Note, Endpoint, actor_of_letter}
+use Rattle.act_drive.proofs.Common.{OwnerGoesOn, last_note, IsDue, posted_in, IsApart, IsIdle, IsKeeping}
 
 -- ---- the owner goes on
 

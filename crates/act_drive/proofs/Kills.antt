@@ -1,29 +1,10 @@
 -- Kills: what was asked of each actor, at its endpoint.
-use Rattle.std.proofs.Common.{◌≡◌, ◌≢◌, ℕ, suc, ◌+◌, ◌<◌, ◌≤◌, ◌==◌, Bool, true, if◌then◌else◌, List, [], ◌∷◌, ◌++◌, length, get_or, set, sym, ◌∙◌, ap, subst, arith, rules, All, AllPairs, Contains, inl, inr}
-use Rattle.std.specs.Prelude.{map}
-use Rattle.std.proofs.Math.Seq.{map-set_same}
-use Rattle.act_mailbox.specs.Passes.{TakerView}
-use Rattle.std.proofs.lemmas.List.{set-get_or, length-map}
-use Rattle.std.proofs.lemmas.List.{get_or_default, get_or-set_same, get_or-set_other, length-set}
-use Rattle.std.proofs.lemmas.Bool.{ne_eqb}
-use Rattle.std.proofs.lemmas.Bool.Decides.{eqb_tells, leb_tells}
-use Rattle.std.proofs.lemmas.List.Elements.{All-push, All-set}
-use Rattle.act_types.specs.declared.call.Notice.{Notice}
-use Rattle.act_types.specs.declared.call.Notice.TheVariants.{Death}
-use Rattle.act_rules.specs.Submissions.{kept_at}
-use Rattle.act_rules.specs.declared.history.RunItem.{RunItem}
-use Rattle.act_rules.specs.declared.script.Step.{Step}
-use Rattle.act_rules.specs.declared.script.Step.TheVariants.{Kill}
-use Rattle.act_rules.specs.Plans.{Progress, holds, nothing_done, kills_to}
-use Rattle.act_handles.specs.Handles.{copies_in}
-use Rattle.act_owner.specs.Owner.{OwnerView}
-use Rattle.act_mailbox.specs.Passes.{PutterView}
-use Rattle.act_mailbox.specs.Controls.{ControlView}
-use Rattle.act_mailbox.specs.declared.control.Asked.{Asked}
-use Rattle.act_mailbox.specs.declared.thread.Endpoint.{Endpoint}
-use Rattle.act_drive.specs.declared.driver.CallerLines.{CallerLines}
-use Rattle.act_drive.specs.declared.driver.Driver.{Driver}
-use Rattle.act_drive.specs.Driven.{IsCalling, Stays, Waits, bare_post, bare_ask, FollowsBy, HasAsked, AreAsked, AreKillEndpoints, IsKillEndpoint, IsElsewhere, HasNamed}
+use Rattle.act_drive.proofs.Common.{◌≡◌, ◌≢◌, ℕ, suc, ◌+◌, ◌<◌, ◌≤◌, ◌==◌, Bool, true, if◌then◌else◌, List, [], ◌∷◌, ◌++◌, length, get_or, set, sym, ◌∙◌, ap}
+use Rattle.act_drive.proofs.Common.{subst, arith, rules, All, AllPairs, Contains, inl, inr, map, map-set_same, TakerView, set-get_or, length-map}
+use Rattle.act_drive.proofs.Common.{get_or_default, get_or-set_same, get_or-set_other, length-set, ne_eqb, eqb_tells, leb_tells, All-push, All-set, Notice}
+use Rattle.act_drive.proofs.Common.{Death, kept_at, RunItem, Step, Kill, Progress, holds, nothing_done, kills_to, copies_in, OwnerView, PutterView, ControlView}
+use Rattle.act_drive.proofs.Common.{Asked, Endpoint, CallerLines, Driver, IsCalling, Stays, Waits, bare_post, bare_ask, FollowsBy, HasAsked, AreAsked}
+use Rattle.act_drive.proofs.Common.{AreKillEndpoints, IsKillEndpoint, IsElsewhere, HasNamed}
 use Rattle.act_drive.proofs.Noted.{noted_same}
 use Rattle.act_drive.proofs.PlanSteps.{done_more, kills_more, no_kill, follows_waits}
 

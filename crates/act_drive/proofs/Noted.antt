@@ -1,15 +1,7 @@
 -- The notes that were posted.
-use Rattle.std.proofs.Common.{◌≡◌, ℕ, ◌<◌, Bool, true, false, if◌then◌else◌, List, [], ◌∷◌, ◌++◌, length, get_or, set, sym, ◌∙◌, ap, subst, Contains, inl, inr}
-use Rattle.std.proofs.lemmas.List.{get_or-set_other}
-use Rattle.std.proofs.lemmas.Bool.Decides.{eqb_tells}
-use Rattle.act_rules.specs.Submissions.{calls_to, copies_held}
-use Rattle.act_handles.specs.Handles.{copies_in}
-use Rattle.act_owner.specs.Owner.{OwnerView}
-use Rattle.act_mailbox.specs.Passes.{PutterView}
-use Rattle.act_mailbox.specs.declared.mail.Letter.{Letter}
-use Rattle.act_mailbox.specs.declared.mail.Letter.TheVariants.{Call, Note}
-use Rattle.act_mailbox.specs.declared.thread.Endpoint.{Endpoint}
-use Rattle.act_drive.specs.Driven.{actor_of_letter, is_note_letter, IsSent, OwnerGoesOn, last_note, posted_in, IsNoted, AreNoted}
+use Rattle.act_drive.proofs.Common.{◌≡◌, ℕ, ◌<◌, Bool, true, false, if◌then◌else◌, List, [], ◌∷◌, ◌++◌, length, get_or, set, sym, ◌∙◌, ap, subst, Contains, inl}
+use Rattle.act_drive.proofs.Common.{inr, get_or-set_other, eqb_tells, calls_to, copies_held, copies_in, OwnerView, PutterView, Letter, Call, Note, Endpoint}
+use Rattle.act_drive.proofs.Common.{actor_of_letter, is_note_letter, IsSent, OwnerGoesOn, last_note, posted_in, IsNoted, AreNoted}
 use Rattle.act_drive.proofs.Keeps.{more_posted}
 
 -- the same flags

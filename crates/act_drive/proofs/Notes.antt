@@ -1,25 +1,10 @@
 -- The mark of a call that is submitted, and the note of a last release.
-use Rattle.std.proofs.Common.{◌≡◌, ℕ, ◌-◌, ◌==◌, Bool, true, false, if◌then◌else◌, List, [], ◌∷◌, ◌++◌, length, get_or, Option, Some, None, Ok, refl, sym, ◌∙◌, ap, subst, arith, All, AllPairs, append-nil, option_to_list, length-append, inl, inr}
-use Rattle.std.specs.Prelude.{option_map}
-use Rattle.std.proofs.lemmas.Bool.Decides.{eqb_tells}
-use Rattle.std.proofs.lemmas.List.Elements.{All-weaker, filter_map-append}
-use Rattle.std.proofs.lemmas.List.Quantifiers.{all_pairs_push}
-use Rattle.act_types.specs.declared.call.Method.{Method}
-use Rattle.act_types.specs.declared.call.Arg.{Arg}
-use Rattle.act_types.specs.declared.call.ReleaseNote.{ReleaseNote}
-use Rattle.act_rules.specs.declared.outcome.HandleRefusal.{HandleRefusal}
-use Rattle.act_rules.specs.Submissions.{calls_to, copies_held, handle_refusal}
-use Rattle.act_handles.specs.Handles.{copies_in, given_in, without_copy, or_else}
-use Rattle.act_handles.specs.declared.handles.Handle.{Handle}
-use Rattle.act_handles.proofs.Lookups.{copies-without_copy}
-use Rattle.act_owner.specs.Owner.{OwnerView, is_sent, with_submission, with_handles, release_note}
-use Rattle.act_owner.specs.Life.{Released, Hears}
-use Rattle.act_owner.proofs.Told.{hears_step}
-use Rattle.act_mailbox.specs.declared.mail.Letter.{Letter}
-use Rattle.act_mailbox.specs.declared.mail.Letter.TheVariants.{Call, Note}
-use Rattle.act_drive.specs.declared.driver.CallerLines.{CallerLines}
-use Rattle.act_drive.specs.declared.driver.Driver.{Driver}
-use Rattle.act_drive.specs.Driven.{AreTwo, IsSent, IsEndpoint, IsPosting, IsCalling, Waits, OwnerGoesOn, futures_in, future_of_letter, IsKeeping}
+use Rattle.act_drive.proofs.Common.{◌≡◌, ℕ, ◌-◌, ◌==◌, Bool, true, false, if◌then◌else◌, List, [], ◌∷◌, ◌++◌, length, get_or, Option, Some, None, Ok, refl, sym}
+use Rattle.act_drive.proofs.Common.{◌∙◌, ap, subst, arith, All, AllPairs, append-nil, option_to_list, length-append, inl, inr, option_map, eqb_tells}
+use Rattle.act_drive.proofs.Common.{All-weaker, filter_map-append, all_pairs_push, Method, Arg, ReleaseNote, HandleRefusal, calls_to, copies_held}
+use Rattle.act_drive.proofs.Common.{handle_refusal, copies_in, given_in, without_copy, or_else, Handle, copies-without_copy, OwnerView, is_sent}
+use Rattle.act_drive.proofs.Common.{with_submission, with_handles, release_note, Released, Hears, hears_step, Letter, Call, Note, CallerLines, Driver, AreTwo}
+use Rattle.act_drive.proofs.Common.{IsSent, IsEndpoint, IsPosting, IsCalling, Waits, OwnerGoesOn, futures_in, future_of_letter, IsKeeping}
 use Rattle.act_drive.proofs.Keeps.{keeps_noted}
 use Rattle.act_drive.proofs.Noted.{noted_on}
 use Rattle.act_drive.proofs.Drivers.{change_on, posting_on, driver_same}

@@ -1,26 +1,10 @@
 -- A caller that changes its owner by itself: what stays, and what a submission, a copy and a release do to its copies and calls.
-use Rattle.std.proofs.Common.{◌≡◌, ◌≢◌, ℕ, ◌-◌, ◌==◌, Bool, false, if◌then◌else◌, List, [], ◌∷◌, ◌++◌, length, filter, Option, Some, None, is_some, refl, sym, ◌∙◌, ap, subst, arith, All, append-nil, option_to_list, inl, inr}
-use Rattle.std.specs.Prelude.{option_map}
-use Rattle.std.proofs.lemmas.Bool.{ne_eqb}
-use Rattle.std.proofs.lemmas.Bool.Decides.{eqb_tells}
-use Rattle.std.proofs.lemmas.List.Elements.{filter-append}
-use Rattle.act_types.specs.declared.call.Method.{Method}
-use Rattle.act_types.specs.declared.call.Arg.{Arg}
-use Rattle.act_types.specs.declared.call.Notice.{Notice}
-use Rattle.act_rules.specs.declared.history.Submission.{Submission}
-use Rattle.act_rules.specs.Submissions.{calls_to, copies_held, copy_refusal, submit_refusal}
-use Rattle.act_rules.proofs.Lists.{option_or-none}
-use Rattle.act_rules.proofs.Ended.{needs-none}
-use Rattle.act_handles.specs.Handles.{copies_in, with_copy, with_number, without_copy}
-use Rattle.act_handles.proofs.Lookups.{copies-with_copy-other, copies-without_copy, copies-without_copy-other, copies-with_number}
-use Rattle.act_handles.proofs.Copies.{copy_holds, positive}
-use Rattle.act_owner.specs.Owner.{OwnerView, refusal_to_submit}
-use Rattle.act_owner.specs.Life.{Change, after_change, notices_in, Hears}
-use Rattle.act_owner.proofs.Life.{step}
-use Rattle.act_owner.proofs.Told.{hears_step, calls_to-length}
-use Rattle.act_drive.specs.declared.driver.CallerLines.{CallerLines}
-use Rattle.act_drive.specs.declared.driver.Driver.{Driver}
-use Rattle.act_drive.specs.Driven.{IsCalling, OwnerGoesOn, HasNamed}
+use Rattle.act_drive.proofs.Common.{◌≡◌, ◌≢◌, ℕ, ◌-◌, ◌==◌, Bool, false, if◌then◌else◌, List, [], ◌∷◌, ◌++◌, length, filter, Option, Some, None, is_some, refl}
+use Rattle.act_drive.proofs.Common.{sym, ◌∙◌, ap, subst, arith, All, append-nil, option_to_list, inl, inr, option_map, ne_eqb, eqb_tells, filter-append, Method}
+use Rattle.act_drive.proofs.Common.{Arg, Notice, Submission, calls_to, copies_held, copy_refusal, submit_refusal, option_or-none, needs-none, copies_in}
+use Rattle.act_drive.proofs.Common.{with_copy, with_number, without_copy, copies-with_copy-other, copies-without_copy, copies-without_copy-other}
+use Rattle.act_drive.proofs.Common.{copies-with_number, copy_holds, positive, OwnerView, refusal_to_submit, Change, after_change, notices_in, Hears, step}
+use Rattle.act_drive.proofs.Common.{hears_step, calls_to-length, CallerLines, Driver, IsCalling, OwnerGoesOn, HasNamed}
 use Rattle.act_drive.proofs.Keeps.{Returns, keeps_on}
 use Rattle.act_drive.proofs.Noted.{noted_on}
 use Rattle.act_drive.proofs.Drivers.{change_on, held_on, endpoints_on, driver_same}

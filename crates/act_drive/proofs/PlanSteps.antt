@@ -1,27 +1,10 @@
 -- One step of a plan more.
-use Rattle.std.proofs.Common.{◌≡◌, ℕ, ◌+◌, ◌≤◌, Bool, true, false, if◌then◌else◌, List, [], ◌∷◌, ◌++◌, length, filter, Some, None, Ok, Err, Result, refl, sym, ◌∙◌, ap, subst, arith, All, Contains, length-append, inl, inr}
-use Rattle.std.specs.Prelude.{OnOk}
-use Rattle.std.proofs.lemmas.List.Elements.{All-weaker, filter-append}
-use Rattle.act_types.specs.declared.call.Method.{Method}
-use Rattle.act_types.specs.declared.call.Arg.{Arg}
-use Rattle.act_types.specs.declared.call.Notice.{Notice}
-use Rattle.act_types.specs.declared.call.Notice.TheVariants.{Death}
-use Rattle.act_rules.specs.declared.history.Submission.{Submission}
-use Rattle.act_rules.specs.declared.script.Step.{Step}
-use Rattle.act_rules.specs.declared.script.Step.TheVariants.{Submit, Copy, Release, Await}
-use Rattle.act_rules.specs.Plans.{Progress, first_bad, first_bad_from, holds, done_by, nothing_done, is_refused, do_step, kills_to, is_kill_of}
-use Rattle.act_handles.specs.Handles.{copies_in, with_copy, without_copy}
-use Rattle.act_handles.proofs.Lookups.{copies-with_number}
-use Rattle.act_handles.proofs.Copies.{release_copies, copy_copies}
-use Rattle.act_owner.specs.Owner.{OwnerView, with_submission, with_handles}
-use Rattle.act_owner.proofs.Life.{step}
-use Rattle.act_mailbox.specs.Passes.{PutterView}
-use Rattle.act_mailbox.specs.Controls.{ControlView}
-use Rattle.act_mailbox.specs.declared.control.Asked.{Asked}
-use Rattle.act_mailbox.specs.declared.thread.Endpoint.{Endpoint}
-use Rattle.act_drive.specs.declared.driver.CallerLines.{CallerLines}
-use Rattle.act_drive.specs.declared.driver.Driver.{Driver}
-use Rattle.act_drive.specs.Driven.{Waits, FollowsSteps, FollowsBy, HasAsked, AreAsked}
+use Rattle.act_drive.proofs.Common.{◌≡◌, ℕ, ◌+◌, ◌≤◌, Bool, true, false, if◌then◌else◌, List, [], ◌∷◌, ◌++◌, length, filter, Some, None, Ok, Err, Result, refl}
+use Rattle.act_drive.proofs.Common.{sym, ◌∙◌, ap, subst, arith, All, Contains, length-append, inl, inr, OnOk, All-weaker, filter-append, Method, Arg, Notice}
+use Rattle.act_drive.proofs.Common.{Death, Submission, Step, Submit, Copy, Release, Await, Progress, first_bad, first_bad_from, holds, done_by, nothing_done}
+use Rattle.act_drive.proofs.Common.{is_refused, do_step, kills_to, is_kill_of, copies_in, with_copy, without_copy, copies-with_number, release_copies}
+use Rattle.act_drive.proofs.Common.{copy_copies, OwnerView, with_submission, with_handles, step, PutterView, ControlView, Asked, Endpoint, CallerLines, Driver}
+use Rattle.act_drive.proofs.Common.{Waits, FollowsSteps, FollowsBy, HasAsked, AreAsked}
 use Rattle.act_drive.proofs.OwnChanges.{none_of}
 
 -- ---- a step more

@@ -1,11 +1,6 @@
 -- The steps of a plan in a trace, one after another.
-use Rattle.std.proofs.Common.{◌≡◌, List, [], ◌∷◌, ◌++◌, refl, sym, ◌∙◌, ap, arith, append_assoc, append-nil}
-use Rattle.std.proofs.lemmas.List.Elements.{All-push}
-use Rattle.act_rules.specs.declared.script.Step.{Step}
-use Rattle.act_owner.specs.Owner.{OwnerView}
-use Rattle.act_owner.specs.Life.{after_change}
-use Rattle.act_drive.specs.CallerSteps.{CallerStep, ChangeMade, KillAsked, owner_after_steps}
-use Rattle.act_drive.specs.PlanTraces.{IsMeanwhile, DoesStep, DoesPlan}
+use Rattle.act_drive.proofs.Common.{◌≡◌, List, [], ◌∷◌, ◌++◌, refl, sym, ◌∙◌, ap, arith, append_assoc, append-nil, All-push, Step, OwnerView, after_change}
+use Rattle.act_drive.proofs.Common.{CallerStep, ChangeMade, KillAsked, owner_after_steps, IsMeanwhile, DoesStep, DoesPlan}
 
 owner_append : (start : OwnerView) (one two : List CallerStep) → owner_after_steps start (one ++ two) ≡ owner_after_steps (owner_after_steps start one) two
 owner_append start [] two = refl

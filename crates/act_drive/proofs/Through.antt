@@ -1,22 +1,8 @@
 -- A caller that is through with its actors.
-use Rattle.std.proofs.Common.{◌≡◌, ℕ, zero, suc, ◌+◌, ◌<◌, ◌==◌, ◌&&◌, not, Bool, true, false, List, [], ◌∷◌, length, take, get_or, Option, Some, None, is_some, refl, sym, ◌∙◌, ap, subst, arith, All, inr}
-use Rattle.std.specs.Prelude.{slice_get, zip}
-use Rattle.std.specs.List.{list_any}
-use Rattle.std.proofs.lemmas.Bool.{or_parts, eq-eqb}
-use Rattle.std.proofs.lemmas.List.{take_more}
-use Rattle.std.proofs.lemmas.List.Elements.{All-push}
-use Rattle.act_rules.specs.declared.history.Submission.{Submission}
-use Rattle.act_rules.specs.RunList.{Answer}
-use Rattle.act_rules.specs.Submissions.{kept_at}
-use Rattle.act_owner.specs.Owner.{OwnerView, call_waits_for}
-use Rattle.act_mailbox.specs.Passes.{PutterView}
-use Rattle.act_mailbox.specs.Controls.{ControlView}
-use Rattle.act_mailbox.specs.declared.control.Asked.{Asked}
-use Rattle.act_mailbox.specs.declared.thread.Endpoint.{Endpoint}
-use Rattle.act_drive.specs.declared.driver.CallerLines.{CallerLines}
-use Rattle.act_drive.specs.declared.driver.Driver.{Driver}
-use Rattle.act_drive.specs.declared.driver.CallerPasses.{CallerPasses}
-use Rattle.act_drive.specs.Driven.{IsCalling, IsThrough, HasEndedAt, AreAnswered}
+use Rattle.act_drive.proofs.Common.{◌≡◌, ℕ, zero, suc, ◌+◌, ◌<◌, ◌==◌, ◌&&◌, not, Bool, true, false, List, [], ◌∷◌, length, take, get_or, Option, Some, None}
+use Rattle.act_drive.proofs.Common.{is_some, refl, sym, ◌∙◌, ap, subst, arith, All, inr, slice_get, zip, list_any, or_parts, eq-eqb, take_more, All-push}
+use Rattle.act_drive.proofs.Common.{Submission, Answer, kept_at, OwnerView, call_waits_for, PutterView, ControlView, Asked, Endpoint, CallerLines, Driver}
+use Rattle.act_drive.proofs.Common.{CallerPasses, IsCalling, IsThrough, HasEndedAt, AreAnswered}
 
 -- where no call of an actor waits, each is answered
 none_waits : (a : ℕ) (calls : List Submission) (kept : List (Option Answer)) → length kept ≡ length calls → list_any (call_waits_for a) (zip calls kept) ≡ false → (k : ℕ) (call : Submission) → slice_get calls k ≡ Some call → call.actor ≡ a → is_some (kept_at kept k) ≡ true

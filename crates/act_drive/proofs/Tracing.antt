@@ -1,41 +1,18 @@
 -- What a caller's thread leaves goes on, step by step.
-use Rattle.std.proofs.Common.{◌≡◌, ℕ, suc, ◌-◌, ◌<◌, ◌≤◌, Bool, true, false, not, ◌&&◌, ◌||◌, List, [], ◌∷◌, ◌++◌, length, get_or, set, Option, Some, None, is_some, refl, sym, ◌∙◌, ap, subst, arith, All, append_assoc, append-nil, inl, inr}
-use Rattle.std.specs.Prelude.{map, option_map, slice_get, Result, Ok, Err, OnOk, OnErr}
-use Rattle.std.specs.List.{AllZip, flat_map, range_with_len}
-use Rattle.std.proofs.lemmas.List.{map-append, set-get_or}
-use Rattle.std.proofs.lemmas.List.Elements.{All-weaker, All-set, Contains-append_left, Contains-push}
-use Rattle.std.proofs.lemmas.Slice.Zip.{all_zipped_more}
-use Rattle.act_types.specs.declared.call.Notice.{Notice}
-use Rattle.act_types.specs.declared.call.Packet.{Packet}
-use Rattle.act_types.specs.declared.call.ReleaseNote.{ReleaseNote}
-use Rattle.act_rules.specs.declared.history.RunItem.{RunItem}
-use Rattle.act_rules.specs.declared.script.Step.{Step}
-use Rattle.act_rules.specs.declared.script.Step.TheVariants.{Release, Kill, Await}
-use Rattle.act_rules.specs.declared.history.Submission.{Submission}
-use Rattle.act_rules.specs.declared.outcome.SendRefusal.TheVariants.{NotReady, Answered}
-use Rattle.act_rules.specs.Submissions.{needs, kept_at, copies_held, handle_refusal, send_refusal}
-use Rattle.act_handles.specs.Handles.{copies_in, without_copy}
-use Rattle.act_handles.proofs.Lookups.{copies-without_copy}
-use Rattle.act_owner.specs.Owner.{OwnerView, sending_refusal, with_sent, with_handles, after_collect, is_known_call, is_sent, is_ready, first_ready, is_known_dead}
-use Rattle.act_owner.specs.Life.{Sent, Released, Noticed, after_change}
-use Rattle.act_owner.proofs.Waiting.{find_true}
-use Rattle.act_mailbox.specs.Traces.{greatest, steps_in, found_in, AreTakenLater}
-use Rattle.act_mailbox.specs.Passes.{PutterView, TakerView}
-use Rattle.act_mailbox.specs.Controls.{ControlView}
-use Rattle.act_mailbox.specs.declared.control.Asked.{Asked}
-use Rattle.act_mailbox.specs.declared.mail.Letter.{Letter}
-use Rattle.act_mailbox.specs.declared.mail.Letter.TheVariants.{Call, Note}
-use Rattle.act_mailbox.specs.declared.thread.Endpoint.{Endpoint}
-use Rattle.act_drive.specs.declared.driver.CallerLines.{CallerLines}
-use Rattle.act_drive.specs.declared.driver.CallerPasses.{CallerPasses}
-use Rattle.act_drive.specs.declared.driver.Driver.{Driver}
-use Rattle.act_drive.specs.CallerSteps.{CallerStep, ChangeMade, KillAsked, notice_collected, owner_after_steps, CallerMayDo, CallerMayDoAll}
-use Rattle.act_drive.specs.CallerTraces.{caller_clock, IsPostedAfter, IsAskedAfter, IsCallerTrace}
-use Rattle.act_drive.specs.PlanTraces.{DoesStep, DoesPlan, HasDonePlan}
-use Rattle.act_drive.specs.Tracing.{IsTracing, IsTracingClosed, Traces, TracesStep, TracesClosing}
-use Rattle.act_drive.specs.Driven.{IsFreshCaller, IsFreshEndpoint}
+use Rattle.act_drive.proofs.Common.{◌≡◌, ℕ, suc, ◌-◌, ◌<◌, ◌≤◌, Bool, true, false, not, ◌&&◌, ◌||◌, List, [], ◌∷◌, ◌++◌, length, get_or, set, Option, Some}
+use Rattle.act_drive.proofs.Common.{None, is_some, refl, sym, ◌∙◌, ap, subst, arith, All, append_assoc, append-nil, inl, inr, map, option_map, slice_get}
+use Rattle.act_drive.proofs.Common.{Result, Ok, Err, OnOk, OnErr, AllZip, flat_map, range_with_len, map-append, set-get_or, All-weaker, All-set}
+use Rattle.act_drive.proofs.Common.{Contains-append_left, Contains-push, all_zipped_more, Notice, Packet, ReleaseNote, RunItem, Step, Release, Kill, Await}
+use Rattle.act_drive.proofs.Common.{Submission, NotReady, needs, kept_at, copies_held, handle_refusal, send_refusal, copies_in, without_copy}
+use Rattle.act_drive.proofs.Common.{copies-without_copy, OwnerView, sending_refusal, with_sent, with_handles, after_collect, is_known_call, is_sent, is_ready}
+use Rattle.act_drive.proofs.Common.{first_ready, is_known_dead, Sent, Released, Noticed, after_change, find_true, greatest, steps_in, found_in, AreTakenLater}
+use Rattle.act_drive.proofs.Common.{PutterView, TakerView, ControlView, Asked, Letter, Call, Note, Endpoint, CallerLines, CallerPasses, Driver, CallerStep}
+use Rattle.act_drive.proofs.Common.{ChangeMade, KillAsked, notice_collected, owner_after_steps, CallerMayDo, CallerMayDoAll, caller_clock, IsPostedAfter}
+use Rattle.act_drive.proofs.Common.{IsAskedAfter, IsCallerTrace, DoesStep, DoesPlan, HasDonePlan, IsTracing, IsTracingClosed, Traces, TracesStep, TracesClosing}
+use Rattle.act_drive.proofs.Common.{IsFreshCaller, IsFreshEndpoint, all_zip_weaker, steps_more, timed_later, timed_push, part_one, part_none, later_one}
+use Rattle.act_drive.proofs.Common.{later_none}
+use Rattle.act_rules.specs.declared.outcome.SendRefusal.TheVariants.{Answered}
 use Rattle.act_drive.proofs.PlanTraces.{meanwhile_more, plan_more}
-use Rattle.act_mailbox.proofs.Clocks.{all_zip_weaker, steps_more, timed_later, timed_push, part_one, part_none, later_one, later_none}
 use Rattle.act_drive.proofs.Clocks.{greatest_grows, greatest_pushed, greatest_set, clock_grows, clock_taken, timed_none, zip_none}
 
 -- ---- the owner after steps

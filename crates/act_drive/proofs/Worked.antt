@@ -1,15 +1,7 @@
 -- What a caller by code of its own leaves.
-use Rattle.std.proofs.Common.{◌≡◌, ℕ, Bool, true, false, List, None, refl, sym, ◌∙◌, ap, subst, All}
-use Rattle.act_rules.specs.declared.script.Step.{Step}
-use Rattle.act_handles.specs.Handles.{actors_in}
-use Rattle.act_drive.specs.declared.driver.CallerLines.{CallerLines}
-use Rattle.act_drive.specs.declared.driver.Driver.{Driver}
-use Rattle.act_drive.specs.declared.caller.Driven.{Driven}
-use Rattle.act_drive.specs.Driven.{IsCalling, Stays, FollowsSteps, HasDone, HasEndedAt, HasDriven, IsFreshCaller}
-use Rattle.act_drive.specs.Sessions.{SessionView, session_view, kills_of, IsLater}
-use Rattle.act_drive.specs.Coded.{HasConcluded, HasRunCode}
-use Rattle.act_drive.specs.Lent.{IsAtWork, HasDrivenCode}
-use Rattle.act_drive.specs.Tracing.{TracesClosing, TracesPlan}
+use Rattle.act_drive.proofs.Common.{◌≡◌, ℕ, Bool, true, false, List, None, refl, sym, ◌∙◌, ap, subst, All, Step, actors_in, CallerLines, Driver, Driven}
+use Rattle.act_drive.proofs.Common.{IsCalling, Stays, FollowsSteps, HasDone, HasEndedAt, HasDriven, IsFreshCaller, SessionView, session_view, kills_of, IsLater}
+use Rattle.act_drive.proofs.Common.{HasConcluded, HasRunCode, IsAtWork, HasDrivenCode, TracesClosing, TracesPlan}
 use Rattle.act_drive.proofs.Drivers.{stays_trans}
 use Rattle.act_drive.proofs.Done.{driven_of}
 use Rattle.act_drive.proofs.Tracing.{fresh_tracing}

@@ -1,14 +1,7 @@
 -- Each play is left by events that the rules accept.
-use Rattle.std.proofs.Common.{◌≡◌, ℕ, List, [], ◌∷◌, ◌++◌, refl, ap, sym, ◌∙◌, subst, All}
-use Rattle.std.specs.Prelude.{Option, IsOk}
-use Rattle.std.proofs.lemmas.List.Elements.{All-append, All-cons, All-nil}
-use Rattle.act_rules.specs.declared.event.Event.{Event}
-use Rattle.act_rules.specs.declared.outcome.WorldRefusal.{WorldRefusal}
-use Rattle.act_rules.specs.declared.script.Step.{Step}
-use Rattle.act_rules.specs.History.{ActorSpec, History, opening}
-use Rattle.act_rules.specs.Rules.{Outcome, outcome_by, after_by, outcome_of, outcomes, after_all}
-use Rattle.act_rules.proofs.Steps.{IsKept, after_all-append, outcomes-append}
-use Rattle.act_early.specs.Plays.{At, IsPlay}
+use Rattle.act_early.proofs.Common.{◌≡◌, ℕ, List, [], ◌∷◌, ◌++◌, refl, ap, sym, ◌∙◌, subst, All, Option, IsOk, All-append, All-cons, All-nil, Event}
+use Rattle.act_early.proofs.Common.{WorldRefusal, Step, ActorSpec, History, opening, Outcome, outcome_by, after_by, outcome_of, outcomes, after_all, IsKept}
+use Rattle.act_early.proofs.Common.{after_all-append, outcomes-append, At, IsPlay}
 use Rattle.act_early.proofs.Worlds.{play_keeps}
 
 record IsLeft (specs : List ActorSpec) (h : History) : Type 0 where

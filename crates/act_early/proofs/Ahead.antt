@@ -1,22 +1,9 @@
 -- A quiescent play with the choices of the late one is ahead of it.
-use Rattle.std.proofs.Common.{◌≡◌, ℕ, ◌+◌, ◌≤◌, Bool, true, false, cond, List, [], ◌∷◌, ◌++◌, length, Option, Some, None, refl, ap, sym, ◌∙◌, subst, arith}
-use Rattle.std.specs.Prelude.{◌==◌, find, slice_get}
-use Rattle.std.proofs.lemmas.Bool.{eqb-true}
-use Rattle.std.proofs.lemmas.List.{append-nil}
-use Rattle.std.proofs.lemmas.Option.{slice_get_within}
-use Rattle.act_rules.specs.declared.event.Event.{Event}
+use Rattle.act_early.proofs.Common.{◌≡◌, ℕ, ◌+◌, ◌≤◌, Bool, true, false, cond, List, [], ◌∷◌, ◌++◌, length, Option, Some, None, refl, ap, sym, ◌∙◌, subst}
+use Rattle.act_early.proofs.Common.{arith, ◌==◌, find, slice_get, eqb-true, append-nil, slice_get_within, Event, RunItem, Step, occurrences, ActorSpec, History}
+use Rattle.act_early.proofs.Common.{names, cast_of, under, runs_of, next_item, add_event, after_run, IsPrefix, front_next, slice_get_front, element, under-push}
+use Rattle.act_early.proofs.Common.{run_stands, next_item_caller, At, steps_of, after_step, IsPlay, Opens, Takes, Skips, Closes, Happens, IsQuiescent}
 use Rattle.act_rules.specs.declared.event.Event.TheVariants as event
-use Rattle.act_rules.specs.declared.history.RunItem.{RunItem}
-use Rattle.act_rules.specs.declared.script.Step.{Step}
-use Rattle.act_rules.specs.Plans.{occurrences}
-use Rattle.act_rules.specs.History.{ActorSpec, History, names, cast_of, under, runs_of, next_item}
-use Rattle.act_rules.specs.Rules.{add_event, after_run}
-use Rattle.act_rules.specs.Consistent.{IsPrefix}
-use Rattle.act_rules.proofs.Lists.{front_next, slice_get_front, element}
-use Rattle.act_rules.proofs.Ended.{under-push}
-use Rattle.act_rules.proofs.Posts.{run_stands, next_item_caller}
-use Rattle.act_early.specs.Plays.{At, steps_of, after_step, IsPlay, Opens, Takes, Skips, Closes, Happens}
-use Rattle.act_early.specs.Early.{IsQuiescent}
 use Rattle.act_early.proofs.Worlds.{IsWorld, world}
 use Rattle.act_early.proofs.Counting.{occurrences-push}
 use Rattle.act_early.proofs.Progress.{Follows, follows}

@@ -1,20 +1,9 @@
 -- The kills that are asked are those of the steps that callers are done with.
-use Rattle.std.proofs.Common.{◌≡◌, ℕ, Bool, true, false, cond, List, [], ◌∷◌, Some, None, refl, ap, sym, ◌∙◌, subst}
-use Rattle.std.specs.Prelude.{Option, ◌==◌, ◌||◌}
-use Rattle.std.specs.List.{list_any}
-use Rattle.std.proofs.lemmas.Bool.{eqb-true, eq-eqb}
-use Rattle.std.proofs.lemmas.List.Folds.{list_any-append}
-use Rattle.act_rules.specs.declared.event.Event.{Event}
+use Rattle.act_early.proofs.Common.{◌≡◌, ℕ, Bool, true, false, cond, List, [], ◌∷◌, Some, None, refl, ap, sym, ◌∙◌, subst, Option, ◌==◌, ◌||◌, list_any}
+use Rattle.act_early.proofs.Common.{eqb-true, eq-eqb, list_any-append, Event, RunItem, Step, Submit, Copy, Release, Kill, Await, is_kill_of, ActorSpec, History}
+use Rattle.act_early.proofs.Common.{contains, is_dead, next_item, add_event, after_run, IsKept, contains_more, dead_stays, At, next_step, after_step, taken}
+use Rattle.act_early.proofs.Common.{IsPlay, Opens, Takes, Skips, Closes, Happens}
 use Rattle.act_rules.specs.declared.event.Event.TheVariants as event
-use Rattle.act_rules.specs.declared.history.RunItem.{RunItem}
-use Rattle.act_rules.specs.declared.script.Step.{Step}
-use Rattle.act_rules.specs.declared.script.Step.TheVariants.{Submit, Copy, Release, Kill, Await}
-use Rattle.act_rules.specs.Plans.{is_kill_of}
-use Rattle.act_rules.specs.History.{ActorSpec, History, contains, is_dead, next_item}
-use Rattle.act_rules.specs.Rules.{add_event, after_run}
-use Rattle.act_rules.proofs.Steps.{IsKept}
-use Rattle.act_rules.proofs.Ended.{contains_more, dead_stays}
-use Rattle.act_early.specs.Plays.{At, next_step, after_step, taken, IsPlay, Opens, Takes, Skips, Closes, Happens}
 use Rattle.act_early.proofs.Worlds.{step_keeps, contains_push, either_of, or_second}
 use Rattle.act_early.proofs.Counting.{done_steps, done-push}
 use Rattle.act_early.proofs.Progress.{free_idle}

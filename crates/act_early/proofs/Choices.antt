@@ -1,25 +1,10 @@
 -- What leaves the choices as they are.
-use Rattle.std.proofs.Common.{◌≡◌, ℕ, zero, suc, Bool, true, false, cond, List, [], ◌∷◌, ◌++◌, Option, Some, None, refl, ap, sym, ◌∙◌}
-use Rattle.std.specs.Prelude.{◌==◌, ◌&&◌, map, filter_map, slice_get, Err}
-use Rattle.std.specs.List.{cons_option}
-use Rattle.std.proofs.lemmas.List.Elements.{filter_map-append}
-use Rattle.act_types.specs.declared.call.Fault.TheVariants.{ActorDied}
-use Rattle.act_rules.specs.declared.event.Event.{Event}
-use Rattle.act_rules.specs.declared.history.RunItem.{RunItem}
-use Rattle.act_rules.specs.declared.history.Submission.{Submission}
-use Rattle.act_rules.specs.declared.history.Post.{Post}
+use Rattle.act_early.proofs.Common.{◌≡◌, ℕ, zero, suc, Bool, true, false, cond, List, [], ◌∷◌, ◌++◌, Option, Some, None, refl, ap, sym, ◌∙◌, ◌==◌, ◌&&◌, map}
+use Rattle.act_early.proofs.Common.{filter_map, slice_get, Err, cons_option, filter_map-append, ActorDied, Event, RunItem, Submission, Post, Answer, kept_at}
+use Rattle.act_early.proofs.Common.{History, under, runs_of, calls_of, kept_of, answer_in, first_answer, add_event, slice_get_front, filter_map-same}
+use Rattle.act_early.proofs.Common.{All_weaker, Grows, added_grows, calls_grow, IsSoundPost, PostsAreSound, answer_in_stays, kept_by, kept_at_is}
+use Rattle.act_early.proofs.Common.{held_submission, IsSound, is_reply, is_heard, choices_of}
 use Rattle.act_rules.specs.declared.history.Post.TheVariants.{Death as DeathPost}
-use Rattle.act_rules.specs.RunList.{Answer}
-use Rattle.act_rules.specs.Submissions.{kept_at}
-use Rattle.act_rules.specs.History.{History, under, runs_of, calls_of, kept_of, answer_in, first_answer}
-use Rattle.act_rules.specs.Rules.{add_event}
-use Rattle.act_rules.proofs.Lists.{slice_get_front, filter_map-same, All_weaker}
-use Rattle.act_rules.proofs.Growth.{Grows, added_grows, calls_grow}
-use Rattle.act_rules.proofs.Posts.{IsSoundPost, PostsAreSound}
-use Rattle.act_rules.proofs.Kept.{answer_in_stays, kept_by, kept_at_is}
-use Rattle.act_rules.proofs.Unique.{held_submission}
-use Rattle.act_rules.proofs.Sound.{IsSound}
-use Rattle.act_early.specs.Early.{is_reply, is_heard, choices_of}
 
 pub map-same_at : {A B : Type 0} (f g : A → B) (xs : List A) → ((place : ℕ) (x : A) → slice_get xs place ≡ Some x → f x ≡ g x) → map f xs ≡ map g xs
 map-same_at f g [] each = refl

@@ -1,29 +1,13 @@
 -- Each choice of a quiescent play leads on to a quiescent play.
-use Rattle.std.proofs.Common.{◌≡◌, ℕ, ◌<◌, Bool, true, false, cond, List, [], ◌∷◌, ◌++◌, length, Option, Some, None, refl, ap, sym, ◌∙◌, subst, arith}
-use Rattle.std.specs.Prelude.{◌==◌, ◌&&◌, find, filter_map, slice_get, option_map, option_and_then, is_some}
-use Rattle.std.specs.List.{cons_option}
-use Rattle.std.proofs.lemmas.Bool.{eqb-true, eq-eqb, and_parts, and_from}
-use Rattle.std.proofs.lemmas.Option.{slice_get_within}
-use Rattle.act_types.specs.KindState.{KindState}
+use Rattle.act_early.proofs.Common.{◌≡◌, ℕ, ◌<◌, Bool, true, false, cond, List, [], ◌∷◌, ◌++◌, length, Option, Some, None, refl, ap, sym, ◌∙◌, subst, arith}
+use Rattle.act_early.proofs.Common.{◌==◌, ◌&&◌, find, filter_map, slice_get, option_map, option_and_then, is_some, cons_option, eqb-true, eq-eqb, and_parts}
+use Rattle.act_early.proofs.Common.{and_from, slice_get_within, KindState, RunItem, Submission, Post, Step, Answer, answers_from, answer_at, kept_at, ActorSpec}
+use Rattle.act_early.proofs.Common.{History, contains, under, names, cast_of, runs_of, calls_of, kept_of, is_item_of, answer_of, answer_in, first_answer}
+use Rattle.act_early.proofs.Common.{next_item, refusal_of, and_also, slice_get_front, slice_get_last, element, Grows, added_grows, runs_grow, calls_grow}
+use Rattle.act_early.proofs.Common.{run_needs, run_stands, length-answers_from, answer_alive, one_place, At, with_event, Happens, IsPlay, is_reply, choices_of}
+use Rattle.act_early.proofs.Common.{HasRunMore, HasTakenMore}
 use Rattle.act_rules.specs.declared.event.Event.TheVariants as event
-use Rattle.act_rules.specs.declared.history.RunItem.{RunItem}
-use Rattle.act_rules.specs.declared.history.Submission.{Submission}
-use Rattle.act_rules.specs.declared.history.Post.{Post}
 use Rattle.act_rules.specs.declared.history.Post.TheVariants.{Reply as ReplyPost}
-use Rattle.act_rules.specs.declared.script.Step.{Step}
-use Rattle.act_rules.specs.RunList.{Answer, answers_from, answer_at}
-use Rattle.act_rules.specs.Submissions.{kept_at}
-use Rattle.act_rules.specs.History.{ActorSpec, History, contains, under, names, cast_of, runs_of, calls_of, kept_of, is_item_of, answer_of, answer_in, first_answer, next_item}
-use Rattle.act_rules.specs.Rules.{refusal_of, and_also}
-use Rattle.act_rules.proofs.Lists.{slice_get_front, slice_get_last, element}
-use Rattle.act_rules.proofs.Growth.{Grows, added_grows, runs_grow, calls_grow}
-use Rattle.act_rules.proofs.Ended.{run_needs}
-use Rattle.act_rules.proofs.Posts.{run_stands}
-use Rattle.act_rules.proofs.Kept.{length-answers_from}
-use Rattle.act_rules.proofs.KindFaults.{answer_alive}
-use Rattle.act_rules.proofs.Unique.{one_place}
-use Rattle.act_early.specs.Plays.{At, with_event, Happens}
-use Rattle.act_early.specs.Early.{is_reply, choices_of, HasRunMore, HasTakenMore}
 use Rattle.act_early.proofs.Worlds.{world, contains_push}
 use Rattle.act_early.proofs.Replies.{reply_died}
 use Rattle.act_early.proofs.Choices.{first_more, kept_first, heard_quiet, heard_more, choices_same}
@@ -170,6 +154,37 @@ cast_known : (o : Option ActorSpec) (c : ℕ) → names c o ≡ true → is_some
 cast_known None c e = cc
 cast_known (Some cast) c e = refl
 
+-- what a run adds to the choices whose reply is collected at once
+pub run_more : (casts : List ActorSpec) (plans : ℕ → List Step) (a c : ℕ) (p : At) (item : RunItem) → IsPlay casts plans p → refusal_of p.history (event.Run a c) ≡ None
+    → next_item a c p.history ≡ Some item
+    → HasRunMore a c true p.history (with_event (event.Collect (length p.history.posts)) (with_event (event.Run a c) p)).history
+run_more casts plans a c p item play may e = ((λ b. heard_more_choices a b c h g k item replied), λ b. ap (contains b) r.killed)
+  where
+    h : History
+    h = p.history
+
+    g : History
+    g = (with_event (event.Run a c) p).history
+
+    r : IsRun a c h g item
+    r = run_is casts plans a c p item play may e
+
+    k : History
+    k = (with_event (event.Collect (length h.posts)) (with_event (event.Run a c) p)).history
+
+    place : slice_get g.posts (length h.posts) ≡ Some (ReplyPost c a (length (runs_of a h)))
+    place = ap (λ (l : List Post). slice_get l (length h.posts)) r.posts ∙ slice_get_last h.posts (ReplyPost c a (length (runs_of a h)))
+
+    replied : IsReplied a c h g k item
+    replied = record {
+      run = r;
+      grows = added_grows g (event.Collect (length h.posts));
+      ran = refl;
+      collected = ap (and_also g.collected) place;
+      casts = refl;
+      known = ap (λ (l : List ActorSpec). is_some (find (λ (cast : ActorSpec). cast.actor == a) l)) r.casts ∙ cast_known (cast_of a h) c (run_needs h a c may).1;
+    }
+
 pub heard_play : (specs : List ActorSpec) (plans : ℕ → List Step) (a c : ℕ) (p : At) (item : RunItem) → IsOpen specs plans p
     → refusal_of p.history (event.Run a c) ≡ None → next_item a c p.history ≡ Some item
     → (q : At) × IsOpen specs plans q × HasRunMore a c true p.history q.history
@@ -177,26 +192,15 @@ heard_play specs plans a c p item begun may e =
     let h = p.history in
     let q = with_event (event.Run a c) p in
     let r = run_is specs plans a c p item begun.play may e in
-    let g = q.history in
     let j = length h.posts in
     let post = ReplyPost c a (length (runs_of a h)) in
-    let place : slice_get g.posts j ≡ Some post = ap (λ (l : List Post). slice_get l j) r.posts ∙ slice_get_last h.posts post in
-    let there : refusal_of g (event.Collect j) ≡ None = let some : is_some (slice_get g.posts j) ≡ true =
-    ap (λ (o : Option Post). is_some o) place in rw some refl in
-    let z = with_event (event.Collect j) q in
-    let known : is_some (cast_of a g) ≡ true =
-    ap (λ (l : List ActorSpec). is_some (find (λ (cast : ActorSpec). cast.actor == a) l)) r.casts ∙ cast_known (cast_of a h) c (run_needs h a c may).1 in
-    let replied : IsReplied a c h g z.history item = record {
-      run = r;
-      grows = added_grows g (event.Collect j);
-      ran = refl;
-      collected = ap (and_also g.collected) place;
-      casts = refl;
-      known = known;
-    } in (
-      z,
+    let place : slice_get q.history.posts j ≡ Some post =
+    ap (λ (l : List Post). slice_get l j) r.posts ∙ slice_get_last h.posts post in
+    let there : refusal_of q.history (event.Collect j) ≡ None = let some : is_some (slice_get q.history.posts j) ≡ true =
+    ap (λ (o : Option Post). is_some o) place in rw some refl in (
+      with_event (event.Collect j) q,
       record { play = Happens q (event.Collect j) (Happens p (event.Run a c) begun.play refl may) refl there; live = r.retired ∙ begun.live },
-      ((λ b. heard_more_choices a b c h g z.history item replied), λ b. ap (contains b) r.killed),
+      run_more specs plans a c p item begun.play may e,
     )
 
 pub kill_play : (specs : List ActorSpec) (plans : ℕ → List Step) (a : ℕ) (p : At) → IsOpen specs plans p → refusal_of p.history (event.TakeKill a) ≡ None

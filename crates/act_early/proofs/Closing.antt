@@ -1,17 +1,8 @@
 -- Each caller whose plan is done can let its handles go.
-use Rattle.std.proofs.Common.{◌≡◌, ℕ, zero, suc, ◌+◌, ◌-◌, Bool, true, false, cond, List, Option, Some, None, refl, ap, sym, ◌∙◌, subst, arith}
-use Rattle.std.specs.Prelude.{◌==◌, ◌&&◌, nat_lt}
-use Rattle.std.specs.List.{AllByRecursion}
-use Rattle.std.proofs.lemmas.Bool.{eqb-true, eq-eqb, and_from}
-use Rattle.std.proofs.lemmas.Bool.Decides.{nat_tests}
+use Rattle.act_early.proofs.Common.{◌≡◌, ℕ, zero, suc, ◌+◌, ◌-◌, Bool, true, false, cond, List, Option, Some, None, refl, ap, sym, ◌∙◌, subst, arith, ◌==◌}
+use Rattle.act_early.proofs.Common.{◌&&◌, nat_lt, AllByRecursion, eqb-true, eq-eqb, and_from, nat_tests, Step, Release, handle_refusal, ActorSpec, History}
+use Rattle.act_early.proofs.Common.{names, cast_of, is_caller, count_pairs, copies_of, refusal_of, add_event, times-push, At, next_step, with_event, Closes}
 use Rattle.act_rules.specs.declared.event.Event.TheVariants as event
-use Rattle.act_rules.specs.declared.script.Step.{Step}
-use Rattle.act_rules.specs.declared.script.Step.TheVariants.{Release}
-use Rattle.act_rules.specs.Submissions.{handle_refusal}
-use Rattle.act_rules.specs.History.{ActorSpec, History, names, cast_of, is_caller, count_pairs, copies_of}
-use Rattle.act_rules.specs.Rules.{refusal_of, add_event}
-use Rattle.act_rules.proofs.Retired.{times-push}
-use Rattle.act_early.specs.Plays.{At, next_step, with_event, Closes}
 use Rattle.act_early.proofs.Worlds.{world}
 use Rattle.act_early.proofs.Quiesces.{Quiesces, quiesces_same, quiesces_trans, quiet_quiesces}
 use Rattle.act_early.proofs.Listed.{all_callers, all_actors, named_caller, IsOpen, IsWay, Comes, for_all}

@@ -1,13 +1,7 @@
 -- How many steps a caller is done with, and which.
-use Rattle.std.proofs.Common.{◌≡◌, ℕ, zero, suc, ◌+◌, ◌≤◌, Bool, true, false, cond, List, [], ◌∷◌, ◌++◌, length, Some, None, refl, ap, sym, ◌∙◌, subst, arith, length-append}
-use Rattle.std.specs.Prelude.{◌==◌, slice_get, take}
-use Rattle.std.proofs.lemmas.Bool.{eqb-true}
-use Rattle.std.proofs.lemmas.List.{append-nil}
-use Rattle.std.proofs.lemmas.List.Elements.{filter-append}
-use Rattle.act_rules.specs.declared.script.Step.{Step}
-use Rattle.act_rules.specs.Plans.{occurrences}
-use Rattle.act_rules.specs.Consistent.{IsPrefix}
-use Rattle.act_early.specs.Plays.{At, steps_of, next_step}
+use Rattle.act_early.proofs.Common.{◌≡◌, ℕ, zero, suc, ◌+◌, ◌≤◌, Bool, true, false, cond, List, [], ◌∷◌, ◌++◌, length, Some, None, refl, ap, sym, ◌∙◌, subst}
+use Rattle.act_early.proofs.Common.{arith, length-append, ◌==◌, slice_get, take, eqb-true, append-nil, filter-append, Step, occurrences, IsPrefix, At, steps_of}
+use Rattle.act_early.proofs.Common.{next_step}
 
 pub occurrences-push : (d c : ℕ) (xs : List ℕ) → occurrences d (xs ++ c ∷ []) ≡ occurrences d xs + cond (c == d) 1 0
 occurrences-push d c xs = rw (filter-append (λ (b : ℕ). b == d) xs (c ∷ []), length-append) (go (c == d))

@@ -1,22 +1,10 @@
 -- A death is told only to a caller of its actor, and only a dead actor's is.
-use Rattle.std.proofs.Common.{◌≡◌, ℕ, zero, suc, true, List, [], ◌∷◌, Option, Some, None, refl, ap, sym, ◌∙◌, subst, arith, Contains}
-use Rattle.std.specs.Prelude.{◌==◌, find, slice_get}
-use Rattle.std.specs.List.{AllByRecursion}
+use Rattle.act_early.proofs.Common.{◌≡◌, ℕ, zero, suc, true, List, [], ◌∷◌, Option, Some, None, refl, ap, sym, ◌∙◌, subst, arith, Contains, ◌==◌, find}
+use Rattle.act_early.proofs.Common.{slice_get, AllByRecursion, Post, RunItem, NoActor, NoCaller, Handle, NotDead, Step, needs, ActorSpec, History, names}
+use Rattle.act_early.proofs.Common.{cast_of, is_caller, is_dead, next_item, refusal_of, and_also, after_run, All_more, All_at, IsKept, needs-none, IsSoundPost}
+use Rattle.act_early.proofs.Common.{At, IsPlay}
 use Rattle.act_rules.specs.declared.event.Event.TheVariants as event
-use Rattle.act_rules.specs.declared.history.Post.{Post}
 use Rattle.act_rules.specs.declared.history.Post.TheVariants.{Reply as ReplyPost, Death as DeathPost}
-use Rattle.act_rules.specs.declared.history.RunItem.{RunItem}
-use Rattle.act_rules.specs.declared.outcome.HandleRefusal.TheVariants.{NoActor}
-use Rattle.act_rules.specs.declared.outcome.WorldRefusal.TheVariants.{NoCaller, Handle, NotDead}
-use Rattle.act_rules.specs.declared.script.Step.{Step}
-use Rattle.act_rules.specs.Submissions.{needs}
-use Rattle.act_rules.specs.History.{ActorSpec, History, names, cast_of, is_caller, is_dead, next_item}
-use Rattle.act_rules.specs.Rules.{refusal_of, and_also, after_run}
-use Rattle.act_rules.proofs.Lists.{All_more, All_at}
-use Rattle.act_rules.proofs.Steps.{IsKept}
-use Rattle.act_rules.proofs.Ended.{needs-none}
-use Rattle.act_rules.proofs.Posts.{IsSoundPost}
-use Rattle.act_early.specs.Plays.{At, IsPlay}
 use Rattle.act_early.proofs.Worlds.{play_keeps, world}
 
 abbrev IsNamedDeath : List ActorSpec → Post → Type 0

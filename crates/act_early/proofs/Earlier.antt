@@ -1,20 +1,8 @@
 -- What stays while a play goes on.
-use Rattle.std.proofs.Common.{◌≡◌, ℕ, Bool, true, false, List, None, refl, ◌∙◌, subst}
-use Rattle.std.specs.Prelude.{◌||◌}
-use Rattle.act_rules.specs.declared.event.Event.{Event}
+use Rattle.act_early.proofs.Common.{◌≡◌, ℕ, Bool, true, false, List, None, refl, ◌∙◌, subst, ◌||◌, Event, Step, Submit, Copy, Release, Kill, Await, History}
+use Rattle.act_early.proofs.Common.{contains, runs_of, kept_of, is_dead, is_retired, refusal_of, add_event, IsPrefix, whole_front, front_trans, added_grows}
+use Rattle.act_early.proofs.Common.{runs_grow, contains_more, ended_stays, dead_stays, Extends, kept_extends, IsSound, after_step, MayTake}
 use Rattle.act_rules.specs.declared.event.Event.TheVariants as event
-use Rattle.act_rules.specs.declared.script.Step.{Step}
-use Rattle.act_rules.specs.declared.script.Step.TheVariants.{Submit, Copy, Release, Kill, Await}
-use Rattle.act_rules.specs.History.{History, contains, runs_of, kept_of, is_dead, is_retired}
-use Rattle.act_rules.specs.Rules.{refusal_of, add_event}
-use Rattle.act_rules.specs.Consistent.{IsPrefix}
-use Rattle.act_rules.proofs.Lists.{whole_front, front_trans}
-use Rattle.act_rules.proofs.Growth.{added_grows, runs_grow}
-use Rattle.act_rules.proofs.Ended.{contains_more, ended_stays, dead_stays}
-use Rattle.act_rules.proofs.Settling.{Extends}
-use Rattle.act_rules.proofs.Letters.{kept_extends}
-use Rattle.act_rules.proofs.Sound.{IsSound}
-use Rattle.act_early.specs.Plays.{after_step, MayTake}
 
 pub record IsEarlier (h g : History) : Type 0 where
   pub runs : (a : ℕ) → IsPrefix (runs_of a h) (runs_of a g)

@@ -1,15 +1,8 @@
 -- Early plays have all ends.
-use Rattle.std.proofs.Common.{◌≡◌, ℕ, Bool, true, false, List, [], Option, Some, None, refl, ap, sym, ◌∙◌}
-use Rattle.std.specs.Prelude.{is_some}
+use Rattle.act_early.proofs.Common.{◌≡◌, ℕ, Bool, true, false, List, [], Option, Some, None, refl, ap, sym, ◌∙◌, is_some, RunItem, Step, ActorSpec, History}
+use Rattle.act_early.proofs.Common.{under, contains, runs_of, next_item, refusal_of, At, opened, IsPlay, Opens, choices_of, IsQuiescent, HasRunMore}
+use Rattle.act_early.proofs.Common.{HasTakenMore, IsWholeSearch, IsEnded, EndsAlike, HaveSameChoices, IsEarly, Starts, RunsMore, TakesMore}
 use Rattle.act_rules.specs.declared.event.Event.TheVariants as event
-use Rattle.act_rules.specs.declared.history.RunItem.{RunItem}
-use Rattle.act_rules.specs.declared.script.Step.{Step}
-use Rattle.act_rules.specs.History.{ActorSpec, History, under, contains, runs_of, next_item}
-use Rattle.act_rules.specs.Rules.{refusal_of}
-use Rattle.act_early.specs.Plays.{At, opened, IsPlay, Opens}
-use Rattle.act_early.specs.Early.{choices_of, IsQuiescent, HasRunMore, HasTakenMore, IsWholeSearch, IsEnded, EndsAlike}
-use Rattle.act_early.specs.Fronts.{HaveSameChoices}
-use Rattle.act_early.specs.Quiescence.{IsEarly, Starts, RunsMore, TakesMore}
 use Rattle.act_early.proofs.Worlds.{or_second}
 use Rattle.act_early.proofs.Ending.{enough}
 use Rattle.act_early.proofs.Listed.{IsOpen}

@@ -1,23 +1,11 @@
 -- Where the late play is ended, the one that was seen ends alike.
-use Rattle.std.proofs.Common.{◌≡◌, ℕ, suc, ◌+◌, ◌≤◌, Bool, true, false, List, [], ◌∷◌, length, Option, Some, None, refl, ap, sym, ◌∙◌, subst, arith}
-use Rattle.std.specs.Prelude.{◌==◌, ◌||◌, find, filter_map, slice_get, is_some}
-use Rattle.std.specs.List.{list_all, enumerate_from}
-use Rattle.std.proofs.lemmas.Bool.{eq-eqb, and_from}
-use Rattle.std.proofs.lemmas.List.{length-map}
-use Rattle.std.proofs.lemmas.Option.{slice_get_past}
+use Rattle.act_early.proofs.Common.{◌≡◌, ℕ, suc, ◌+◌, ◌≤◌, Bool, true, false, List, [], ◌∷◌, length, Option, Some, None, refl, ap, sym, ◌∙◌, subst, arith, ◌==◌}
+use Rattle.act_early.proofs.Common.{◌||◌, find, filter_map, slice_get, is_some, list_all, enumerate_from, eq-eqb, and_from, length-map, slice_get_past, RunItem}
+use Rattle.act_early.proofs.Common.{Submission, Step, Answer, items_of, calls_to, kept_at, ActorSpec, History, contains, callers_in, cast_of, runs_of, calls_of}
+use Rattle.act_early.proofs.Common.{kept_of, is_retired, is_ended, has_letter, ran_count, is_done, is_drained, first_answer, refusal_of, kept_at_is, kept_by}
+use Rattle.act_early.proofs.Common.{ran_all, At, steps_of, next_step, IsPlay, IsWholeSearch, IsEnded, LosesOnly, EndsAlike}
 use Rattle.act_rules.specs.declared.event.Event.TheVariants as event
-use Rattle.act_rules.specs.declared.history.RunItem.{RunItem}
-use Rattle.act_rules.specs.declared.history.Submission.{Submission}
 use Rattle.act_rules.specs.declared.history.Letter.TheVariants.{Note as NoteLetter}
-use Rattle.act_rules.specs.declared.script.Step.{Step}
-use Rattle.act_rules.specs.RunList.{Answer, items_of}
-use Rattle.act_rules.specs.Submissions.{calls_to, kept_at}
-use Rattle.act_rules.specs.History.{ActorSpec, History, contains, callers_in, cast_of, runs_of, calls_of, kept_of, is_retired, is_ended, has_letter, ran_count, is_done, is_drained, first_answer}
-use Rattle.act_rules.specs.Rules.{refusal_of}
-use Rattle.act_rules.proofs.Kept.{kept_at_is, kept_by}
-use Rattle.act_rules.proofs.RanAll.{ran_all}
-use Rattle.act_early.specs.Plays.{At, steps_of, next_step, IsPlay}
-use Rattle.act_early.specs.Early.{IsWholeSearch, IsEnded, LosesOnly, EndsAlike}
 use Rattle.act_early.proofs.Counting.{past_none, take-past}
 use Rattle.act_early.proofs.Progress.{Follows, follows, submission_in}
 use Rattle.act_early.proofs.Earlier.{earlier_same}

@@ -1,15 +1,6 @@
 -- The end of a list that keeps to plans is found.
-use Rattle.std.proofs.Common.{◌≡◌, ℕ, Bool, List, sym, ◌∙◌, subst, All, Contains}
-use Rattle.std.specs.Prelude.{IsOk}
-use Rattle.act_rules.specs.declared.event.Event.{Event}
-use Rattle.act_rules.specs.declared.script.Step.{Step}
-use Rattle.act_rules.specs.History.{ActorSpec, opening}
-use Rattle.act_rules.specs.Laws.{history}
-use Rattle.act_rules.specs.Rules.{outcomes}
-use Rattle.act_early.specs.Plays.{At, IsPlay}
-use Rattle.act_early.specs.Early.{IsWholeSearch, IsOver, IsEnded, LosesOnly, EndsAlike}
-use Rattle.act_early.specs.Quiescence.{IsEarly, IsSameEnd}
-use Rattle.act_early.specs.Lists.{KeepsToPlans}
+use Rattle.act_early.proofs.Common.{◌≡◌, ℕ, Bool, List, sym, ◌∙◌, subst, All, Contains, IsOk, Event, Step, ActorSpec, opening, history, outcomes, At, IsPlay}
+use Rattle.act_early.proofs.Common.{IsWholeSearch, IsOver, IsEnded, LosesOnly, EndsAlike, IsEarly, IsSameEnd, KeepsToPlans}
 use Rattle.act_early.proofs.Ending.{enough}
 use Rattle.act_early.proofs.Early.{early_play, early_ends}
 use Rattle.act_early.proofs.Retires.{retired_play}

@@ -1,24 +1,10 @@
 -- The early play ran the same call where the late one runs its next.
-use Rattle.std.proofs.Common.{◌≡◌, ℕ, ◌+◌, true, List, length, Option, Some, refl, ap, sym, ◌∙◌, subst, arith}
-use Rattle.std.specs.Prelude.{◌==◌, map, filter, take, slice_get, option_map}
-use Rattle.std.specs.List.{list_all}
-use Rattle.std.proofs.lemmas.Bool.{eq-eqb}
-use Rattle.std.proofs.lemmas.Option.{slice_get-map}
-use Rattle.std.proofs.Math.Seq.{take-append_seam}
-use Rattle.act_rules.specs.declared.history.RunItem.{RunItem}
-use Rattle.act_rules.specs.declared.history.Submission.{Submission}
+use Rattle.act_early.proofs.Common.{◌≡◌, ℕ, ◌+◌, true, List, length, Option, Some, refl, ap, sym, ◌∙◌, subst, arith, ◌==◌, map, filter, take, slice_get}
+use Rattle.act_early.proofs.Common.{option_map, list_all, eq-eqb, slice_get-map, take-append_seam, RunItem, Submission, items_of, calls_to, is_known, settle}
+use Rattle.act_early.proofs.Common.{IsPrefix, IsAsSubmitted, History, runs_of, calls_of, kept_of, ran_count, run_item, next_item, slice_get_front}
+use Rattle.act_early.proofs.Common.{slice_get-filter, slice_get-enumerate_from, All_at, calls_to_grow, Extends, arguments_stay, IsSoundLetter, has_letter-sound}
+use Rattle.act_early.proofs.Common.{IsNext, next_item_is, numbered, numbers, calls_to-at, IsSound, consistent}
 use Rattle.act_rules.specs.declared.history.Letter.TheVariants.{Call as CallLetter}
-use Rattle.act_rules.specs.RunList.{items_of}
-use Rattle.act_rules.specs.Submissions.{calls_to, is_known, settle}
-use Rattle.act_rules.specs.Consistent.{IsPrefix, IsAsSubmitted}
-use Rattle.act_rules.specs.History.{History, runs_of, calls_of, kept_of, ran_count, run_item, next_item}
-use Rattle.act_rules.proofs.Lists.{slice_get_front, slice_get-filter, slice_get-enumerate_from, All_at}
-use Rattle.act_rules.proofs.Growth.{calls_to_grow}
-use Rattle.act_rules.proofs.Settling.{Extends, arguments_stay}
-use Rattle.act_rules.proofs.Letters.{IsSoundLetter, has_letter-sound}
-use Rattle.act_rules.proofs.Order.{IsNext, next_item_is, numbered, numbers}
-use Rattle.act_rules.proofs.AsSubmitted.{calls_to-at}
-use Rattle.act_rules.proofs.Sound.{IsSound, consistent}
 
 -- the call that runs next, with arguments that are known
 pub record IsReady (a c : ℕ) (h : History) (item : RunItem) : Type 0 where

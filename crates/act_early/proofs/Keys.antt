@@ -1,15 +1,7 @@
 -- Quiescent plays with the same choices are alike.
-use Rattle.std.proofs.Common.{◌≡◌, ℕ, List, length, Option, Some, None, refl, sym, ◌∙◌, arith}
-use Rattle.std.proofs.lemmas.List.{length-map}
-use Rattle.act_rules.specs.declared.history.RunItem.{RunItem}
-use Rattle.act_rules.specs.declared.script.Step.{Step}
-use Rattle.act_rules.specs.RunList.{Answer}
-use Rattle.act_rules.specs.Submissions.{kept_at}
-use Rattle.act_rules.specs.History.{ActorSpec, History, runs_of, calls_of, kept_of}
-use Rattle.act_rules.proofs.Settling.{Extends}
-use Rattle.act_early.specs.Plays.{At, IsPlay}
-use Rattle.act_early.specs.Early.{is_heard, choices_of, IsQuiescent, IsEnded, EndsAlike}
-use Rattle.act_early.specs.Fronts.{HaveSameChoices, AreAlike}
+use Rattle.act_early.proofs.Common.{◌≡◌, ℕ, List, length, Option, Some, None, refl, sym, ◌∙◌, arith, length-map, RunItem, Step, Answer, kept_at, ActorSpec}
+use Rattle.act_early.proofs.Common.{History, runs_of, calls_of, kept_of, Extends, At, IsPlay, is_heard, choices_of, IsQuiescent, IsEnded, EndsAlike}
+use Rattle.act_early.proofs.Common.{HaveSameChoices, AreAlike}
 use Rattle.act_early.proofs.Worlds.{world}
 use Rattle.act_early.proofs.Counting.{take-past}
 use Rattle.act_early.proofs.Progress.{follows}

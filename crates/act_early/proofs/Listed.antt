@@ -1,13 +1,6 @@
 -- Lists of all callers and all actors, and going on for each of them.
-use Rattle.std.proofs.Common.{◌≡◌, ℕ, Bool, true, false, cond, List, [], ◌∷◌, ◌++◌, Some, refl, ◌∙◌, subst}
-use Rattle.std.specs.Prelude.{◌==◌, ◌||◌, map, find}
-use Rattle.std.specs.List.{AllByRecursion, list_any}
-use Rattle.std.proofs.lemmas.Bool.{eqb-true}
-use Rattle.std.proofs.lemmas.List.Folds.{list_any-append}
-use Rattle.act_rules.specs.declared.script.Step.{Step}
-use Rattle.act_rules.specs.History.{ActorSpec, contains, names}
-use Rattle.act_rules.proofs.Lists.{All_weaker}
-use Rattle.act_early.specs.Plays.{At, IsPlay}
+use Rattle.act_early.proofs.Common.{◌≡◌, ℕ, Bool, true, false, cond, List, [], ◌∷◌, ◌++◌, Some, refl, ◌∙◌, subst, ◌==◌, ◌||◌, map, find, AllByRecursion}
+use Rattle.act_early.proofs.Common.{list_any, eqb-true, list_any-append, Step, ActorSpec, contains, names, All_weaker, At, IsPlay}
 use Rattle.act_early.proofs.Worlds.{or_second}
 
 -- ---- all callers and all actors

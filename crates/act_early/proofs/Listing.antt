@@ -1,21 +1,11 @@
 -- A list of events that keeps to plans is a play of them.
-use Rattle.std.proofs.Common.{◌≡◌, ℕ, suc, Bool, true, false, List, [], ◌∷◌, ◌++◌, drop, Option, Some, None, inl, inr, refl, ap, sym, ◌∙◌, subst, arith, append_assoc, All, Contains}
-use Rattle.std.specs.Prelude.{◌==◌, slice_get, is_some, IsOk}
-use Rattle.std.specs.List.{AllByRecursion}
-use Rattle.std.proofs.lemmas.Bool.{eqb-true, eq-eqb}
-use Rattle.std.proofs.lemmas.List.{append-nil}
-use Rattle.act_rules.specs.declared.event.Event.{Event}
+use Rattle.act_early.proofs.Common.{◌≡◌, ℕ, suc, Bool, true, false, List, [], ◌∷◌, ◌++◌, drop, Option, Some, None, inl, inr, refl, ap, sym, ◌∙◌, subst, arith}
+use Rattle.act_early.proofs.Common.{append_assoc, All, Contains, ◌==◌, slice_get, is_some, IsOk, AllByRecursion, eqb-true, eq-eqb, append-nil, Event}
+use Rattle.act_early.proofs.Common.{WorldRefusal, Step, Submit, Copy, Release, Kill, Await, kept_at, ActorSpec, History, opening, contains, kept_of, history}
+use Rattle.act_early.proofs.Common.{refusal_of, outcome_by, outcome_of, outcomes, after, At, opened, steps_of, next_step, taken, skipped, with_event, is_free}
+use Rattle.act_early.proofs.Common.{IsPlay, Opens, Happens, is_step_by, DoesStepBy, DoesStepsBy, KeepsToPlans}
 use Rattle.act_rules.specs.declared.event.Event.TheVariants as event
 use Rattle.act_rules.specs.declared.history.Post.TheVariants.{Death as DeathPost}
-use Rattle.act_rules.specs.declared.outcome.WorldRefusal.{WorldRefusal}
-use Rattle.act_rules.specs.declared.script.Step.{Step}
-use Rattle.act_rules.specs.declared.script.Step.TheVariants.{Submit, Copy, Release, Kill, Await}
-use Rattle.act_rules.specs.Submissions.{kept_at}
-use Rattle.act_rules.specs.History.{ActorSpec, History, opening, contains, kept_of}
-use Rattle.act_rules.specs.Laws.{history}
-use Rattle.act_rules.specs.Rules.{refusal_of, outcome_by, outcome_of, outcomes, after}
-use Rattle.act_early.specs.Plays.{At, opened, steps_of, next_step, taken, skipped, with_event, is_free, IsPlay, Opens, Happens}
-use Rattle.act_early.specs.Lists.{is_step_by, DoesStepBy, DoesStepsBy, KeepsToPlans}
 use Rattle.act_early.proofs.Worlds.{world}
 use Rattle.act_early.proofs.Deaths.{collected_death}
 use Rattle.act_early.proofs.Listed.{all_callers, all_listed}

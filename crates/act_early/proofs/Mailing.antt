@@ -1,23 +1,12 @@
 -- Each letter can be sent and delivered.
-use Rattle.std.proofs.Common.{◌≡◌, ℕ, zero, suc, ◌<◌, ◌≤◌, Bool, true, false, List, [], ◌∷◌, ◌++◌, length, Option, Some, None, inl, inr, ◌⊎◌, refl, ap, sym, ◌∙◌, subst, arith}
-use Rattle.std.specs.Prelude.{◌||◌, not, slice_get, option_map, is_some}
-use Rattle.std.specs.List.{AllByRecursion, list_all}
-use Rattle.std.proofs.lemmas.Bool.{cases_lt}
-use Rattle.std.proofs.lemmas.Option.{slice_get_past}
+use Rattle.act_early.proofs.Common.{◌≡◌, ℕ, zero, suc, ◌<◌, ◌≤◌, Bool, true, false, List, [], ◌∷◌, ◌++◌, length, Option, Some, None, inl, inr, ◌⊎◌, refl, ap}
+use Rattle.act_early.proofs.Common.{sym, ◌∙◌, subst, arith, ◌||◌, not, slice_get, option_map, is_some, AllByRecursion, list_all, cases_lt, slice_get_past}
+use Rattle.act_early.proofs.Common.{Letter, Submission, Step, Submit, Copy, Release, Kill, Await, Answer, NoCaller, Sending, calls_to, kept_at, is_known, needs}
+use Rattle.act_early.proofs.Common.{send_refusal, ActorSpec, History, under, is_caller, calls_of, copies_of, kept_of, is_ended, has_letter, refusal_of}
+use Rattle.act_early.proofs.Common.{add_event, and_also, letter_actor, call_letter, was_sent, deliver_refusal, slice_get_last, added_grows, At, MayTake}
+use Rattle.act_early.proofs.Common.{with_event, Happens}
 use Rattle.act_rules.specs.declared.event.Event.TheVariants as event
-use Rattle.act_rules.specs.declared.history.Letter.{Letter}
 use Rattle.act_rules.specs.declared.history.Letter.TheVariants.{Note as NoteLetter}
-use Rattle.act_rules.specs.declared.history.Submission.{Submission}
-use Rattle.act_rules.specs.declared.script.Step.{Step}
-use Rattle.act_rules.specs.declared.script.Step.TheVariants.{Submit, Copy, Release, Kill, Await}
-use Rattle.act_rules.specs.RunList.{Answer}
-use Rattle.act_rules.specs.declared.outcome.WorldRefusal.TheVariants.{NoCaller, Sending}
-use Rattle.act_rules.specs.Submissions.{calls_to, kept_at, is_known, needs, send_refusal}
-use Rattle.act_rules.specs.History.{ActorSpec, History, under, is_caller, calls_of, copies_of, kept_of, is_ended, has_letter}
-use Rattle.act_rules.specs.Rules.{refusal_of, add_event, and_also, letter_actor, call_letter, was_sent, deliver_refusal}
-use Rattle.act_rules.proofs.Lists.{slice_get_last}
-use Rattle.act_rules.proofs.Growth.{added_grows}
-use Rattle.act_early.specs.Plays.{At, MayTake, with_event, Happens}
 use Rattle.act_early.proofs.Worlds.{world, or_second}
 use Rattle.act_early.proofs.Replies.{named_call}
 use Rattle.act_early.proofs.Quiesces.{Quiesces, quiesces_same, quiesces_trans, quiet_quiesces}

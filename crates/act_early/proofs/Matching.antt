@@ -1,24 +1,9 @@
 -- A quiescent play with the same choices keeps each answer that the late play keeps.
-use Rattle.std.proofs.Common.{◌≡◌, ℕ, ◌≤◌, Bool, true, false, List, length, Option, Some, None, refl, ap, sym, ◌∙◌, subst}
-use Rattle.std.specs.Prelude.{◌==◌, ◌||◌, filter_map, slice_get, option_map, option_and_then, find, Err}
-use Rattle.std.proofs.lemmas.List.Elements.{filter_map-append}
-use Rattle.std.proofs.lemmas.Option.{slice_get-map}
-use Rattle.act_types.specs.KindState.{KindState}
-use Rattle.act_types.specs.declared.call.Fault.TheVariants.{ActorDied}
-use Rattle.act_rules.specs.declared.history.RunItem.{RunItem}
-use Rattle.act_rules.specs.declared.history.Submission.{Submission}
-use Rattle.act_rules.specs.declared.script.Step.{Step}
-use Rattle.act_rules.specs.RunList.{Answer, answer_at, has_terminated}
-use Rattle.act_rules.specs.Submissions.{kept_at}
-use Rattle.act_rules.specs.History.{ActorSpec, History, contains, runs_of, calls_of, kept_of, opening_of, is_dead}
-use Rattle.act_rules.specs.Consistent.{IsPrefix, IsCallToDead}
-use Rattle.act_rules.proofs.Lists.{slice_get_front}
-use Rattle.act_rules.proofs.Kept.{answer_at-front}
-use Rattle.act_rules.proofs.Settling.{Extends}
-use Rattle.act_rules.proofs.Sound.{answers_are, deaths_are}
-use Rattle.act_rules.proofs.Unique.{held_submission}
-use Rattle.act_early.specs.Plays.{At, steps_of}
-use Rattle.act_early.specs.Early.{is_reply, is_heard, choices_of, IsQuiescent}
+use Rattle.act_early.proofs.Common.{◌≡◌, ℕ, ◌≤◌, Bool, true, false, List, length, Option, Some, None, refl, ap, sym, ◌∙◌, subst, ◌==◌, ◌||◌, filter_map}
+use Rattle.act_early.proofs.Common.{slice_get, option_map, option_and_then, find, Err, filter_map-append, slice_get-map, KindState, ActorDied, RunItem}
+use Rattle.act_early.proofs.Common.{Submission, Step, Answer, answer_at, has_terminated, kept_at, ActorSpec, History, contains, runs_of, calls_of, kept_of}
+use Rattle.act_early.proofs.Common.{opening_of, is_dead, IsPrefix, IsCallToDead, slice_get_front, answer_at-front, Extends, answers_are, deaths_are}
+use Rattle.act_early.proofs.Common.{held_submission, At, steps_of, is_reply, is_heard, choices_of, IsQuiescent}
 use Rattle.act_early.proofs.Worlds.{IsWorld, either_of, or_second}
 use Rattle.act_early.proofs.Counting.{take-prefix}
 use Rattle.act_early.proofs.Progress.{Follows, submission_in}

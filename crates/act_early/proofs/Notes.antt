@@ -1,24 +1,11 @@
 -- A caller that holds no copy of a handle sent its note.
-use Rattle.std.proofs.Common.{◌≡◌, ℕ, zero, suc, ◌+◌, ◌-◌, Bool, true, false, cond, List, [], ◌∷◌, ◌++◌, length, Option, Some, None, refl, ap, sym, ◌∙◌, subst, arith}
-use Rattle.std.specs.Prelude.{◌==◌, ◌&&◌, ◌||◌, find, slice_get}
-use Rattle.std.proofs.lemmas.Bool.{eqb-true, eq-eqb, and_parts, and_from}
-use Rattle.std.proofs.lemmas.List.Folds.{list_any-append}
-use Rattle.act_rules.specs.declared.event.Event.{Event}
+use Rattle.act_early.proofs.Common.{◌≡◌, ℕ, zero, suc, ◌+◌, ◌-◌, Bool, true, false, cond, List, [], ◌∷◌, ◌++◌, length, Option, Some, None, refl, ap, sym, ◌∙◌}
+use Rattle.act_early.proofs.Common.{subst, arith, ◌==◌, ◌&&◌, ◌||◌, find, slice_get, eqb-true, eq-eqb, and_parts, and_from, list_any-append, Event, RunItem}
+use Rattle.act_early.proofs.Common.{Submission, Letter, Step, calls_to, copies_held, ActorSpec, History, opening, names, cast_of, count_pairs, calls_of}
+use Rattle.act_early.proofs.Common.{copies_of, is_letter, has_letter, next_item, add_event, and_also, after_run, is_last, IsPrefix, IsKept, added_grows}
+use Rattle.act_early.proofs.Common.{letter_is, times-push, gone_step, At, IsPlay}
 use Rattle.act_rules.specs.declared.event.Event.TheVariants as event
-use Rattle.act_rules.specs.declared.history.RunItem.{RunItem}
-use Rattle.act_rules.specs.declared.history.Submission.{Submission}
-use Rattle.act_rules.specs.declared.history.Letter.{Letter}
 use Rattle.act_rules.specs.declared.history.Letter.TheVariants.{Call as CallLetter, Note as NoteLetter}
-use Rattle.act_rules.specs.declared.script.Step.{Step}
-use Rattle.act_rules.specs.Submissions.{calls_to, copies_held}
-use Rattle.act_rules.specs.History.{ActorSpec, History, opening, names, cast_of, count_pairs, calls_of, copies_of, is_letter, has_letter, next_item}
-use Rattle.act_rules.specs.Rules.{add_event, and_also, after_run, is_last}
-use Rattle.act_rules.specs.Consistent.{IsPrefix}
-use Rattle.act_rules.proofs.Steps.{IsKept}
-use Rattle.act_rules.proofs.Growth.{added_grows}
-use Rattle.act_rules.proofs.Letters.{letter_is}
-use Rattle.act_rules.proofs.Retired.{times-push, gone_step}
-use Rattle.act_early.specs.Plays.{At, IsPlay}
 use Rattle.act_early.proofs.Worlds.{play_keeps, or_second}
 
 -- ---- letters

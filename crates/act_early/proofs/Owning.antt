@@ -1,20 +1,10 @@
 -- In a list that keeps to plans, a caller's own event is its next step.
-use Rattle.std.proofs.Common.{◌≡◌, ℕ, zero, suc, ◌+◌, Bool, true, false, cond, List, [], ◌∷◌, ◌++◌, drop, Some, None, inl, inr, refl, ap, sym, ◌∙◌, subst, arith, Contains}
-use Rattle.std.specs.Prelude.{◌==◌, map, slice_get, is_some}
-use Rattle.std.proofs.lemmas.Bool.{eq-eqb}
-use Rattle.std.proofs.lemmas.List.{append-nil}
-use Rattle.act_rules.specs.declared.event.Event.{Event}
+use Rattle.act_early.proofs.Common.{◌≡◌, ℕ, zero, suc, ◌+◌, Bool, true, false, cond, List, [], ◌∷◌, ◌++◌, drop, Some, None, inl, inr, refl, ap, sym, ◌∙◌, subst}
+use Rattle.act_early.proofs.Common.{arith, Contains, ◌==◌, map, slice_get, is_some, eq-eqb, append-nil, Event, Step, Submit, Copy, Release, Kill, Await}
+use Rattle.act_early.proofs.Common.{kept_at, occurrences, ActorSpec, History, kept_of, history, refusal_of, add_event, after_by, At, steps_of, next_step}
+use Rattle.act_early.proofs.Common.{after_step, MayTake, taken, skipped, with_event, IsPlay, Takes, Skips, Closes, is_step_by, AreOthers, DoesStepsBy}
 use Rattle.act_rules.specs.declared.event.Event.TheVariants as event
 use Rattle.act_rules.specs.declared.history.Post.TheVariants.{Death as DeathPost}
-use Rattle.act_rules.specs.declared.script.Step.{Step}
-use Rattle.act_rules.specs.declared.script.Step.TheVariants.{Submit, Copy, Release, Kill, Await}
-use Rattle.act_rules.specs.Submissions.{kept_at}
-use Rattle.act_rules.specs.Plans.{occurrences}
-use Rattle.act_rules.specs.History.{ActorSpec, History, kept_of}
-use Rattle.act_rules.specs.Laws.{history}
-use Rattle.act_rules.specs.Rules.{refusal_of, add_event, after_by}
-use Rattle.act_early.specs.Plays.{At, steps_of, next_step, after_step, MayTake, taken, skipped, with_event, IsPlay, Takes, Skips, Closes}
-use Rattle.act_early.specs.Lists.{is_step_by, AreOthers, DoesStepsBy}
 use Rattle.act_early.proofs.Counting.{occurrences-push}
 use Rattle.act_early.proofs.Deaths.{collected_death}
 use Rattle.act_early.proofs.Shifting.{head_same, tail_same, others_first, one_after}

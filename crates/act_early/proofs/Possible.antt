@@ -1,34 +1,16 @@
 -- What the late play may choose, a quiescent play with the same choices so far may choose.
-use Rattle.std.proofs.Common.{◌≡◌, ℕ, ◌≤◌, Bool, true, false, List, length, Option, Some, None, refl, ap, sym, ◌∙◌, subst}
-use Rattle.std.specs.Prelude.{◌==◌, ◌||◌, find, map, slice_get, is_some}
-use Rattle.std.specs.List.{list_all, list_any}
-use Rattle.std.proofs.lemmas.List.Folds.{list_any-append}
-use Rattle.act_types.specs.declared.call.Settled.{Settled}
+use Rattle.act_early.proofs.Common.{◌≡◌, ℕ, ◌≤◌, Bool, true, false, List, length, Option, Some, None, refl, ap, sym, ◌∙◌, subst, ◌==◌, ◌||◌, find, map}
+use Rattle.act_early.proofs.Common.{slice_get, is_some, list_all, list_any, list_any-append, Settled, RunItem, Submission, Letter, Step, is_kill_of, calls_to}
+use Rattle.act_early.proofs.Common.{number_of, kept_at, is_known, settle, ActorSpec, History, contains, names, is_caller, cast_of, runs_of, calls_of, kept_of}
+use Rattle.act_early.proofs.Common.{is_dead, is_retired, is_ended, has_letter, ran_count, next_item, refusal_of, call_letter, items_of, IsPrefix}
+use Rattle.act_early.proofs.Common.{slice_get_front, calls_to_grow, run_needs, Extends, arguments_stay, calls_to-at, At, steps_of, IsPlay, IsQuiescent, IsSound}
 use Rattle.act_rules.specs.declared.event.Event.TheVariants as event
-use Rattle.act_rules.specs.declared.history.RunItem.{RunItem}
-use Rattle.act_rules.specs.declared.history.Submission.{Submission}
-use Rattle.act_rules.specs.declared.history.Letter.{Letter}
 use Rattle.act_rules.specs.declared.history.Letter.TheVariants.{Call as CallLetter}
-use Rattle.act_rules.specs.declared.script.Step.{Step}
-use Rattle.act_rules.specs.Plans.{is_kill_of}
-use Rattle.act_rules.specs.Submissions.{calls_to, number_of, kept_at, is_known, settle}
-use Rattle.act_rules.specs.History.{ActorSpec, History, contains, names, is_caller, cast_of, runs_of, calls_of, kept_of, is_dead, is_retired, is_ended, has_letter, ran_count, next_item}
-use Rattle.act_rules.specs.Rules.{refusal_of, call_letter}
-use Rattle.act_rules.specs.RunList.{items_of}
-use Rattle.act_rules.specs.Consistent.{IsPrefix}
-use Rattle.act_rules.proofs.Lists.{slice_get_front}
-use Rattle.act_rules.proofs.Growth.{calls_to_grow}
-use Rattle.act_rules.proofs.Ended.{run_needs}
-use Rattle.act_rules.proofs.Settling.{Extends, arguments_stay}
-use Rattle.act_rules.proofs.AsSubmitted.{calls_to-at}
-use Rattle.act_early.specs.Plays.{At, steps_of, IsPlay}
-use Rattle.act_early.specs.Early.{IsQuiescent}
 use Rattle.act_early.proofs.Worlds.{take_needs}
 use Rattle.act_early.proofs.Counting.{done_steps, take-prefix}
 use Rattle.act_early.proofs.Asking.{asks_all, asked_by}
 use Rattle.act_early.proofs.Items.{IsReady}
 use Rattle.act_early.proofs.Unanswered.{number_is, next_unanswered}
-use Rattle.act_rules.proofs.Sound.{IsSound}
 
 -- ---- a run
 

@@ -1,20 +1,10 @@
 -- What a caller submitted, copied and released is what the steps say that it is done with.
-use Rattle.std.proofs.Common.{◌≡◌, ℕ, ◌+◌, Bool, true, false, cond, List, [], ◌∷◌, ◌++◌, length, Some, None, refl, ap, sym, ◌∙◌, subst, arith, length-append}
-use Rattle.std.specs.Prelude.{Option, ◌==◌, ◌&&◌, filter, filter_map}
-use Rattle.std.proofs.lemmas.Bool.{eqb-true}
-use Rattle.std.proofs.lemmas.List.{append-nil}
-use Rattle.std.proofs.lemmas.List.Elements.{filter-append, filter_map-append}
-use Rattle.act_rules.specs.declared.event.Event.{Event}
+use Rattle.act_early.proofs.Common.{◌≡◌, ℕ, ◌+◌, Bool, true, false, cond, List, [], ◌∷◌, ◌++◌, length, Some, None, refl, ap, sym, ◌∙◌, subst, arith}
+use Rattle.act_early.proofs.Common.{length-append, Option, ◌==◌, ◌&&◌, filter, filter_map, eqb-true, append-nil, filter-append, filter_map-append, Event}
+use Rattle.act_early.proofs.Common.{RunItem, Submission, Step, Submit, Copy, Release, Kill, Await, ActorSpec, History, count_pairs, calls_of, next_item}
+use Rattle.act_early.proofs.Common.{add_event, after_run, under-push, times-push, At, next_step, after_step, taken, skipped, with_event, is_free, IsPlay, Opens}
+use Rattle.act_early.proofs.Common.{Takes, Skips, Closes, Happens}
 use Rattle.act_rules.specs.declared.event.Event.TheVariants as event
-use Rattle.act_rules.specs.declared.history.RunItem.{RunItem}
-use Rattle.act_rules.specs.declared.history.Submission.{Submission}
-use Rattle.act_rules.specs.declared.script.Step.{Step}
-use Rattle.act_rules.specs.declared.script.Step.TheVariants.{Submit, Copy, Release, Kill, Await}
-use Rattle.act_rules.specs.History.{ActorSpec, History, count_pairs, calls_of, next_item}
-use Rattle.act_rules.specs.Rules.{add_event, after_run}
-use Rattle.act_rules.proofs.Ended.{under-push}
-use Rattle.act_rules.proofs.Retired.{times-push}
-use Rattle.act_early.specs.Plays.{At, next_step, after_step, taken, skipped, with_event, is_free, IsPlay, Opens, Takes, Skips, Closes, Happens}
 use Rattle.act_early.proofs.Counting.{done_steps, done-push, other_next}
 
 -- ---- what steps say

@@ -1,19 +1,8 @@
 -- A play can be quiescent: deaths told, steps taken, handles let go, letters sent and delivered.
-use Rattle.std.proofs.Common.{◌≡◌, ℕ, true, List, Option, Some, None, refl, ap, sym, ◌∙◌, subst}
-use Rattle.std.specs.Prelude.{◌==◌, find, is_some, option_map}
-use Rattle.std.specs.List.{AllByRecursion}
-use Rattle.act_rules.specs.declared.script.Step.{Step}
-use Rattle.act_rules.specs.declared.script.Step.TheVariants.{Submit, Copy, Release, Kill, Await}
+use Rattle.act_early.proofs.Common.{◌≡◌, ℕ, true, List, Option, Some, None, refl, ap, sym, ◌∙◌, subst, ◌==◌, find, is_some, option_map, AllByRecursion, Step}
+use Rattle.act_early.proofs.Common.{Submit, Copy, Release, Kill, Await, Answer, kept_at, copy_refusal, handle_refusal, ActorSpec, History, contains, names}
+use Rattle.act_early.proofs.Common.{cast_of, is_caller, copies_of, kept_of, submission_refusal, needs-none, copies_named, kept_from, At, MayTake, IsQuiescent}
 use Rattle.act_rules.specs.declared.outcome.WorldRefusal.TheVariants.{Submit as SubmitRefused, Handle, NoCaller}
-use Rattle.act_rules.specs.RunList.{Answer}
-use Rattle.act_rules.specs.Submissions.{kept_at, copy_refusal, handle_refusal}
-use Rattle.act_rules.specs.History.{ActorSpec, History, contains, names, cast_of, is_caller, copies_of, kept_of}
-use Rattle.act_rules.specs.Rules.{submission_refusal}
-use Rattle.act_rules.proofs.Ended.{needs-none}
-use Rattle.act_rules.proofs.RanAll.{copies_named}
-use Rattle.act_rules.proofs.Sound.{kept_from}
-use Rattle.act_early.specs.Plays.{At, MayTake}
-use Rattle.act_early.specs.Early.{IsQuiescent}
 use Rattle.act_early.proofs.Worlds.{IsWorld, world}
 use Rattle.act_early.proofs.Replies.{named_call}
 use Rattle.act_early.proofs.Quiesces.{Quiesces, quiesces_trans}

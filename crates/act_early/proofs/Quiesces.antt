@@ -1,21 +1,10 @@
 -- Going on without a choice.
-use Rattle.std.proofs.Common.{◌≡◌, ℕ, Bool, true, false, List, [], ◌∷◌, ◌++◌, Option, Some, None, refl, ap, sym, ◌∙◌, subst}
-use Rattle.std.specs.Prelude.{◌==◌, ◌||◌, find, slice_get, is_some}
-use Rattle.act_rules.specs.declared.event.Event.{Event}
+use Rattle.act_early.proofs.Common.{◌≡◌, ℕ, Bool, true, false, List, [], ◌∷◌, ◌++◌, Option, Some, None, refl, ap, sym, ◌∙◌, subst, ◌==◌, ◌||◌, find, slice_get}
+use Rattle.act_early.proofs.Common.{is_some, Event, RunItem, Post, Step, Submit, Copy, Release, Kill, Await, ActorSpec, History, under, contains, cast_of}
+use Rattle.act_early.proofs.Common.{names, runs_of, is_dead, refusal_of, add_event, and_also, IsPrefix, has_terminated, whole_front, front_trans, added_grows}
+use Rattle.act_early.proofs.Common.{At, next_step, MayTake, taken, skipped, with_event, IsPlay, Takes, Skips, Happens, choices_of}
 use Rattle.act_rules.specs.declared.event.Event.TheVariants as event
-use Rattle.act_rules.specs.declared.history.RunItem.{RunItem}
-use Rattle.act_rules.specs.declared.history.Post.{Post}
 use Rattle.act_rules.specs.declared.history.Post.TheVariants.{Death as DeathPost}
-use Rattle.act_rules.specs.declared.script.Step.{Step}
-use Rattle.act_rules.specs.declared.script.Step.TheVariants.{Submit, Copy, Release, Kill, Await}
-use Rattle.act_rules.specs.History.{ActorSpec, History, under, contains, cast_of, names, runs_of, is_dead}
-use Rattle.act_rules.specs.Rules.{refusal_of, add_event, and_also}
-use Rattle.act_rules.specs.Consistent.{IsPrefix}
-use Rattle.act_rules.specs.RunList.{has_terminated}
-use Rattle.act_rules.proofs.Lists.{whole_front, front_trans}
-use Rattle.act_rules.proofs.Growth.{added_grows}
-use Rattle.act_early.specs.Plays.{At, next_step, MayTake, taken, skipped, with_event, IsPlay, Takes, Skips, Happens}
-use Rattle.act_early.specs.Early.{choices_of}
 use Rattle.act_early.proofs.Worlds.{world}
 use Rattle.act_early.proofs.Choices.{choices_quiet, choices_same, heard_more, death_no_reply}
 

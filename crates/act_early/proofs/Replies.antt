@@ -1,23 +1,10 @@
 -- Replies and deaths, and what is collected.
-use Rattle.std.proofs.Common.{◌≡◌, ◌≢◌, ℕ, zero, suc, ◌+◌, ◌≤◌, true, false, List, [], ◌∷◌, ◌++◌, length, Option, Some, None, refl, ap, sym, ◌∙◌, subst, arith, Contains, length-append}
-use Rattle.std.specs.Prelude.{◌==◌, ◌&&◌, filter, filter_map, slice_get, Ok, Err}
-use Rattle.std.specs.List.{cons_option}
-use Rattle.std.proofs.lemmas.Bool.{eqb-true, eq-eqb, and_from}
-use Rattle.std.proofs.lemmas.List.{append-nil}
-use Rattle.act_types.specs.declared.call.Fault.{Fault}
-use Rattle.act_types.specs.declared.call.Fault.TheVariants.{NoMethod, BadArgs, Overflow, NoKey, BadAmount, Insufficient, NoItems, NoItem, KindFull, Dependency, ActorDied, Own}
-use Rattle.act_rules.specs.declared.history.Submission.{Submission}
+use Rattle.act_early.proofs.Common.{◌≡◌, ◌≢◌, ℕ, zero, suc, ◌+◌, ◌≤◌, true, false, List, [], ◌∷◌, ◌++◌, length, Option, Some, None, refl, ap, sym, ◌∙◌, subst}
+use Rattle.act_early.proofs.Common.{arith, Contains, length-append, ◌==◌, ◌&&◌, filter, filter_map, slice_get, Ok, Err, cons_option, eqb-true, eq-eqb, and_from}
+use Rattle.act_early.proofs.Common.{append-nil, Fault, NoMethod, BadArgs, Overflow, NoKey, BadAmount, Insufficient, NoItems, NoItem, KindFull, Dependency}
+use Rattle.act_early.proofs.Common.{ActorDied, Own, Submission, Answer, kept_at, History, names, cast_of, calls_of, kept_of, answer_in, IsPrefix, All_at}
+use Rattle.act_early.proofs.Common.{kept_at_is, kept_by, filter-slice_get, map-slice_get, IsNamed, AllNamed, is_reply}
 use Rattle.act_rules.specs.declared.history.Post.TheVariants.{Death as DeathPost}
-use Rattle.act_rules.specs.RunList.{Answer}
-use Rattle.act_rules.specs.Submissions.{kept_at}
-use Rattle.act_rules.specs.History.{History, names, cast_of, calls_of, kept_of, answer_in}
-use Rattle.act_rules.specs.Consistent.{IsPrefix}
-use Rattle.act_rules.proofs.Lists.{All_at}
-use Rattle.act_rules.proofs.Kept.{kept_at_is, kept_by}
-use Rattle.act_rules.proofs.AsSubmitted.{filter-slice_get}
-use Rattle.act_rules.proofs.Unique.{map-slice_get}
-use Rattle.act_rules.proofs.RanAll.{IsNamed, AllNamed}
-use Rattle.act_early.specs.Early.{is_reply}
 
 -- ---- replies
 

@@ -1,18 +1,8 @@
 -- Where a quiescent play ends as an ended one did, its actors can retire.
-use Rattle.std.proofs.Common.{◌≡◌, ℕ, Bool, true, false, cond, List, [], ◌∷◌, ◌++◌, Option, Some, None, refl, ap, sym, ◌∙◌, subst}
-use Rattle.std.specs.Prelude.{◌==◌, ◌||◌, find, slice_get, is_some}
-use Rattle.std.specs.List.{AllByRecursion}
-use Rattle.std.proofs.lemmas.Bool.{eqb-true, eq-eqb}
+use Rattle.act_early.proofs.Common.{◌≡◌, ℕ, Bool, true, false, cond, List, [], ◌∷◌, ◌++◌, Option, Some, None, refl, ap, sym, ◌∙◌, subst, ◌==◌, ◌||◌, find}
+use Rattle.act_early.proofs.Common.{slice_get, is_some, AllByRecursion, eqb-true, eq-eqb, Submission, Step, Answer, kept_at, ActorSpec, contains, cast_of}
+use Rattle.act_early.proofs.Common.{is_dead, is_retired, is_ended, refusal_of, At, IsPlay, Happens, IsQuiescent, IsEnded, EndsAlike, IsSameEnd}
 use Rattle.act_rules.specs.declared.event.Event.TheVariants as event
-use Rattle.act_rules.specs.declared.history.Submission.{Submission}
-use Rattle.act_rules.specs.declared.script.Step.{Step}
-use Rattle.act_rules.specs.RunList.{Answer}
-use Rattle.act_rules.specs.Submissions.{kept_at}
-use Rattle.act_rules.specs.History.{ActorSpec, contains, cast_of, is_dead, is_retired, is_ended}
-use Rattle.act_rules.specs.Rules.{refusal_of}
-use Rattle.act_early.specs.Plays.{At, IsPlay, Happens}
-use Rattle.act_early.specs.Early.{IsQuiescent, IsEnded, EndsAlike}
-use Rattle.act_early.specs.Quiescence.{IsSameEnd}
 use Rattle.act_early.proofs.Worlds.{IsWorld, world, contains_push, either_of, or_second, not_dead, retire_needs}
 use Rattle.act_early.proofs.Listed.{all_actors, all_listed}
 

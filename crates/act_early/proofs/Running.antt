@@ -1,23 +1,10 @@
 -- A run, and the choice that it adds.
-use Rattle.std.proofs.Common.{◌≡◌, ℕ, Bool, true, false, cond, List, [], ◌∷◌, ◌++◌, length, Option, Some, None, refl, ap, sym, ◌∙◌, subst}
-use Rattle.std.specs.Prelude.{◌==◌, map, slice_get}
-use Rattle.std.proofs.lemmas.List.{map-append}
+use Rattle.act_early.proofs.Common.{◌≡◌, ℕ, Bool, true, false, cond, List, [], ◌∷◌, ◌++◌, length, Option, Some, None, refl, ap, sym, ◌∙◌, subst, ◌==◌, map}
+use Rattle.act_early.proofs.Common.{slice_get, map-append, RunItem, Submission, Step, kept_at, ActorSpec, History, under, runs_of, calls_of, kept_of, ran_count}
+use Rattle.act_early.proofs.Common.{next_item, refusal_of, add_event, after_run, slice_get_front, Grows, added_grows, calls_grow, under-push, run_needs}
+use Rattle.act_early.proofs.Common.{calls_to-at, IsNext, next_item_is, IsSound, At, with_event, IsPlay, Happens, is_reply, is_heard, choices_of}
 use Rattle.act_rules.specs.declared.event.Event.TheVariants as event
-use Rattle.act_rules.specs.declared.history.RunItem.{RunItem}
-use Rattle.act_rules.specs.declared.history.Submission.{Submission}
 use Rattle.act_rules.specs.declared.history.Post.TheVariants.{Reply as ReplyPost}
-use Rattle.act_rules.specs.declared.script.Step.{Step}
-use Rattle.act_rules.specs.Submissions.{kept_at}
-use Rattle.act_rules.specs.History.{ActorSpec, History, under, runs_of, calls_of, kept_of, ran_count, next_item}
-use Rattle.act_rules.specs.Rules.{refusal_of, add_event, after_run}
-use Rattle.act_rules.proofs.Lists.{slice_get_front}
-use Rattle.act_rules.proofs.Growth.{Grows, added_grows, calls_grow}
-use Rattle.act_rules.proofs.Ended.{under-push, run_needs}
-use Rattle.act_rules.proofs.AsSubmitted.{calls_to-at}
-use Rattle.act_rules.proofs.Order.{IsNext, next_item_is}
-use Rattle.act_rules.proofs.Sound.{IsSound}
-use Rattle.act_early.specs.Plays.{At, with_event, IsPlay, Happens}
-use Rattle.act_early.specs.Early.{is_reply, is_heard, choices_of}
 use Rattle.act_early.proofs.Worlds.{world}
 use Rattle.act_early.proofs.Unanswered.{next_unanswered}
 use Rattle.act_early.proofs.Choices.{map-same_at, first_same, kept_first, heard_quiet}

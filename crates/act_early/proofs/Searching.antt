@@ -1,21 +1,11 @@
 -- A whole search has a play with the choices of each front of the late play.
-use Rattle.std.proofs.Common.{◌≡◌, ℕ, ◌≤◌, Bool, true, false, cond, List, [], ◌∷◌, ◌++◌, length, take, Option, Some, None, refl, ap, sym, ◌∙◌, subst, arith}
-use Rattle.std.specs.Prelude.{◌==◌, ◌||◌, map, drop, slice_get, is_some}
-use Rattle.std.proofs.lemmas.Bool.{eqb-true}
-use Rattle.std.proofs.lemmas.List.{append-nil, length-map, length-take-le, length_push, take-append-drop}
-use Rattle.act_rules.specs.declared.event.Event.{Event}
+use Rattle.act_early.proofs.Common.{◌≡◌, ℕ, ◌≤◌, Bool, true, false, cond, List, [], ◌∷◌, ◌++◌, length, take, Option, Some, None, refl, ap, sym, ◌∙◌, subst}
+use Rattle.act_early.proofs.Common.{arith, ◌==◌, ◌||◌, map, drop, slice_get, is_some, eqb-true, append-nil, length-map, length-take-le, length_push}
+use Rattle.act_early.proofs.Common.{take-append-drop, Event, RunItem, Step, has_terminated, ActorSpec, History, under, contains, runs_of, next_item, refusal_of}
+use Rattle.act_early.proofs.Common.{add_event, after_run, IsPrefix, slice_get_front, under-push, run_needs, run_stands, next_item_caller, At, after_step, taken}
+use Rattle.act_early.proofs.Common.{skipped, with_event, IsPlay, Opens, Takes, Skips, Closes, Happens, is_heard, choices_of, HasRunMore, IsWholeSearch}
+use Rattle.act_early.proofs.Common.{LosesOnly}
 use Rattle.act_rules.specs.declared.event.Event.TheVariants as event
-use Rattle.act_rules.specs.declared.history.RunItem.{RunItem}
-use Rattle.act_rules.specs.declared.script.Step.{Step}
-use Rattle.act_rules.specs.RunList.{has_terminated}
-use Rattle.act_rules.specs.History.{ActorSpec, History, under, contains, runs_of, next_item}
-use Rattle.act_rules.specs.Rules.{refusal_of, add_event, after_run}
-use Rattle.act_rules.specs.Consistent.{IsPrefix}
-use Rattle.act_rules.proofs.Lists.{slice_get_front}
-use Rattle.act_rules.proofs.Ended.{under-push, run_needs}
-use Rattle.act_rules.proofs.Posts.{run_stands, next_item_caller}
-use Rattle.act_early.specs.Plays.{At, after_step, taken, skipped, with_event, IsPlay, Opens, Takes, Skips, Closes, Happens}
-use Rattle.act_early.specs.Early.{is_heard, choices_of, HasRunMore, IsWholeSearch, LosesOnly}
 use Rattle.act_early.proofs.Worlds.{world, contains_push}
 use Rattle.act_early.proofs.Counting.{take-at}
 use Rattle.act_early.proofs.Progress.{follows}

@@ -1,27 +1,10 @@
 -- An event that is none of a caller's steps passes it by.
-use Rattle.std.proofs.Common.{◌≡◌, ℕ, suc, true, false, List, [], ◌∷◌, ◌++◌, Option, Some, None, inl, inr, refl, ap, sym, ◌∙◌, subst, arith, append_assoc, Contains}
-use Rattle.std.specs.Prelude.{is_some}
-use Rattle.std.proofs.lemmas.Bool.{eq-eqb}
-use Rattle.std.proofs.lemmas.List.{append-nil}
-use Rattle.std.proofs.lemmas.List.Elements.{Contains-append_left}
-use Rattle.act_rules.specs.declared.event.Event.{Event}
+use Rattle.act_early.proofs.Common.{◌≡◌, ℕ, suc, true, false, List, [], ◌∷◌, ◌++◌, Option, Some, None, inl, inr, refl, ap, sym, ◌∙◌, subst, arith, append_assoc}
+use Rattle.act_early.proofs.Common.{Contains, is_some, eq-eqb, append-nil, Contains-append_left, Event, Post, Step, Submit, Copy, Release, Kill, Await, Answer}
+use Rattle.act_early.proofs.Common.{kept_at, ActorSpec, History, opening, kept_of, history, after, IsPrefix, whole_front, after_keeps, after_all-append}
+use Rattle.act_early.proofs.Common.{after_all_keeps, added_grows, KeepsAnswer, kept_step, world_sound, is_step_by, AreOthers, DoesStepBy, DoesStepsBy}
 use Rattle.act_rules.specs.declared.event.Event.TheVariants as event
-use Rattle.act_rules.specs.declared.history.Post.{Post}
 use Rattle.act_rules.specs.declared.history.Post.TheVariants.{Death as DeathPost}
-use Rattle.act_rules.specs.declared.script.Step.{Step}
-use Rattle.act_rules.specs.declared.script.Step.TheVariants.{Submit, Copy, Release, Kill, Await}
-use Rattle.act_rules.specs.RunList.{Answer}
-use Rattle.act_rules.specs.Submissions.{kept_at}
-use Rattle.act_rules.specs.History.{ActorSpec, History, opening, kept_of}
-use Rattle.act_rules.specs.Laws.{history}
-use Rattle.act_rules.specs.Rules.{after}
-use Rattle.act_rules.specs.Consistent.{IsPrefix}
-use Rattle.act_rules.proofs.Lists.{whole_front}
-use Rattle.act_rules.proofs.Steps.{after_keeps, after_all-append, after_all_keeps}
-use Rattle.act_rules.proofs.Growth.{added_grows}
-use Rattle.act_rules.proofs.Kept.{KeepsAnswer, kept_step}
-use Rattle.act_rules.proofs.Sound.{world_sound}
-use Rattle.act_early.specs.Lists.{is_step_by, AreOthers, DoesStepBy, DoesStepsBy}
 
 -- ---- what stays after one event more
 

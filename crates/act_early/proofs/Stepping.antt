@@ -1,24 +1,10 @@
 -- Each caller can take its steps until it waits.
-use Rattle.std.proofs.Common.{◌≡◌, ℕ, zero, suc, ◌+◌, ◌≤◌, Bool, true, false, cond, List, [], ◌∷◌, ◌++◌, length, Option, Some, None, inl, inr, ◌⊎◌, refl, ap, sym, ◌∙◌, subst, arith}
-use Rattle.std.specs.Prelude.{◌==◌, map, find, filter, filter_map, is_some}
-use Rattle.std.specs.List.{AllByRecursion, enumerate_from}
-use Rattle.std.proofs.lemmas.Bool.{eqb-true, eq-eqb}
-use Rattle.std.proofs.lemmas.List.{append-nil}
-use Rattle.std.proofs.lemmas.Option.{slice_get_within}
+use Rattle.act_early.proofs.Common.{◌≡◌, ℕ, zero, suc, ◌+◌, ◌≤◌, Bool, true, false, cond, List, [], ◌∷◌, ◌++◌, length, Option, Some, None, inl, inr, ◌⊎◌, refl}
+use Rattle.act_early.proofs.Common.{ap, sym, ◌∙◌, subst, arith, ◌==◌, map, find, filter, filter_map, is_some, AllByRecursion, enumerate_from, eqb-true, eq-eqb}
+use Rattle.act_early.proofs.Common.{append-nil, slice_get_within, Submission, Step, Submit, Copy, Release, Kill, Await, WorldRefusal, Answer, kept_at}
+use Rattle.act_early.proofs.Common.{occurrences, ActorSpec, History, count_pairs, is_caller, names, cast_of, calls_of, kept_of, is_dead, first_answer}
+use Rattle.act_early.proofs.Common.{refusal_of, Grows, added_grows, limit_of-same, IsSound, At, steps_of, next_step, after_step, MayTake, taken, skipped}
 use Rattle.act_rules.specs.declared.event.Event.TheVariants as event
-use Rattle.act_rules.specs.declared.history.Submission.{Submission}
-use Rattle.act_rules.specs.declared.script.Step.{Step}
-use Rattle.act_rules.specs.declared.script.Step.TheVariants.{Submit, Copy, Release, Kill, Await}
-use Rattle.act_rules.specs.declared.outcome.WorldRefusal.{WorldRefusal}
-use Rattle.act_rules.specs.RunList.{Answer}
-use Rattle.act_rules.specs.Submissions.{kept_at}
-use Rattle.act_rules.specs.Plans.{occurrences}
-use Rattle.act_rules.specs.History.{ActorSpec, History, count_pairs, is_caller, names, cast_of, calls_of, kept_of, is_dead, first_answer}
-use Rattle.act_rules.specs.Rules.{refusal_of}
-use Rattle.act_rules.proofs.Growth.{Grows, added_grows}
-use Rattle.act_rules.proofs.Limits.{limit_of-same}
-use Rattle.act_rules.proofs.Sound.{IsSound}
-use Rattle.act_early.specs.Plays.{At, steps_of, next_step, after_step, MayTake, taken, skipped}
 use Rattle.act_early.proofs.Worlds.{world}
 use Rattle.act_early.proofs.Counting.{occurrences-push, other_next}
 use Rattle.act_early.proofs.Progress.{submission_in, is_copy_of, is_release_of, submitted_one, copied_one, released_one}

@@ -1,22 +1,10 @@
 -- A quiescent play that made some of a late play's choices may make one more.
-use Rattle.std.proofs.Common.{◌≡◌, ℕ, ◌<◌, ◌≤◌, Bool, true, false, cond, List, [], ◌∷◌, ◌++◌, length, Option, Some, None, inl, inr, ◌⊎◌, refl, ap, sym, ◌∙◌, subst, arith}
-use Rattle.std.specs.Prelude.{◌==◌, ◌||◌, slice_get, is_some}
-use Rattle.std.proofs.lemmas.Bool.{eqb-true, eq-eqb, cases_lt}
-use Rattle.std.proofs.lemmas.Option.{slice_get_within}
-use Rattle.std.proofs.lemmas.List.{append-nil, length-map, length_push}
-use Rattle.act_rules.specs.declared.event.Event.{Event}
+use Rattle.act_early.proofs.Common.{◌≡◌, ℕ, ◌<◌, ◌≤◌, Bool, true, false, cond, List, [], ◌∷◌, ◌++◌, length, Option, Some, None, inl, inr, ◌⊎◌, refl, ap, sym}
+use Rattle.act_early.proofs.Common.{◌∙◌, subst, arith, ◌==◌, ◌||◌, slice_get, is_some, eqb-true, eq-eqb, cases_lt, slice_get_within, append-nil, length-map}
+use Rattle.act_early.proofs.Common.{length_push, Event, RunItem, Step, has_terminated, ActorSpec, History, under, contains, runs_of, is_dead, next_item}
+use Rattle.act_early.proofs.Common.{refusal_of, add_event, after_run, slice_get_front, under-push, run_needs, run_stands, next_item_caller, At, after_step}
+use Rattle.act_early.proofs.Common.{IsPlay, Opens, Takes, Skips, Closes, Happens, is_heard, choices_of, IsQuiescent, IsFrontOf, Nearer, Whole, MayRun, MayKill}
 use Rattle.act_rules.specs.declared.event.Event.TheVariants as event
-use Rattle.act_rules.specs.declared.history.RunItem.{RunItem}
-use Rattle.act_rules.specs.declared.script.Step.{Step}
-use Rattle.act_rules.specs.RunList.{has_terminated}
-use Rattle.act_rules.specs.History.{ActorSpec, History, under, contains, runs_of, is_dead, next_item}
-use Rattle.act_rules.specs.Rules.{refusal_of, add_event, after_run}
-use Rattle.act_rules.proofs.Lists.{slice_get_front}
-use Rattle.act_rules.proofs.Ended.{under-push, run_needs}
-use Rattle.act_rules.proofs.Posts.{run_stands, next_item_caller}
-use Rattle.act_early.specs.Plays.{At, after_step, IsPlay, Opens, Takes, Skips, Closes, Happens}
-use Rattle.act_early.specs.Early.{is_heard, choices_of, IsQuiescent}
-use Rattle.act_early.specs.Fronts.{IsFrontOf, Nearer, Whole, MayRun, MayKill}
 use Rattle.act_early.proofs.Worlds.{world, contains_push, either_of, not_dead, take_needs, or_second}
 use Rattle.act_early.proofs.Replies.{front_whole, front_short}
 use Rattle.act_early.proofs.Earlier.{IsEarlier, earlier_same, earlier_trans, earlier_event, earlier_step, step_runs, step_kills}

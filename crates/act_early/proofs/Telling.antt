@@ -1,18 +1,11 @@
 -- Each death can be told and collected.
-use Rattle.std.proofs.Common.{◌≡◌, ℕ, Bool, true, false, List, [], ◌∷◌, length, Option, Some, None, refl, ap, sym, ◌∙◌, subst, Contains, arith}
-use Rattle.std.specs.Prelude.{slice_get}
-use Rattle.std.specs.List.{AllByRecursion}
+use Rattle.act_early.proofs.Common.{◌≡◌, ℕ, Bool, true, false, List, [], ◌∷◌, length, Option, Some, None, refl, ap, sym, ◌∙◌, subst, Contains, arith, slice_get}
+use Rattle.act_early.proofs.Common.{AllByRecursion, Post, Step, ActorSpec, History, names, cast_of, is_caller, is_dead, refusal_of, and_also, slice_get_last}
+use Rattle.act_early.proofs.Common.{At, with_event, Happens, Contains-append_left, Contains-append_right}
 use Rattle.act_rules.specs.declared.event.Event.TheVariants as event
-use Rattle.act_rules.specs.declared.history.Post.{Post}
 use Rattle.act_rules.specs.declared.history.Post.TheVariants.{Death as DeathPost}
-use Rattle.act_rules.specs.declared.script.Step.{Step}
-use Rattle.act_rules.specs.History.{ActorSpec, History, names, cast_of, is_caller, is_dead}
-use Rattle.act_rules.specs.Rules.{refusal_of, and_also}
-use Rattle.act_rules.proofs.Lists.{slice_get_last}
-use Rattle.act_early.specs.Plays.{At, with_event, Happens}
 use Rattle.act_early.proofs.Quiesces.{Quiesces, quiesces_same, quiesces_trans, quiet_quiesces, death_quiesces, dead_same, cast_same}
 use Rattle.act_early.proofs.Listed.{all_callers, all_actors, named_caller, IsOpen, IsWay, Comes, for_all}
-use Rattle.std.proofs.lemmas.List.Elements.{Contains-append_left, Contains-append_right}
 
 abbrev pub IsTold : At → ℕ → ℕ → Type 0
 IsTold p c a = is_dead a p.history ≡ true → names c (cast_of a p.history) ≡ true → Contains p.history.collected (DeathPost c a)

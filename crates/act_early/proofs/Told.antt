@@ -1,18 +1,8 @@
 -- What is told of ends, part by part.
-use Rattle.std.proofs.Common.{◌≡◌, ℕ, zero, suc, ◌≤◌, arith, Bool, true, false, List, [], ◌∷◌, ◌++◌, Option, Some, None, refl, ap, sym, ◌∙◌}
-use Rattle.std.specs.Prelude.{◌==◌, ◌||◌, if◌then◌else◌, find, map, is_some, option_map}
-use Rattle.act_rules.specs.declared.history.RunItem.{RunItem}
-use Rattle.act_rules.specs.declared.history.Submission.{Submission}
-use Rattle.act_rules.specs.declared.script.Step.{Step}
-use Rattle.act_rules.specs.RunList.{Answer, state_after}
-use Rattle.act_rules.specs.History.{ActorSpec, History, contains, cast_of, calls_of, kept_of, runs_of, is_dead, is_retired, is_ended}
-use Rattle.std.specs.List.{flat_map}
-use Rattle.std.proofs.lemmas.Grind.{flat_map-append}
-use Rattle.act_rules.specs.Report.{summary, one_to, future_lines, actor_lines, stage_of, stage_text}
-use Rattle.act_early.specs.Plays.{At, IsPlay}
-use Rattle.act_early.specs.Early.{IsEnded, EndsAlike}
-use Rattle.act_early.specs.Quiescence.{IsSameEnd}
-use Rattle.act_early.specs.Told.{told_at_rest}
+use Rattle.act_early.proofs.Common.{◌≡◌, ℕ, zero, suc, ◌≤◌, arith, Bool, true, false, List, [], ◌∷◌, ◌++◌, Option, Some, None, refl, ap, sym, ◌∙◌, ◌==◌, ◌||◌}
+use Rattle.act_early.proofs.Common.{if◌then◌else◌, find, map, is_some, option_map, RunItem, Submission, Step, Answer, state_after, ActorSpec, History, contains}
+use Rattle.act_early.proofs.Common.{cast_of, calls_of, kept_of, runs_of, is_dead, is_retired, is_ended, flat_map, flat_map-append, summary, one_to}
+use Rattle.act_early.proofs.Common.{future_lines, actor_lines, stage_of, stage_text, At, IsPlay, IsEnded, EndsAlike, IsSameEnd, told_at_rest}
 use Rattle.act_early.proofs.Worlds.{world, or_second}
 
 -- how an actor with this cast stands

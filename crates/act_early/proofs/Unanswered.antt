@@ -1,19 +1,8 @@
 -- The call that an actor runs next has no answer yet.
-use Rattle.std.proofs.Common.{◌≡◌, ℕ, zero, suc, ◌+◌, ◌<◌, Bool, true, false, cond, List, [], ◌∷◌, length, Option, Some, None, refl, ap, sym, ◌∙◌, subst, arith}
-use Rattle.std.specs.Prelude.{◌==◌, filter, take, slice_get}
-use Rattle.std.specs.List.{enumerate_from}
-use Rattle.std.proofs.lemmas.Bool.{eq-eqb}
-use Rattle.std.proofs.lemmas.Option.{slice_get_within}
-use Rattle.act_rules.specs.declared.history.RunItem.{RunItem}
-use Rattle.act_rules.specs.declared.history.Submission.{Submission}
-use Rattle.act_rules.specs.RunList.{Answer, items_of}
-use Rattle.act_rules.specs.Submissions.{calls_to, number_of, kept_at}
-use Rattle.act_rules.specs.History.{History, runs_of, calls_of, kept_of, is_dead, is_ended, ran_count}
-use Rattle.act_rules.proofs.Lists.{slice_get-filter}
-use Rattle.act_rules.proofs.AsSubmitted.{calls_to-at}
-use Rattle.act_rules.proofs.Unique.{map-slice_get, held_call, held_submission, rank}
-use Rattle.act_rules.proofs.Sound.{IsSound, answers_are, deaths_are}
-use Rattle.act_early.specs.Early.{is_reply}
+use Rattle.act_early.proofs.Common.{◌≡◌, ℕ, zero, suc, ◌+◌, ◌<◌, Bool, true, false, cond, List, [], ◌∷◌, length, Option, Some, None, refl, ap, sym, ◌∙◌, subst}
+use Rattle.act_early.proofs.Common.{arith, ◌==◌, filter, take, slice_get, enumerate_from, eq-eqb, slice_get_within, RunItem, Submission, Answer, items_of}
+use Rattle.act_early.proofs.Common.{calls_to, number_of, kept_at, History, runs_of, calls_of, kept_of, is_dead, is_ended, ran_count, slice_get-filter}
+use Rattle.act_early.proofs.Common.{calls_to-at, map-slice_get, held_call, held_submission, rank, IsSound, answers_are, deaths_are, is_reply}
 use Rattle.act_early.proofs.Worlds.{not_dead}
 use Rattle.act_early.proofs.Replies.{reply_alive, reply_died}
 

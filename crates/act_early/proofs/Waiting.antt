@@ -1,30 +1,13 @@
 -- A quiescent caller isn't behind: what the late play's caller may do next, it did already.
-use Rattle.std.proofs.Common.{◌≡◌, ℕ, ◌+◌, ◌-◌, ◌<◌, ◌≤◌, Bool, true, false, cond, List, [], ◌∷◌, length, Option, Some, None, inl, inr, ◌⊎◌, refl, ap, sym, ◌∙◌, subst, arith}
-use Rattle.std.specs.Prelude.{◌==◌, filter, filter_map, find, take, slice_get, option_map, is_none, is_some, nat_lt}
-use Rattle.std.specs.Option.{option_or}
-use Rattle.std.specs.List.{list_any}
-use Rattle.std.proofs.lemmas.Bool.{cases_lt, ltb-true}
-use Rattle.std.proofs.lemmas.Bool.Decides.{nat_tests}
-use Rattle.act_types.specs.declared.call.Arg.{Arg}
-use Rattle.act_types.specs.declared.call.Method.{Method}
+use Rattle.act_early.proofs.Common.{◌≡◌, ℕ, ◌+◌, ◌-◌, ◌<◌, ◌≤◌, Bool, true, false, cond, List, [], ◌∷◌, length, Option, Some, None, inl, inr, ◌⊎◌, refl, ap}
+use Rattle.act_early.proofs.Common.{sym, ◌∙◌, subst, arith, ◌==◌, filter, filter_map, find, take, slice_get, option_map, is_none, is_some, nat_lt, option_or}
+use Rattle.act_early.proofs.Common.{list_any, cases_lt, ltb-true, nat_tests, Arg, Method, Submission, Step, Submit, Copy, Release, Kill, Await, SubmitRefusal}
+use Rattle.act_early.proofs.Common.{PendingLimit, WorldRefusal, Answer, needs, kept_at, calls_to, submit_refusal, limit_refusal, handle_refusal, copy_refusal}
+use Rattle.act_early.proofs.Common.{ActorSpec, History, contains, names, cast_of, is_caller, count_pairs, calls_of, copies_of, limit_of, kept_of, is_dead}
+use Rattle.act_early.proofs.Common.{refusal_of, unanswered, submission_refusal, option_map-none, option_or-none, option_or-none_second, needs-none, Extends}
+use Rattle.act_early.proofs.Common.{limit_of-same, At, steps_of, next_step, MayTake, IsQuiescent}
 use Rattle.act_rules.specs.declared.event.Event.TheVariants as event
-use Rattle.act_rules.specs.declared.history.Submission.{Submission}
-use Rattle.act_rules.specs.declared.script.Step.{Step}
-use Rattle.act_rules.specs.declared.script.Step.TheVariants.{Submit, Copy, Release, Kill, Await}
-use Rattle.act_rules.specs.declared.outcome.SubmitRefusal.{SubmitRefusal}
-use Rattle.act_rules.specs.declared.outcome.SubmitRefusal.TheVariants.{PendingLimit}
-use Rattle.act_rules.specs.declared.outcome.WorldRefusal.{WorldRefusal}
 use Rattle.act_rules.specs.declared.outcome.WorldRefusal.TheVariants.{Submit as SubmitRefused, Handle, NoCaller}
-use Rattle.act_rules.specs.RunList.{Answer}
-use Rattle.act_rules.specs.Submissions.{needs, kept_at, calls_to, submit_refusal, limit_refusal, handle_refusal, copy_refusal}
-use Rattle.act_rules.specs.History.{ActorSpec, History, contains, names, cast_of, is_caller, count_pairs, calls_of, copies_of, limit_of, kept_of, is_dead}
-use Rattle.act_rules.specs.Rules.{refusal_of, unanswered, submission_refusal}
-use Rattle.act_rules.proofs.Lists.{option_map-none, option_or-none, option_or-none_second}
-use Rattle.act_rules.proofs.Ended.{needs-none}
-use Rattle.act_rules.proofs.Settling.{Extends}
-use Rattle.act_rules.proofs.Limits.{limit_of-same}
-use Rattle.act_early.specs.Plays.{At, steps_of, next_step, MayTake}
-use Rattle.act_early.specs.Early.{IsQuiescent}
 use Rattle.act_early.proofs.Worlds.{IsWorld}
 use Rattle.act_early.proofs.Counting.{done_steps}
 use Rattle.act_early.proofs.Progress.{Follows, submission_in, is_copy_of, is_release_of}

@@ -1,24 +1,11 @@
 -- What every play of plans leaves is a world: each of its parts fits the others.
-use Rattle.std.proofs.Common.{◌≡◌, ℕ, Bool, true, false, List, [], ◌∷◌, ◌++◌, Some, None, refl, sym, ◌∙◌, subst}
-use Rattle.std.specs.Prelude.{Option, ◌==◌, ◌||◌, not, is_some}
-use Rattle.std.proofs.lemmas.Bool.{eqb-true, not-true}
-use Rattle.std.proofs.lemmas.List.Folds.{list_any-append}
+use Rattle.act_early.proofs.Common.{◌≡◌, ℕ, Bool, true, false, List, [], ◌∷◌, ◌++◌, Some, None, refl, sym, ◌∙◌, subst, Option, ◌==◌, ◌||◌, not, is_some}
+use Rattle.act_early.proofs.Common.{eqb-true, not-true, list_any-append, RunItem, Handle, ActorEnded, NoKill, NotDrained, NoActor, Step, Submit, Copy, Release}
+use Rattle.act_early.proofs.Common.{Kill, Await, has_terminated, needs, ActorSpec, History, opening, contains, runs_of, cast_of, is_dead, is_retired, is_ended}
+use Rattle.act_early.proofs.Common.{is_drained, next_item, refusal_of, add_event, after_run, IsKept, added_grows, needs-none, ended_stays, NothingFollows}
+use Rattle.act_early.proofs.Common.{nothing_follows_step, IsSound, sound_step, world_sound, Retires, retires_step, world_retires, At, after_step, MayTake}
+use Rattle.act_early.proofs.Common.{IsPlay, Opens, Takes, Skips, Closes, Happens}
 use Rattle.act_rules.specs.declared.event.Event.TheVariants as event
-use Rattle.act_rules.specs.declared.history.RunItem.{RunItem}
-use Rattle.act_rules.specs.declared.outcome.WorldRefusal.TheVariants.{Handle, ActorEnded, NoKill, NotDrained}
-use Rattle.act_rules.specs.declared.outcome.HandleRefusal.TheVariants.{NoActor}
-use Rattle.act_rules.specs.declared.script.Step.{Step}
-use Rattle.act_rules.specs.declared.script.Step.TheVariants.{Submit, Copy, Release, Kill, Await}
-use Rattle.act_rules.specs.RunList.{has_terminated}
-use Rattle.act_rules.specs.Submissions.{needs}
-use Rattle.act_rules.specs.History.{ActorSpec, History, opening, contains, runs_of, cast_of, is_dead, is_retired, is_ended, is_drained, next_item}
-use Rattle.act_rules.specs.Rules.{refusal_of, add_event, after_run}
-use Rattle.act_rules.proofs.Steps.{IsKept}
-use Rattle.act_rules.proofs.Growth.{added_grows}
-use Rattle.act_rules.proofs.Ended.{needs-none, ended_stays, NothingFollows, nothing_follows_step}
-use Rattle.act_rules.proofs.Sound.{IsSound, sound_step, world_sound}
-use Rattle.act_rules.proofs.RanAll.{Retires, retires_step, world_retires}
-use Rattle.act_early.specs.Plays.{At, after_step, MayTake, IsPlay, Opens, Takes, Skips, Closes, Happens}
 
 -- ---- what each event keeps holds of every play
 

@@ -1,5 +1,5 @@
 -- Actors that retire, one after another.
-use Rattle.std.proofs.Common.{◌≡◌, ℕ, ◌+◌, ◌≤◌, arith, Bool, true, false, List, [], ◌∷◌, ◌++◌, Option, Some, None, Result, Ok, Err, refl, ap, sym, ◌∙◌, subst}
+use Rattle.std.proofs.Common.{◌≡◌, ℕ, ◌+◌, ◌≤◌, arith, Bool, true, false, List, [], ◌∷◌, ◌++◌, Option, Some, None, Ok, refl, ap, sym, ◌∙◌, subst}
 use Rattle.std.specs.Prelude.{◌||◌, ◌==◌, is_some, map}
 use Rattle.std.proofs.lemmas.Bool.{eqb-true, eqb-false, eq-eqb}
 use Rattle.act_rules.specs.declared.event.Event.{Event}
@@ -9,9 +9,8 @@ use Rattle.act_rules.specs.declared.outcome.WorldRefusal.{WorldRefusal}
 use Rattle.act_rules.specs.History.{ActorSpec, History, contains, cast_of, is_dead, is_ended}
 use Rattle.act_rules.specs.Laws.{history}
 use Rattle.act_rules.specs.Report.{summary}
-use Rattle.act_rules.specs.Rules.{outcome_by, outcome_of, refusal_of, add_event, after, after_by}
-use Rattle.act_world.specs.View.{SlotView, Runs, Died, Ended, Vacant, WorldView}
-use Rattle.act_world.specs.Refines.{IsStage}
+use Rattle.act_rules.specs.Rules.{outcome_by, outcome_of, refusal_of, add_event, after_by}
+use Rattle.act_world.specs.View.{WorldView}
 use Rattle.act_world.specs.IsReachedBy.{IsReachedBy}
 use Rattle.act_early.specs.Told.{told_at_rest}
 use Rattle.act_early.proofs.Told.{ended_told, at_rest}

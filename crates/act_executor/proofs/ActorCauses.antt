@@ -1,31 +1,12 @@
 -- Each step of an actor's thread is caused by the deeds before it.
-use Rattle.std.proofs.Common.{◌≡◌, ℕ, ◌<◌, ◌||◌, Bool, true, false, List, [], ◌∷◌, ◌++◌, length, Option, Some, refl, ap, sym, ◌∙◌, subst, Contains}
-use Rattle.std.specs.Prelude.{is_some}
-use Rattle.std.specs.List.{list_any}
-use Rattle.std.proofs.lemmas.List.Elements.{recursion_from_All}
-use Rattle.act_types.specs.declared.call.Packet.{Packet}
-use Rattle.act_types.specs.declared.call.ReleaseNote.{ReleaseNote}
-use Rattle.act_mailbox.specs.declared.mail.Letter.TheVariants.{Call, Note}
-use Rattle.act_mailbox.specs.Traces.{steps_in}
-use Rattle.act_handles.specs.Handles.{copies_in}
-use Rattle.act_owner.specs.Owner.{OwnerView, packet_at}
-use Rattle.act_owner.specs.Life.{Change, Sent, after_changes, is_known_at}
-use Rattle.act_owner.proofs.Life.{places_all, packet_stays_all, after_all-append}
-use Rattle.act_plans.specs.Runs.{cast_at}
-use Rattle.act_rules.specs.declared.history.RunItem.{RunItem}
-use Rattle.act_rules.specs.declared.history.Submission.{Submission}
-use Rattle.act_rules.specs.Consistent.{IsPrefix}
-use Rattle.act_rules.specs.History.{ActorSpec, contains, names}
-use Rattle.act_rules.specs.RunList.{items_of}
-use Rattle.act_rules.specs.Submissions.{calls_to}
-use Rattle.act_rules.proofs.Lists.{whole_front}
-use Rattle.act_causes.specs.Deeds.{Deed, TookNote, IsSentCall, IsLastNote, HasRunAllCalls, IsCaused, owner_after, is_ended_by, is_end_of, ran_by}
-use Rattle.act_causes.specs.Merge.{deeds_of}
-use Rattle.act_causes.proofs.Unrefused.{AreUnrefused, unrefused_front, unrefused_rest, sent_known, gone_stays}
-use Rattle.act_serve.specs.ActorSteps.{ActorStep, LetterTaken, CallRun, KillTaken, DeathTold, Retirement, log_of_steps, has_died_in, has_ended_in, ActorMayDo, ActorMayDoAll}
-use Rattle.act_drive.specs.CallerSteps.{CallerStep, ChangeMade, KillAsked, change_made, changes_made}
-use Rattle.act_actor.specs.Actor.{packet_of_item, note_after_calls}
-use Rattle.act_executor.specs.Traced.{CallerThreads, ActorThreads, opened_by, IsCallPosted, IsNotePosted, AreTraced}
+use Rattle.act_executor.proofs.Common.{◌≡◌, ℕ, ◌<◌, ◌||◌, Bool, true, false, List, [], ◌∷◌, ◌++◌, length, Option, Some, refl, ap, sym, ◌∙◌, subst, Contains}
+use Rattle.act_executor.proofs.Common.{is_some, list_any, recursion_from_All, Packet, ReleaseNote, Call, Note, steps_in, copies_in, OwnerView, packet_at}
+use Rattle.act_executor.proofs.Common.{Change, Sent, after_changes, is_known_at, places_all, packet_stays_all, after_all-append, cast_at, RunItem, Submission}
+use Rattle.act_executor.proofs.Common.{IsPrefix, ActorSpec, contains, names, items_of, calls_to, whole_front, Deed, TookNote, IsSentCall, IsLastNote}
+use Rattle.act_executor.proofs.Common.{HasRunAllCalls, IsCaused, owner_after, is_ended_by, is_end_of, ran_by, deeds_of, AreUnrefused, unrefused_front}
+use Rattle.act_executor.proofs.Common.{unrefused_rest, sent_known, gone_stays, ActorStep, LetterTaken, CallRun, KillTaken, DeathTold, Retirement, log_of_steps}
+use Rattle.act_executor.proofs.Common.{has_died_in, has_ended_in, ActorMayDo, ActorMayDoAll, CallerStep, ChangeMade, KillAsked, change_made, changes_made}
+use Rattle.act_executor.proofs.Common.{packet_of_item, note_after_calls, CallerThreads, ActorThreads, opened_by, IsCallPosted, IsNotePosted, AreTraced}
 use Rattle.act_executor.proofs.Cuts.{contains_mid, contains_map, contains_filter_map, contained_in_front, shorter_front}
 use Rattle.act_executor.proofs.Threads.{deed_of_actor}
 use Rattle.act_executor.proofs.MayDo.{caller_may, unrefused_all, changes_split, ActorMay, actor_may, actor_may_at}

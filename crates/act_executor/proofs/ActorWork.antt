@@ -1,14 +1,8 @@
 -- What an actor's thread did: its trace without letters of strangers, and what the audits and the run need of it.
-use Rattle.std.proofs.Common.{◌≡◌, ℕ, Bool, true, false, List, [], ◌∷◌, ◌++◌, length, None, refl, ap, sym, ◌∙◌, subst, Contains}
-use Rattle.std.specs.Prelude.{◌||◌, filter}
-use Rattle.std.specs.List.{AllByRecursion, list_any}
-use Rattle.act_rules.specs.declared.history.RunItem.{RunItem}
-use Rattle.act_rules.specs.RunList.{items_of, has_terminated}
-use Rattle.act_rules.specs.History.{contains}
-use Rattle.act_mailbox.specs.declared.mail.Letter.TheVariants.{Call, Note}
-use Rattle.act_mailbox.specs.Mails.{caller_of}
-use Rattle.act_actor.specs.Actor.{packet_of_item, note_after_calls}
-use Rattle.act_serve.specs.ActorSteps.{ActorStep, LetterTaken, CallRun, KillTaken, DeathTold, Retirement, call_run, is_kill_step, is_retirement, log_of_steps, has_died_in, has_ended_in, ActorMayDo, ActorMayDoAll}
+use Rattle.act_executor.proofs.Common.{◌≡◌, ℕ, Bool, true, false, List, [], ◌∷◌, ◌++◌, length, None, refl, ap, sym, ◌∙◌, subst, Contains, ◌||◌, filter}
+use Rattle.act_executor.proofs.Common.{AllByRecursion, list_any, RunItem, items_of, has_terminated, contains, Call, Note, caller_of, packet_of_item}
+use Rattle.act_executor.proofs.Common.{note_after_calls, ActorStep, LetterTaken, CallRun, KillTaken, DeathTold, Retirement, call_run, is_kill_step}
+use Rattle.act_executor.proofs.Common.{is_retirement, log_of_steps, has_died_in, has_ended_in, ActorMayDo, ActorMayDoAll}
 use Rattle.act_executor.proofs.Elements.{in_from_contains, contains_from_in, in_filter}
 use Rattle.act_executor.proofs.Kept.{kept_any, kept_found, kept_more, lost_more, kept_first, lost_first}
 

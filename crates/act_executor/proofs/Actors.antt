@@ -1,32 +1,12 @@
 -- What each actor of a run left, at its place.
-use Rattle.std.proofs.Common.{◌≡◌, ℕ, ◌<◌, List, [], ◌∷◌, ◌++◌, length, map, zip, get_or, slice_get, Some, sym, ap, ◌∙◌, subst, All, Contains}
-use Rattle.std.proofs.lemmas.Option.{get_or_from_slice_get}
-use Rattle.std.proofs.lemmas.Simd.{map-map}
-use Rattle.act_types.specs.KindState.{KindState}
-use Rattle.act_rules.specs.RunList.{NothingFollowsAnEnd}
-use Rattle.act_rules.specs.Consistent.{IsPrefix}
-use Rattle.act_rules.specs.History.{ActorSpec, contains}
-use Rattle.act_rules.proofs.Unique.{map-slice_get}
-use Rattle.act_actor.specs.declared.cast.Cast.{Cast}
-use Rattle.act_actor.specs.Casts.{actor_spec}
-use Rattle.act_types.specs.declared.call.Notice.{Notice}
-use Rattle.act_mailbox.specs.declared.mail.Letter.{Letter}
-use Rattle.act_mailbox.specs.Lines.{items_from}
-use Rattle.act_mailbox.specs.Passes.{TakerView}
-use Rattle.act_mailbox.specs.Controls.{ControlExecView, starter}
-use Rattle.act_mailbox.specs.Notices.{RepliesView, ReplyExecView, notice_actor}
-use Rattle.act_mailbox.specs.declared.thread.Endpoint.{Endpoint}
-use Rattle.act_serve.specs.declared.turn.ExecPasses.{ExecPasses}
-use Rattle.act_serve.specs.declared.turn.Finished.{Finished}
-use Rattle.act_serve.specs.Served.{end_view, end_id, end_log, IsLogOf, replies_to, deaths, caller_at, endpoint_callers, KillsTaken, HasDrained, IfRetired, HasServed, without_given}
-use Rattle.act_serve.specs.Turns.{IsAtItsEndpoint}
-use Rattle.act_drive.specs.declared.caller.Driven.{Driven}
-use Rattle.act_executor.specs.declared.open.Lines.{Lines}
-use Rattle.act_executor.specs.Opened.{IsExec}
+use Rattle.act_executor.proofs.Common.{◌≡◌, ℕ, ◌<◌, List, [], ◌∷◌, ◌++◌, length, map, zip, get_or, slice_get, Some, sym, ap, ◌∙◌, subst, All, Contains}
+use Rattle.act_executor.proofs.Common.{get_or_from_slice_get, map-map, KindState, NothingFollowsAnEnd, IsPrefix, ActorSpec, contains, map-slice_get, Cast}
+use Rattle.act_executor.proofs.Common.{actor_spec, Notice, Letter, items_from, TakerView, ControlExecView, starter, RepliesView, ReplyExecView, notice_actor}
+use Rattle.act_executor.proofs.Common.{Endpoint, ExecPasses, Finished, end_view, end_id, end_log, IsLogOf, replies_to, deaths, caller_at, endpoint_callers}
+use Rattle.act_executor.proofs.Common.{KillsTaken, HasDrained, IfRetired, HasServed, without_given, IsAtItsEndpoint, Driven, Lines, IsExec, ServedView}
+use Rattle.act_executor.proofs.Common.{IsServed, NoticesAudited, SitsAtReplies, NoticeTold, ActorLeft, left_of}
 use Rattle.act_executor.proofs.Places.{at_other, all_at}
-use Rattle.act_executor.specs.Left.{ServedView, IsServed, NoticesAudited}
 use Rattle.act_executor.proofs.Elements.{IsIn, in_from_contains, contains_from_in, all_in, all_by_places}
-use Rattle.act_executor.specs.Audits.{SitsAtReplies, NoticeTold, ActorLeft, left_of}
 
 -- an actor's end with its passes
 abbrev pub served_view : {K : Type 0} → (K → KindState) → Finished K → ServedView

@@ -1,28 +1,11 @@
 -- Events that leave what callers and actors left, by their numbers, are a play of them.
-use Rattle.std.proofs.Common.{◌≡◌, ◌≢◌, ℕ, ◌==◌, Bool, true, false, true≢false, List, map, slice_get, Option, Some, None, AllPairs, All, refl, ap, sym, ◌∙◌, subst}
-use Rattle.std.specs.Prelude.{find, is_some, IsOk}
+use Rattle.act_executor.proofs.Common.{◌≡◌, ◌≢◌, ℕ, ◌==◌, Bool, true, false, true≢false, List, map, slice_get, Option, Some, None, AllPairs, All, refl, ap, sym}
+use Rattle.act_executor.proofs.Common.{◌∙◌, subst, find, is_some, IsOk, list_any, eq-eqb, eqb-true, slice_get-map, AllPairs-filter, Event, history, ActorSpec}
+use Rattle.act_executor.proofs.Common.{History, opening, contains, calls_of, kept_of, runs_of, is_dead, is_retired, one_to, Answer, outcomes, kept_at}
+use Rattle.act_executor.proofs.Common.{filter-slice_get, added_grows, after_all_keeps, OwnerView, EndView, Killed, Retired, Starved, end_id, callers_of_casts}
+use Rattle.act_executor.proofs.Common.{actors_of_casts, pairs_of_map, numbers_differ, is_starved, owner_of, end_of, calls_of_owner, kept_of_owner, log_of_end}
+use Rattle.act_executor.proofs.Common.{is_killed_end, calls_in, kept_in, log_in, killed_in, IsOwnerIn, HasEndedIn, IsEndIn, IsPlayOf}
 use Rattle.std.specs.Option.{option_map}
-use Rattle.std.specs.List.{list_any}
-use Rattle.std.proofs.lemmas.Bool.{eq-eqb, eqb-true}
-use Rattle.std.proofs.lemmas.Option.{slice_get-map}
-use Rattle.std.proofs.lemmas.List.Kept.{AllPairs-filter}
-use Rattle.act_rules.specs.declared.event.Event.{Event}
-use Rattle.act_rules.specs.Laws.{history}
-use Rattle.act_rules.specs.History.{ActorSpec, History, opening, contains, calls_of, kept_of, runs_of, is_dead, is_retired}
-use Rattle.act_rules.specs.Report.{one_to}
-use Rattle.act_rules.specs.RunList.{Answer}
-use Rattle.act_rules.specs.Rules.{outcomes}
-use Rattle.act_rules.specs.Submissions.{kept_at}
-use Rattle.act_rules.proofs.AsSubmitted.{filter-slice_get}
-use Rattle.act_rules.proofs.Growth.{added_grows}
-use Rattle.act_rules.proofs.Steps.{after_all_keeps}
-use Rattle.act_owner.specs.Owner.{OwnerView}
-use Rattle.act_serve.specs.Served.{EndView, Killed, Retired, Starved, end_id}
-use Rattle.act_plans.specs.Runs.{callers_of_casts, actors_of_casts}
-use Rattle.act_plans.proofs.Keys.{pairs_of_map}
-use Rattle.act_plans.proofs.Matching.{numbers_differ}
-use Rattle.act_executor.specs.Joined.{is_starved, owner_of, end_of, calls_of_owner, kept_of_owner, log_of_end, is_killed_end, calls_in, kept_in, log_in, killed_in}
-use Rattle.act_executor.specs.Plays.{IsOwnerIn, HasEndedIn, IsEndIn, IsPlayOf}
 use Rattle.act_executor.proofs.Elements.{all_in, all_by_places, found_is, finds, any_is}
 use Rattle.act_executor.proofs.Found.{one_of}
 

@@ -1,23 +1,9 @@
 -- Callers by plans and by code: the steps that each did make plans.
-use Rattle.std.proofs.Common.{◌≡◌, ◌≢◌, ℕ, zero, suc, Bool, true, false, List, [], ◌∷◌, length, Some, None, refl, ap, sym, ◌∙◌, subst, arith, rules, All, AllPairs, get_or, ◌<◌}
-use Rattle.std.specs.Prelude.{Option, ◌==◌, map, find, slice_get, option_map, if◌then◌else◌}
-use Rattle.std.specs.List.{list_any}
-use Rattle.std.proofs.lemmas.Bool.{ne_eqb, eqb-true, eq-eqb}
-use Rattle.std.proofs.lemmas.Option.{slice_get_within, get_or_from_slice_get}
-use Rattle.act_rules.specs.declared.script.Step.{Step}
-use Rattle.act_rules.specs.History.{ActorSpec, actors_naming, contains}
-use Rattle.act_owner.specs.Owner.{OwnerView}
-use Rattle.act_mailbox.specs.Mails.{MailView}
-use Rattle.act_mailbox.specs.Controls.{ControlView}
-use Rattle.act_mailbox.specs.Notices.{RepliesView}
-use Rattle.act_drive.specs.declared.caller.Driven.{Driven}
-use Rattle.act_drive.specs.Sessions.{SessionView}
-use Rattle.act_drive.specs.Coded.{HasConcluded}
-use Rattle.act_plans.specs.Runs.{plan_of, steps_of_plan}
-use Rattle.act_serve.specs.Served.{EndView}
-use Rattle.act_executor.specs.Joined.{CallsThatDiedNeverRan, kept_in, log_in}
-use Rattle.act_executor.specs.Left.{ServedView, IsDriven, AreJoined}
-use Rattle.act_executor.specs.ByCode.{code_of, opened_of, HasTold, IsDrivenBy, AreJoinedBy, IsJoinedBy}
+use Rattle.act_executor.proofs.Common.{◌≡◌, ◌≢◌, ℕ, zero, suc, Bool, true, false, List, [], ◌∷◌, length, Some, None, refl, ap, sym, ◌∙◌, subst, arith, rules}
+use Rattle.act_executor.proofs.Common.{All, AllPairs, get_or, ◌<◌, Option, ◌==◌, map, find, slice_get, option_map, if◌then◌else◌, list_any, ne_eqb, eqb-true}
+use Rattle.act_executor.proofs.Common.{eq-eqb, slice_get_within, get_or_from_slice_get, Step, ActorSpec, actors_naming, contains, OwnerView, MailView}
+use Rattle.act_executor.proofs.Common.{ControlView, RepliesView, Driven, SessionView, HasConcluded, plan_of, steps_of_plan, EndView, CallsThatDiedNeverRan}
+use Rattle.act_executor.proofs.Common.{kept_in, log_in, ServedView, IsDriven, AreJoined, code_of, opened_of, HasTold, IsDrivenBy, AreJoinedBy, IsJoinedBy}
 use Rattle.act_executor.proofs.Elements.{all_in, all_by_places, found_is, finds, any_is, contains_is}
 use Rattle.act_executor.proofs.Found.{driven_named, one_of}
 use Rattle.act_executor.proofs.Joint.{driven_of, owner_is}

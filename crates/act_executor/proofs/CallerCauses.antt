@@ -1,26 +1,10 @@
 -- Each step of a caller's thread is caused by the deeds before it.
-use Rattle.std.proofs.Common.{◌≡◌, ℕ, ◌<◌, List, ◌∷◌, ◌++◌, Option, Some, None, refl, ap, sym, ◌∙◌, subst, Contains}
-use Rattle.std.specs.Prelude.{slice_get, option_map}
-use Rattle.std.proofs.lemmas.List.{map-append}
-use Rattle.std.proofs.lemmas.List.Elements.{filter_map-append}
-use Rattle.std.proofs.lemmas.Option.{slice_get-map}
-use Rattle.act_types.specs.declared.call.Notice.TheVariants.{Answered, Death}
-use Rattle.act_types.specs.declared.call.Reply.{Reply}
-use Rattle.act_mailbox.specs.Traces.{steps_in, found_in}
-use Rattle.act_handles.specs.Handles.{copies_in}
-use Rattle.act_owner.specs.Owner.{OwnerView, refusal_to_submit, sending_refusal}
-use Rattle.act_owner.specs.Life.{Change, Copied, Released, Submitted, Sent, Noticed}
-use Rattle.act_rules.specs.declared.history.RunItem.{RunItem}
-use Rattle.act_rules.specs.Consistent.{IsPrefix}
-use Rattle.act_rules.specs.History.{ActorSpec}
-use Rattle.act_rules.specs.Submissions.{handle_refusal, copy_refusal}
-use Rattle.act_rules.proofs.Kept.{answer_at-front}
-use Rattle.act_rules.proofs.Lists.{whole_front}
-use Rattle.act_causes.specs.Deeds.{Deed, IsReplyGiven, IsAllowed, IsCaused, owner_after, owner_by}
-use Rattle.act_causes.specs.Merge.{deeds_of}
-use Rattle.act_serve.specs.ActorSteps.{ActorStep, DeathTold, call_run, log_of_steps}
-use Rattle.act_drive.specs.CallerSteps.{CallerStep, ChangeMade, KillAsked, owner_after_steps, MayChange, CallerMayDo, CallerMayDoAll}
-use Rattle.act_executor.specs.Traced.{CallerThreads, ActorThreads, opened_by, log_left, IsReplyGivenBy, AreTraced}
+use Rattle.act_executor.proofs.Common.{◌≡◌, ℕ, ◌<◌, List, ◌∷◌, ◌++◌, Option, Some, None, refl, ap, sym, ◌∙◌, subst, Contains, slice_get, option_map, map-append}
+use Rattle.act_executor.proofs.Common.{filter_map-append, slice_get-map, Answered, Death, Reply, steps_in, found_in, copies_in, OwnerView, refusal_to_submit}
+use Rattle.act_executor.proofs.Common.{sending_refusal, Change, Copied, Released, Submitted, Sent, Noticed, RunItem, IsPrefix, ActorSpec, handle_refusal}
+use Rattle.act_executor.proofs.Common.{copy_refusal, answer_at-front, whole_front, Deed, IsReplyGiven, IsAllowed, IsCaused, owner_after, owner_by, deeds_of}
+use Rattle.act_executor.proofs.Common.{ActorStep, DeathTold, call_run, log_of_steps, CallerStep, ChangeMade, KillAsked, owner_after_steps, MayChange}
+use Rattle.act_executor.proofs.Common.{CallerMayDo, CallerMayDoAll, CallerThreads, ActorThreads, opened_by, log_left, IsReplyGivenBy, AreTraced}
 use Rattle.act_executor.proofs.Cuts.{contains_mid, AreFrom, place_in_front}
 use Rattle.act_executor.proofs.FoundSteps.{found_append, found_from, found_is}
 use Rattle.act_executor.proofs.Threads.{deed_of_caller}

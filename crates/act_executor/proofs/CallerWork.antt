@@ -1,26 +1,12 @@
 -- What a caller's thread did, without the notices of actors that don't name it: they change nothing of it.
-use Rattle.std.proofs.Common.{◌≡◌, ℕ, ◌+◌, ◌-◌, Bool, true, false, List, [], ◌∷◌, ◌++◌, length, Some, None, inl, inr, refl, ap, sym, ◌∙◌, subst}
-use Rattle.std.specs.Prelude.{◌==◌, ◌&&◌, not, filter, Option, option_map, slice_get, is_some, if◌then◌else◌}
-use Rattle.std.specs.Option.{option_or}
-use Rattle.std.specs.List.{AllByRecursion}
-use Rattle.std.proofs.lemmas.Bool.{eqb-true}
-use Rattle.std.proofs.lemmas.Bool.Decides.{eqb_tells}
-use Rattle.act_types.specs.declared.call.Notice.{Notice}
-use Rattle.act_types.specs.declared.call.Notice.TheVariants.{Answered, Death}
-use Rattle.act_types.specs.declared.call.Arg.{Arg}
-use Rattle.act_rules.specs.declared.history.Submission.{Submission}
-use Rattle.act_rules.specs.History.{contains}
-use Rattle.act_rules.specs.Submissions.{kept_at, submit_refusal, limit_refusal}
-use Rattle.act_rules.proofs.Lists.{All_at, All_more}
-use Rattle.act_handles.specs.declared.handles.Handle.{Handle}
-use Rattle.act_handles.specs.Handles.{copies_in, with_copy, without_copy}
-use Rattle.act_handles.proofs.Lookups.{copies-with_copy, copies-without_copy, copies-with_copy-other, copies-without_copy-other, copies-with_number, copies-opened}
-use Rattle.act_owner.specs.declared.owner.Collected.TheVariants.{First, Late, Stray}
-use Rattle.act_owner.specs.Owner.{OwnerView, opened_under, owner_limit, pending, refusal_to_submit, is_sent, is_to, is_death, after_collect, after_reply_that, with_death}
-use Rattle.act_owner.specs.Life.{Change, Copied, Released, Submitted, Sent, Noticed, after_change}
-use Rattle.act_mailbox.specs.Notices.{notice_actor}
-use Rattle.act_drive.proofs.Drivers.{notice_keeps}
-use Rattle.act_drive.specs.CallerSteps.{CallerStep, ChangeMade, KillAsked, notice_collected, owner_after_steps, MayChange, CallerMayDoAll}
+use Rattle.act_executor.proofs.Common.{◌≡◌, ℕ, ◌+◌, ◌-◌, Bool, true, false, List, [], ◌∷◌, ◌++◌, length, Some, None, inl, inr, refl, ap, sym, ◌∙◌, subst, ◌==◌}
+use Rattle.act_executor.proofs.Common.{◌&&◌, not, filter, Option, option_map, slice_get, is_some, if◌then◌else◌, option_or, AllByRecursion, eqb-true, eqb_tells}
+use Rattle.act_executor.proofs.Common.{Notice, Answered, Death, Arg, Submission, contains, kept_at, submit_refusal, limit_refusal, All_at, All_more, Handle}
+use Rattle.act_executor.proofs.Common.{copies_in, with_copy, without_copy, copies-with_copy, copies-without_copy, copies-with_copy-other}
+use Rattle.act_executor.proofs.Common.{copies-without_copy-other, copies-with_number, copies-opened, First, Late, Stray, OwnerView, opened_under, owner_limit}
+use Rattle.act_executor.proofs.Common.{pending, refusal_to_submit, is_sent, is_to, is_death, after_collect, after_reply_that, with_death, Change, Copied}
+use Rattle.act_executor.proofs.Common.{Released, Submitted, Sent, Noticed, after_change, notice_actor, notice_keeps, CallerStep, ChangeMade, KillAsked}
+use Rattle.act_executor.proofs.Common.{notice_collected, owner_after_steps, MayChange, CallerMayDoAll}
 use Rattle.act_executor.proofs.Kept.{kept_first, lost_first}
 
 -- every step but the collecting of a notice of an actor that isn't among these

@@ -1,35 +1,13 @@
 -- What each caller of a run left, at its place.
-use Rattle.std.proofs.Common.{◌≡◌, ℕ, ◌<◌, false, List, length, map, zip, get_or, slice_get, Some, sym, ap, ◌∙◌, subst, All, Contains}
-use Rattle.std.proofs.lemmas.Option.{get_or_from_slice_get}
-use Rattle.act_rules.specs.Consistent.{IsPrefix}
-use Rattle.act_rules.specs.Plans.{planned}
-use Rattle.act_rules.proofs.Unique.{map-slice_get}
-use Rattle.act_handles.specs.Handles.{actors_in}
-use Rattle.act_owner.specs.Owner.{opened_under}
-use Rattle.act_mailbox.specs.declared.mail.Letter.{Letter}
-use Rattle.act_mailbox.specs.declared.control.Asked.{Asked}
-use Rattle.act_mailbox.specs.Lines.{items_from}
-use Rattle.act_mailbox.specs.Passes.{PutterView, TakerView}
-use Rattle.act_mailbox.specs.Mails.{MailView, caller_of}
-use Rattle.act_mailbox.specs.Controls.{ControlView, asker_of}
-use Rattle.act_mailbox.specs.Notices.{RepliesView}
-use Rattle.act_mailbox.specs.declared.thread.Endpoint.{Endpoint}
-use Rattle.act_serve.specs.declared.turn.Finished.{Finished}
-use Rattle.act_drive.specs.declared.driver.CallerPasses.{CallerPasses}
-use Rattle.act_drive.specs.declared.caller.Driven.{Driven}
-use Rattle.act_drive.specs.Driven.{HasPosted, HasAsked, IsFreshEndpoint, IsKillEndpoint, bare_post, bare_ask}
-use Rattle.act_plans.specs.declared.rising.CallerSetup.{CallerSetup}
-use Rattle.act_executor.specs.declared.open.Lines.{Lines}
-use Rattle.act_executor.specs.Opened.{IsCaller}
+use Rattle.act_executor.proofs.Common.{◌≡◌, ℕ, ◌<◌, false, List, length, map, zip, get_or, slice_get, Some, sym, ap, ◌∙◌, subst, All, Contains}
+use Rattle.act_executor.proofs.Common.{get_or_from_slice_get, IsPrefix, planned, map-slice_get, actors_in, opened_under, Letter, Asked, items_from, PutterView}
+use Rattle.act_executor.proofs.Common.{TakerView, MailView, caller_of, ControlView, asker_of, RepliesView, Endpoint, Finished, CallerPasses, Driven, HasPosted}
+use Rattle.act_executor.proofs.Common.{HasAsked, IsFreshEndpoint, IsKillEndpoint, bare_post, bare_ask, CallerSetup, Lines, IsCaller, IsDriven, LettersAudited}
+use Rattle.act_executor.proofs.Common.{KillsAudited, SitsAtMail, SitsAtControl, HasEndpoints, LetterTold, KillTold, Doing, IsDrivenAt, KindState}
 use Rattle.act_executor.proofs.Places.{at_other, all_at}
-use Rattle.act_executor.specs.Left.{IsDriven, LettersAudited, KillsAudited}
 use Rattle.act_executor.proofs.Elements.{IsIn, in_from_contains, contains_from_in, all_in, all_by_places}
-use Rattle.act_executor.specs.Audits.{SitsAtMail, SitsAtControl, HasEndpoints, LetterTold, KillTold}
-use Rattle.act_executor.specs.Conducts.{Doing}
-use Rattle.act_executor.specs.Joins.{IsDrivenAt}
 use Rattle.act_executor.proofs.Owners.{own_actors}
 use Rattle.act_executor.proofs.Actors.{served_view}
-use Rattle.act_types.specs.KindState.{KindState}
 
 abbrev LetterEndpoint : Type 0
 LetterEndpoint = Endpoint (PutterView Letter Unit)

@@ -1,21 +1,9 @@
 -- Opening states, submissions, run lists, kept answers and dead actors fit one another where each item is a call as it was sent, numbered in order.
-use Rattle.std.proofs.Common.{◌≡◌, ◌≢◌, ℕ, ◌+◌, Bool, List, length, Some, refl, ap, sym, ◌∙◌, subst, arith}
-use Rattle.std.specs.Prelude.{Option, ◌==◌, map, filter, take, slice_get, option_map, option_and_then, Err, IsTrue}
-use Rattle.std.specs.List.{AllByRecursion, list_all, range_with_len}
-use Rattle.std.proofs.lemmas.Bool.{eq-eqb, eqb-true}
-use Rattle.std.proofs.lemmas.Option.{slice_get-map}
-use Rattle.act_types.specs.declared.call.Fault.TheVariants.{ActorDied}
-use Rattle.act_types.specs.KindState.{KindState}
-use Rattle.act_rules.specs.declared.history.RunItem.{RunItem}
-use Rattle.act_rules.specs.declared.history.Submission.{Submission}
-use Rattle.act_rules.specs.RunList.{Answer, answer_at, items_of}
-use Rattle.act_rules.specs.Submissions.{calls_to, number_of, kept_at, is_known, settle}
-use Rattle.act_rules.specs.Consistent.{IsPrefix, IsAsSubmitted, IsCallToDead, Consistent}
-use Rattle.act_rules.proofs.Lists.{slice_get-filter, slice_get-enumerate_from}
-use Rattle.act_rules.proofs.AsSubmitted.{filter-slice_get}
-use Rattle.act_rules.proofs.Letters.{calls_to-number}
-use Rattle.act_rules.proofs.Order.{numbered, numbers}
-use Rattle.act_rules.proofs.Unique.{map-slice_get, same_place}
+use Rattle.act_executor.proofs.Common.{◌≡◌, ◌≢◌, ℕ, ◌+◌, Bool, List, length, Some, refl, ap, sym, ◌∙◌, subst, arith, Option, ◌==◌, map, filter, take, slice_get}
+use Rattle.act_executor.proofs.Common.{option_map, option_and_then, Err, IsTrue, AllByRecursion, list_all, range_with_len, eq-eqb, eqb-true, slice_get-map}
+use Rattle.act_executor.proofs.Common.{ActorDied, KindState, RunItem, Submission, Answer, answer_at, items_of, calls_to, number_of, kept_at, is_known, settle}
+use Rattle.act_executor.proofs.Common.{IsPrefix, IsAsSubmitted, IsCallToDead, Consistent, slice_get-filter, slice_get-enumerate_from, filter-slice_get}
+use Rattle.act_executor.proofs.Common.{calls_to-number, numbered, numbers, map-slice_get, same_place}
 use Rattle.act_executor.proofs.Elements.{all_from_places, front_by_places, range_at}
 
 -- the item is a call to actor a, as it was sent

@@ -1,15 +1,8 @@
 -- Lists that are cut: where what was found, contained or mapped stands in a front.
-use Rattle.std.proofs.Common.{◌≡◌, ◌≢◌, ℕ, zero, suc, ◌≤◌, ◌<◌, ◌==◌, Bool, true, false, List, [], ◌∷◌, ◌++◌, Option, Some, None, All, inl, inr, refl, ap, sym, ◌∙◌, subst, arith, Contains}
-use Rattle.std.specs.Prelude.{◌⊎◌, map, filter_map, slice_get, nat_le, AllPairs}
-use Rattle.std.specs.List.{AllByRecursion, cons_option}
-use Rattle.std.proofs.lemmas.Bool.{eq-eqb, leb-true, leb-false}
-use Rattle.std.proofs.lemmas.Bool.Decides.{eqb_tells}
-use Rattle.std.proofs.lemmas.List.{length-map, get_or-map}
-use Rattle.std.proofs.lemmas.List.Elements.{All-append, All-head, All-tail, Contains-append_right}
-use Rattle.std.proofs.lemmas.List.Kept.{AllPairs-cons}
-use Rattle.act_rules.specs.Consistent.{IsPrefix}
-use Rattle.act_rules.specs.History.{under}
-use Rattle.act_causes.proofs.Merging.{under_here, under_other}
+use Rattle.act_executor.proofs.Common.{◌≡◌, ◌≢◌, ℕ, zero, suc, ◌≤◌, ◌<◌, ◌==◌, Bool, true, false, List, [], ◌∷◌, ◌++◌, Option, Some, None, All, inl, inr, refl}
+use Rattle.act_executor.proofs.Common.{ap, sym, ◌∙◌, subst, arith, Contains, ◌⊎◌, map, filter_map, slice_get, nat_le, AllPairs, AllByRecursion, cons_option}
+use Rattle.act_executor.proofs.Common.{eq-eqb, leb-true, leb-false, eqb_tells, length-map, get_or-map, All-append, All-head, All-tail, Contains-append_right}
+use Rattle.act_executor.proofs.Common.{AllPairs-cons, IsPrefix, under, under_here, under_other}
 
 -- ---- what is contained
 

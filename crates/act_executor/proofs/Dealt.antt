@@ -1,33 +1,11 @@
 -- What follows of lines whose passes were dealt by the casts and the parts.
-use Rattle.std.proofs.Common.{◌≡◌, ◌≢◌, ℕ, ◌+◌, ◌<◌, true, List, [], ◌∷◌, Some, All, Contains, length, map, get_or, refl, ap, sym, ◌∙◌, subst, arith}
-use Rattle.std.specs.Prelude.{◌==◌, ◌&&◌, slice_get, AllPairs}
-use Rattle.std.specs.List.{list_any, range_with_len}
-use Rattle.std.proofs.lemmas.List.FromFn.{get_or-range_with_len}
-use Rattle.std.proofs.lemmas.List.{length-map, get_or-map}
-use Rattle.std.proofs.lemmas.List.Elements.{All-nil, All-contains}
-use Rattle.std.proofs.lemmas.Option.{slice_get_within, get_or_from_slice_get, slice_get-get_or}
-use Rattle.atomic_table.specs.Seated.{TableId}
-use Rattle.act_rules.specs.History.{contains}
-use Rattle.act_rules.proofs.Unique.{map-slice_get}
-use Rattle.act_actor.specs.Cast.{CallersDiffer}
-use Rattle.act_actor.specs.declared.cast.Cast.{Cast}
-use Rattle.act_mailbox.specs.Passes.{PutterView, new_putter}
-use Rattle.act_mailbox.specs.Mails.{MailView}
-use Rattle.act_mailbox.specs.Controls.{ControlView, starter}
-use Rattle.act_mailbox.specs.Notices.{RepliesView, ReplyExecView, new_exec, IsNoDeath}
-use Rattle.act_mailbox.specs.declared.mail.Letter.{Letter}
-use Rattle.act_mailbox.specs.declared.control.Asked.{Asked}
-use Rattle.act_mailbox.specs.declared.thread.Endpoint.{Endpoint}
-use Rattle.act_serve.specs.declared.turn.ExecPasses.{ExecPasses}
-use Rattle.act_serve.specs.Served.{caller_at, endpoint_callers}
-use Rattle.act_serve.specs.Turns.{IsAtItsEndpoint, EndpointsDiffer}
-use Rattle.act_drive.specs.declared.driver.CallerPasses.{CallerPasses}
-use Rattle.act_drive.specs.Driven.{IsFreshEndpoint, AreDistinct, IsKillEndpoint, AreKillEndpoints}
-use Rattle.act_plans.specs.declared.rising.CallerSetup.{CallerSetup}
-use Rattle.act_plans.specs.Setups.{AreMatched}
-use Rattle.act_executor.specs.declared.open.Opened.{Opened}
-use Rattle.act_executor.specs.Groups.{group_of, endpoints_from}
-use Rattle.act_executor.specs.Opened.{IsExec, IsCaller, ArePaired, AreLines, AreAtLines, AreOpened}
+use Rattle.act_executor.proofs.Common.{◌≡◌, ◌≢◌, ℕ, ◌+◌, ◌<◌, true, List, [], ◌∷◌, Some, All, Contains, length, map, get_or, refl, ap, sym, ◌∙◌, subst, arith}
+use Rattle.act_executor.proofs.Common.{◌==◌, ◌&&◌, slice_get, AllPairs, list_any, range_with_len, get_or-range_with_len, length-map, get_or-map, All-nil}
+use Rattle.act_executor.proofs.Common.{All-contains, slice_get_within, get_or_from_slice_get, slice_get-get_or, TableId, contains, map-slice_get, CallersDiffer}
+use Rattle.act_executor.proofs.Common.{Cast, PutterView, new_putter, MailView, ControlView, starter, RepliesView, ReplyExecView, new_exec, IsNoDeath, Letter}
+use Rattle.act_executor.proofs.Common.{Asked, Endpoint, ExecPasses, caller_at, endpoint_callers, IsAtItsEndpoint, EndpointsDiffer, CallerPasses}
+use Rattle.act_executor.proofs.Common.{IsFreshEndpoint, AreDistinct, IsKillEndpoint, AreKillEndpoints, CallerSetup, AreMatched, Opened, group_of}
+use Rattle.act_executor.proofs.Common.{endpoints_from, IsExec, IsCaller, ArePaired, AreLines, AreAtLines, AreOpened}
 use Rattle.act_executor.proofs.Cuts.{contains_map}
 use Rattle.act_executor.proofs.Endpoints.{each_of, has_of, rising_of}
 use Rattle.act_executor.proofs.Places.{at_both, at_other, as_long, each_at, all_at, map_apart, pairs_weaker, apart_at, has_contains, contains_name, all_names, both_or_neither, only_cast}

@@ -1,15 +1,9 @@
 -- Elements of lists by their places, and look-ups.
-use Rattle.std.proofs.Common.{◌≡◌, ℕ, zero, suc, ◌+◌, Bool, true, false, cond, List, [], ◌∷◌, ◌++◌, length, Some, None, refl, ap, sym, ◌∙◌, subst, arith, inl, inr, ◌<◌, length-append}
-use Rattle.std.specs.Prelude.{◌==◌, ◌||◌, map, filter, find, slice_get, All, Contains, ◌⊎◌}
-use Rattle.std.specs.List.{AllByRecursion, list_any, range_with_len, enumerate_from}
-use Rattle.std.proofs.lemmas.Bool.{eq-eqb, eqb-true}
-use Rattle.std.proofs.lemmas.Option.{slice_get_read, slice_get-get_or, slice_get_within, get_or_from_slice_get}
+use Rattle.act_executor.proofs.Common.{◌≡◌, ℕ, zero, suc, ◌+◌, Bool, true, false, cond, List, [], ◌∷◌, ◌++◌, length, Some, None, refl, ap, sym, ◌∙◌, subst}
+use Rattle.act_executor.proofs.Common.{arith, inl, inr, ◌<◌, length-append, ◌==◌, ◌||◌, map, filter, find, slice_get, All, Contains, ◌⊎◌, AllByRecursion}
+use Rattle.act_executor.proofs.Common.{list_any, range_with_len, enumerate_from, eq-eqb, eqb-true, slice_get_read, slice_get-get_or, slice_get_within}
+use Rattle.act_executor.proofs.Common.{get_or_from_slice_get, All-contains, any_passes_from_place, IsPrefix, slice_get-filter, slice_get_front, contains}
 use Rattle.std.proofs.lemmas.List.{append-nil}
-use Rattle.std.proofs.lemmas.List.Elements.{All-contains}
-use Rattle.std.proofs.lemmas.Map.Keys.{any_passes_from_place}
-use Rattle.act_rules.specs.Consistent.{IsPrefix}
-use Rattle.act_rules.proofs.Lists.{slice_get-filter, slice_get_front}
-use Rattle.act_rules.specs.History.{contains}
 
 -- x stands in xs
 pub record IsIn {A : Type 0} (xs : List A) (x : A) : Type 0 where

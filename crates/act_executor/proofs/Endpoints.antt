@@ -1,17 +1,9 @@
 -- The endpoints that a list of lines deals, and those of one name among them.
-use Rattle.std.proofs.Common.{◌≡◌, ◌≢◌, ℕ, zero, suc, ◌+◌, ◌<◌, Bool, true, false, cond, List, [], ◌∷◌, ◌++◌, Some, All, Contains, length, map, take, get_or, inl, inr, refl, ap, sym, ◌∙◌, subst, arith, append_assoc, append-nil, length-append}
-use Rattle.std.specs.Prelude.{◌==◌, slice_get, option_map, AllPairs}
-use Rattle.std.proofs.lemmas.Bool.Decides.{eqb_tells}
-use Rattle.std.proofs.lemmas.List.{map-append, map_more, length-map, length-take-le}
-use Rattle.std.proofs.lemmas.List.Elements.{All-nil, All-cons, All-tail, All-map, filter-append}
-use Rattle.std.proofs.lemmas.Option.{slice_get-map}
-use Rattle.std.proofs.lemmas.List.Kept.{AllPairs-cons}
-use Rattle.atomic_table.specs.Seated.{TableId}
-use Rattle.act_rules.specs.History.{contains}
-use Rattle.act_rules.proofs.Unique.{map-slice_get}
-use Rattle.act_actor.specs.Cast.{CallersDiffer}
-use Rattle.act_mailbox.specs.declared.thread.Endpoint.{Endpoint}
-use Rattle.act_executor.specs.Groups.{endpoint_at, group_of, endpoints_from}
+use Rattle.act_executor.proofs.Common.{◌≡◌, ◌≢◌, ℕ, zero, suc, ◌+◌, ◌<◌, Bool, true, false, cond, List, [], ◌∷◌, ◌++◌, Some, All, Contains, length, map, take}
+use Rattle.act_executor.proofs.Common.{get_or, inl, inr, refl, ap, sym, ◌∙◌, subst, arith, append_assoc, append-nil, length-append, ◌==◌, slice_get, option_map}
+use Rattle.act_executor.proofs.Common.{AllPairs, eqb_tells, map-append, map_more, length-map, length-take-le, All-nil, All-cons, All-tail, All-map}
+use Rattle.act_executor.proofs.Common.{filter-append, slice_get-map, AllPairs-cons, TableId, contains, map-slice_get, CallersDiffer, Endpoint, endpoint_at}
+use Rattle.act_executor.proofs.Common.{group_of, endpoints_from}
 
 -- ---- one line more
 

@@ -1,39 +1,15 @@
 -- How the threads of a joined run ended: what was submitted, who was killed, and that a retired actor ran all.
-use Rattle.std.proofs.Common.{◌≡◌, ℕ, suc, ◌<◌, ◌≤◌, Bool, true, false, true≢false, cond, List, [], ◌∷◌, length, Some, None, inl, inr, refl, ap, sym, ◌∙◌, subst, arith}
-use Rattle.std.specs.Prelude.{Option, ◌==◌, ◌&&◌, map, slice_get, is_some, All, Contains}
-use Rattle.std.specs.Option.{option_or}
-use Rattle.std.proofs.lemmas.Bool.{eq-eqb, eqb-true, and_parts}
-use Rattle.std.proofs.lemmas.Simd.{map-map}
-use Rattle.std.proofs.lemmas.List.{length-map}
-use Rattle.std.proofs.lemmas.List.Elements.{All-map}
-use Rattle.std.proofs.lemmas.List.FromFn.{length-enumerate_from}
-use Rattle.act_types.specs.declared.call.Notice.{Notice}
-use Rattle.act_types.specs.declared.call.ReleaseNote.{ReleaseNote}
-use Rattle.act_rules.specs.declared.history.RunItem.{RunItem}
-use Rattle.act_rules.specs.declared.history.Submission.{Submission}
-use Rattle.act_rules.specs.declared.script.Step.{Step}
-use Rattle.act_rules.specs.RunList.{items_of, has_terminated, NothingFollowsAnEnd}
-use Rattle.act_rules.specs.Submissions.{calls_to, kept_at}
-use Rattle.act_rules.specs.Plans.{planned, kills_to}
-use Rattle.act_rules.specs.History.{ActorSpec, contains, actors_naming}
-use Rattle.act_rules.proofs.AsSubmitted.{filter-slice_get, calls_to-at}
-use Rattle.act_rules.proofs.Order.{numbered, numbers}
-use Rattle.act_rules.proofs.Unique.{map-slice_get}
-use Rattle.act_owner.specs.Owner.{OwnerView}
+use Rattle.act_executor.proofs.Common.{◌≡◌, ℕ, suc, ◌<◌, ◌≤◌, Bool, true, false, true≢false, cond, List, [], ◌∷◌, length, Some, None, inl, inr, refl, ap, sym}
+use Rattle.act_executor.proofs.Common.{◌∙◌, subst, arith, Option, ◌==◌, ◌&&◌, map, slice_get, is_some, All, Contains, option_or, eq-eqb, eqb-true, and_parts}
+use Rattle.act_executor.proofs.Common.{map-map, length-map, All-map, length-enumerate_from, Notice, ReleaseNote, RunItem, Submission, Step, items_of}
+use Rattle.act_executor.proofs.Common.{has_terminated, NothingFollowsAnEnd, calls_to, kept_at, planned, kills_to, ActorSpec, contains, actors_naming}
+use Rattle.act_executor.proofs.Common.{filter-slice_get, calls_to-at, numbered, numbers, map-slice_get, OwnerView, MailView, caller_of, ControlView}
+use Rattle.act_executor.proofs.Common.{ControlExecView, asker_of, starter, RepliesView, Asked, Letter, Call, Note, ExecPasses, EndView, Killed, Retired}
+use Rattle.act_executor.proofs.Common.{Starved, end_id, end_log, IfRetired, note_in, first_note, IsTakenAt, KillsOfDead, KillsTaken, Driven, IsSent, AreAsked}
+use Rattle.act_executor.proofs.Common.{HasAsked, limits_naming, plan_of, callers_of_casts, actors_of_casts, is_killed, is_starved, owner_of, calls_of_owner}
+use Rattle.act_executor.proofs.Common.{kept_of_owner, log_of_end, is_killed_end, calls_in, kept_in, log_in, killed_in, RanAll, IsJoined, CallsThatDiedNeverRan}
+use Rattle.act_executor.proofs.Common.{ServedView, AreJoined}
 use Rattle.act_mailbox.specs.Lines.{items_from as items_put}
-use Rattle.act_mailbox.specs.Mails.{MailView, caller_of}
-use Rattle.act_mailbox.specs.Controls.{ControlView, ControlExecView, asker_of, starter}
-use Rattle.act_mailbox.specs.Notices.{RepliesView}
-use Rattle.act_mailbox.specs.declared.control.Asked.{Asked}
-use Rattle.act_mailbox.specs.declared.mail.Letter.{Letter}
-use Rattle.act_mailbox.specs.declared.mail.Letter.TheVariants.{Call, Note}
-use Rattle.act_serve.specs.declared.turn.ExecPasses.{ExecPasses}
-use Rattle.act_serve.specs.Served.{EndView, Killed, Retired, Starved, end_id, end_log, IfRetired, note_in, first_note, IsTakenAt, KillsOfDead, KillsTaken}
-use Rattle.act_drive.specs.declared.caller.Driven.{Driven}
-use Rattle.act_drive.specs.Driven.{IsSent, AreAsked, HasAsked}
-use Rattle.act_plans.specs.Runs.{limits_naming, plan_of, callers_of_casts, actors_of_casts}
-use Rattle.act_executor.specs.Joined.{is_killed, is_starved, owner_of, calls_of_owner, kept_of_owner, log_of_end, is_killed_end, calls_in, kept_in, log_in, killed_in, RanAll, IsJoined, CallsThatDiedNeverRan}
-use Rattle.act_executor.specs.Left.{ServedView, AreJoined}
 use Rattle.act_executor.proofs.Elements.{IsIn, in_from_contains, all_in, in_filter, in_front, all_by_places, is_contained, empty_by_places, whole_by_length, enumerated, in_none, in_first, some_long}
 use Rattle.act_executor.proofs.Found.{naming, same_cast, planned_known, planned_none, driven_named}
 use Rattle.act_executor.proofs.Consistency.{order_of, fits}

@@ -1,44 +1,16 @@
 -- A run that meets all premises: one counter, one caller, one call; the actor retired.
-use Rattle.std.proofs.Common.{◌≡◌, ◌≢◌, ℕ, zero, suc, ◌<◌, Bool, true, false, cond, List, [], ◌∷◌, ◌++◌, length, Some, inl, refl, subst, arith}
-use Rattle.std.specs.Prelude.{◌==◌, slice_get, map, is_some, Ok, All, AllPairs, Contains, pos}
-use Rattle.std.specs.List.{range_with_len}
-use Rattle.std.specs.Global.{Vec, Global}
-use Rattle.std.proofs.lemmas.List.Kept.{AllPairs-cons}
+use Rattle.act_executor.proofs.Common.{◌≡◌, ◌≢◌, ℕ, zero, suc, ◌<◌, Bool, true, false, cond, List, [], ◌∷◌, ◌++◌, length, Some, inl, refl, subst, arith, ◌==◌}
+use Rattle.act_executor.proofs.Common.{slice_get, map, is_some, Ok, All, AllPairs, Contains, pos, range_with_len, Vec, Global, AllPairs-cons, TableId}
+use Rattle.act_executor.proofs.Common.{CounterAt, MAX_ACTORS, MAX_CALLERS, Notice, Answered, RunItem, Submission, Step, Answer, items_of, NothingFollowsAnEnd}
+use Rattle.act_executor.proofs.Common.{kept_at, one_to, ActorSpec, contains, actors_naming, All-two, OwnerView, is_death, IsToldBy, MailView, ControlView}
+use Rattle.act_executor.proofs.Common.{asker_of, starter, RepliesView, ReplyExecView, PutterView, Asked, Letter, Call, Note, Endpoint, packet_of_item, Retired}
+use Rattle.act_executor.proofs.Common.{end_id, first_note, replies_to, deaths, caller_at, Driven, HasPosted, HasAsked, IsSent, AreTwo, limits_naming, cast_at}
+use Rattle.act_executor.proofs.Common.{plan_of, is_starved, ServedView, IsServed, IsDriven, AreAudited, AreCasts, AreJoined}
 use denote.RawPtr.{Ptr}
-use Rattle.atomic_table.specs.Seated.{TableId}
-use Rattle.act_types.specs.KindState.{CounterAt}
-use Rattle.act_types.specs.declared.limits.TheConstants.{MAX_ACTORS, MAX_CALLERS}
 use Rattle.act_types.specs.declared.call.Value.TheVariants as value
 use Rattle.act_types.specs.declared.call.Method.TheVariants as method
-use Rattle.act_types.specs.declared.call.Notice.{Notice}
-use Rattle.act_types.specs.declared.call.Notice.TheVariants.{Answered}
-use Rattle.act_rules.specs.declared.history.RunItem.{RunItem}
-use Rattle.act_rules.specs.declared.history.Submission.{Submission}
-use Rattle.act_rules.specs.declared.script.Step.{Step}
 use Rattle.act_rules.specs.declared.script.Step.TheVariants as step
-use Rattle.act_rules.specs.RunList.{Answer, items_of, NothingFollowsAnEnd}
-use Rattle.act_rules.specs.Submissions.{kept_at}
-use Rattle.act_rules.specs.Report.{one_to}
-use Rattle.act_rules.specs.History.{ActorSpec, contains, actors_naming}
-use Rattle.act_rules.proofs.Lists.{All-two}
-use Rattle.act_owner.specs.Owner.{OwnerView, is_death}
-use Rattle.act_owner.specs.Life.{IsToldBy}
 use Rattle.act_mailbox.specs.Lines.{items_from as items_put}
-use Rattle.act_mailbox.specs.Mails.{MailView}
-use Rattle.act_mailbox.specs.Controls.{ControlView, asker_of, starter}
-use Rattle.act_mailbox.specs.Notices.{RepliesView, ReplyExecView}
-use Rattle.act_mailbox.specs.Passes.{PutterView}
-use Rattle.act_mailbox.specs.declared.control.Asked.{Asked}
-use Rattle.act_mailbox.specs.declared.mail.Letter.{Letter}
-use Rattle.act_mailbox.specs.declared.mail.Letter.TheVariants.{Call, Note}
-use Rattle.act_mailbox.specs.declared.thread.Endpoint.{Endpoint}
-use Rattle.act_actor.specs.Actor.{packet_of_item}
-use Rattle.act_serve.specs.Served.{Retired, end_id, first_note, replies_to, deaths, caller_at}
-use Rattle.act_drive.specs.declared.caller.Driven.{Driven}
-use Rattle.act_drive.specs.Driven.{HasPosted, HasAsked, IsSent, AreTwo}
-use Rattle.act_plans.specs.Runs.{limits_naming, cast_at, plan_of}
-use Rattle.act_executor.specs.Joined.{is_starved}
-use Rattle.act_executor.specs.Left.{ServedView, IsServed, IsDriven, AreAudited, AreCasts, AreJoined}
 use Rattle.act_executor.proofs.Elements.{all_by_places, contains_is}
 
 -- ---- lists of one

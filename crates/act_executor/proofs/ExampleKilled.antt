@@ -1,37 +1,13 @@
 -- A run that meets all premises and ends by a kill: the call was posted and never taken.
-use Rattle.std.proofs.Common.{◌≡◌, ℕ, zero, suc, ◌<◌, true, false, List, [], ◌∷◌, ◌++◌, Some, inl, refl, subst, arith}
-use Rattle.std.specs.Prelude.{is_some, Err, Contains, pos}
-use Rattle.std.specs.Global.{Global}
-use Rattle.std.proofs.lemmas.List.Elements.{All-nil}
+use Rattle.act_executor.proofs.Common.{◌≡◌, ℕ, zero, suc, ◌<◌, true, false, List, [], ◌∷◌, ◌++◌, Some, inl, refl, subst, arith, is_some, Err, Contains, pos}
+use Rattle.act_executor.proofs.Common.{Global, All-nil, TableId, CounterAt, ActorDied, Notice, Death, RunItem, Step, Answer, kept_at, ActorSpec, contains}
+use Rattle.act_executor.proofs.Common.{actors_naming, OwnerView, is_death, is_known_dead, IsToldBy, asker_of, starter, ReplyExecView, Asked, Letter, Call}
+use Rattle.act_executor.proofs.Common.{Endpoint, packet_of_item, Killed, end_id, replies_to, deaths, caller_at, Driven, HasPosted, HasAsked, IsSent, AreTwo}
+use Rattle.act_executor.proofs.Common.{limits_naming, cast_at, plan_of, is_starved, ServedView, IsServed, IsDriven, AreAudited, AreJoined}
 use denote.RawPtr.{Ptr}
-use Rattle.atomic_table.specs.Seated.{TableId}
-use Rattle.act_types.specs.KindState.{CounterAt}
-use Rattle.act_types.specs.declared.call.Fault.TheVariants.{ActorDied}
 use Rattle.act_types.specs.declared.call.Method.TheVariants as method
-use Rattle.act_types.specs.declared.call.Notice.{Notice}
-use Rattle.act_types.specs.declared.call.Notice.TheVariants.{Death}
-use Rattle.act_rules.specs.declared.history.RunItem.{RunItem}
-use Rattle.act_rules.specs.declared.script.Step.{Step}
 use Rattle.act_rules.specs.declared.script.Step.TheVariants as step
-use Rattle.act_rules.specs.RunList.{Answer}
-use Rattle.act_rules.specs.Submissions.{kept_at}
-use Rattle.act_rules.specs.History.{ActorSpec, contains, actors_naming}
-use Rattle.act_owner.specs.Owner.{OwnerView, is_death, is_known_dead}
-use Rattle.act_owner.specs.Life.{IsToldBy}
 use Rattle.act_mailbox.specs.Lines.{items_from as items_put}
-use Rattle.act_mailbox.specs.Controls.{asker_of, starter}
-use Rattle.act_mailbox.specs.Notices.{ReplyExecView}
-use Rattle.act_mailbox.specs.declared.control.Asked.{Asked}
-use Rattle.act_mailbox.specs.declared.mail.Letter.{Letter}
-use Rattle.act_mailbox.specs.declared.mail.Letter.TheVariants.{Call}
-use Rattle.act_mailbox.specs.declared.thread.Endpoint.{Endpoint}
-use Rattle.act_actor.specs.Actor.{packet_of_item}
-use Rattle.act_serve.specs.Served.{Killed, end_id, replies_to, deaths, caller_at}
-use Rattle.act_drive.specs.declared.caller.Driven.{Driven}
-use Rattle.act_drive.specs.Driven.{HasPosted, HasAsked, IsSent, AreTwo}
-use Rattle.act_plans.specs.Runs.{limits_naming, cast_at, plan_of}
-use Rattle.act_executor.specs.Joined.{is_starved}
-use Rattle.act_executor.specs.Left.{ServedView, IsServed, IsDriven, AreAudited, AreJoined}
 use Rattle.act_executor.proofs.Example.{one_at, all_one, pairs_one, only, casts, casts_are, mails, controls, replies, letter_endpoint, kill_endpoint, notice_endpoint, call, item}
 
 abbrev letters : List Letter

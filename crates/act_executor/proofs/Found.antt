@@ -1,30 +1,11 @@
 -- Which threads stand behind a number: the casts, the callers' and the actors'.
-use Rattle.std.proofs.Common.{◌≡◌, ◌≢◌, ℕ, suc, ◌+◌, ◌-◌, ◌<◌, Bool, true, false, cond, List, [], ◌∷◌, length, Some, None, inl, inr, refl, ap, sym, ◌∙◌, subst, arith}
-use Rattle.std.specs.Prelude.{◌==◌, map, filter, slice_get, option_map, All, AllPairs, Contains, is_some}
-use Rattle.std.specs.List.{AllByRecursion, list_any}
-use Rattle.std.proofs.lemmas.Bool.{eq-eqb, eqb-true}
-use Rattle.std.proofs.lemmas.Bool.Decides.{leb_tells}
-use Rattle.std.proofs.lemmas.Option.{slice_get_within, get_or_from_slice_get, slice_get-map}
-use Rattle.std.proofs.lemmas.Map.Keys.{any_passes_from_place}
-use Rattle.act_types.specs.declared.limits.TheConstants.{MAX_ACTORS, MAX_CALLERS}
-use Rattle.act_types.specs.declared.call.Arg.{Arg}
-use Rattle.act_rules.specs.declared.history.Submission.{Submission}
-use Rattle.act_rules.specs.declared.script.Step.{Step}
+use Rattle.act_executor.proofs.Common.{◌≡◌, ◌≢◌, ℕ, suc, ◌+◌, ◌-◌, ◌<◌, Bool, true, false, cond, List, [], ◌∷◌, length, Some, None, inl, inr, refl, ap, sym}
+use Rattle.act_executor.proofs.Common.{◌∙◌, subst, arith, ◌==◌, map, filter, slice_get, option_map, All, AllPairs, Contains, is_some, AllByRecursion, list_any}
+use Rattle.act_executor.proofs.Common.{eq-eqb, eqb-true, leb_tells, slice_get_within, get_or_from_slice_get, slice_get-map, any_passes_from_place, MAX_ACTORS}
+use Rattle.act_executor.proofs.Common.{MAX_CALLERS, Arg, Submission, Step, submit_refusal, Progress, nothing_done, occurrences, holds, is_refused, do_step}
+use Rattle.act_executor.proofs.Common.{done_by, planned, one_to, ActorSpec, contains, actors_naming, All_more, All_at, filter-slice_get, map-slice_get, end_id}
+use Rattle.act_executor.proofs.Common.{Driven, MailView, ControlView, RepliesView, cast_at, ServedView, AreCasts, AreJoined}
 use Rattle.act_rules.specs.declared.script.Step.TheVariants as step
-use Rattle.act_rules.specs.Submissions.{submit_refusal}
-use Rattle.act_rules.specs.Plans.{Progress, nothing_done, occurrences, holds, is_refused, do_step, done_by, planned}
-use Rattle.act_rules.specs.Report.{one_to}
-use Rattle.act_rules.specs.History.{ActorSpec, contains, actors_naming}
-use Rattle.act_rules.proofs.Lists.{All_more, All_at}
-use Rattle.act_rules.proofs.AsSubmitted.{filter-slice_get}
-use Rattle.act_rules.proofs.Unique.{map-slice_get}
-use Rattle.act_serve.specs.Served.{end_id}
-use Rattle.act_drive.specs.declared.caller.Driven.{Driven}
-use Rattle.act_mailbox.specs.Mails.{MailView}
-use Rattle.act_mailbox.specs.Controls.{ControlView}
-use Rattle.act_mailbox.specs.Notices.{RepliesView}
-use Rattle.act_plans.specs.Runs.{cast_at}
-use Rattle.act_executor.specs.Left.{ServedView, AreCasts, AreJoined}
 use Rattle.act_executor.proofs.Elements.{IsIn, in_from_contains, all_in, in_filter, found_is, Finds, finds, any_is, contains_is, is_contained}
 
 -- where no number stands twice, two elements of one number are one

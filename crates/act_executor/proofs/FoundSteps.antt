@@ -1,9 +1,6 @@
 -- What is found in the steps of a thread, in two parts and without its stamps.
-use Rattle.std.proofs.Common.{◌≡◌, ℕ, List, [], ◌∷◌, ◌++◌, Option, Some, None, refl, ap}
-use Rattle.std.specs.Prelude.{map, filter_map, option_map}
-use Rattle.std.specs.List.{cons_option}
-use Rattle.std.proofs.lemmas.List.Elements.{filter_map-append}
-use Rattle.act_mailbox.specs.Traces.{steps_in, found_in}
+use Rattle.act_executor.proofs.Common.{◌≡◌, ℕ, List, [], ◌∷◌, ◌++◌, Option, Some, None, refl, ap, map, filter_map, option_map, cons_option, filter_map-append}
+use Rattle.act_executor.proofs.Common.{steps_in, found_in}
 use Rattle.act_executor.proofs.Cuts.{AreFrom}
 
 pub found_append : {S X : Type 0} (part : S → Option X) (xs ys : List (ℕ × S)) → found_in part (xs ++ ys) ≡ found_in part xs ++ found_in part ys

@@ -1,13 +1,8 @@
 -- Hands of endpoints by the names of a list.
-use Rattle.std.proofs.Common.{◌≡◌, ℕ, ◌<◌, List, ◌++◌, length, map, get_or, ap, sym, ◌∙◌, arith}
-use Rattle.std.specs.Prelude.{Vec, ◌==◌}
+use Rattle.act_executor.proofs.Common.{◌≡◌, ℕ, ◌<◌, List, ◌++◌, length, map, get_or, ap, sym, ◌∙◌, arith, ◌==◌, get_or-map, length-map, same_lists}
+use Rattle.act_executor.proofs.Common.{filter-append, map-map, element, Endpoint, items_of_vec, group_of, AreHands, AreGrown}
+use Rattle.std.proofs.Common.{Vec}
 use Rattle.std.specs.declared.alloc.Global.{Global}
-use Rattle.std.proofs.lemmas.List.{get_or-map, length-map, same_lists}
-use Rattle.std.proofs.lemmas.List.Elements.{filter-append}
-use Rattle.std.proofs.lemmas.Simd.{map-map}
-use Rattle.act_rules.proofs.Lists.{element}
-use Rattle.act_mailbox.specs.declared.thread.Endpoint.{Endpoint}
-use Rattle.act_executor.specs.Groups.{items_of_vec, group_of, AreHands, AreGrown}
 use Rattle.act_executor.proofs.Places.{as_long}
 
 module _ {P : Type 0} (number : P → ℕ) (numbers : List ℕ) where

@@ -1,14 +1,7 @@
 -- What a caller was given: replies of places of the log, and the death of an actor that was killed.
-use Rattle.std.proofs.Common.{◌≡◌, ℕ, zero, suc, true, false, [], ◌∷◌, ◌++◌, Some, None, inl, inr, refl}
-use Rattle.std.specs.Prelude.{slice_get}
-use Rattle.std.proofs.lemmas.List.Elements.{All-contains, Contains-append_cases}
-use Rattle.act_types.specs.KindState.{KindState}
-use Rattle.act_types.specs.declared.call.Reply.{Reply}
-use Rattle.act_types.specs.declared.call.Notice.{Notice}
-use Rattle.act_types.specs.declared.call.Notice.TheVariants.{Answered, Death}
-use Rattle.act_serve.specs.Served.{EndView, Killed, Retired, Starved, end_log, replies_to, deaths, IsReplyOf, IsAnswerOf}
-use Rattle.act_serve.proofs.Answered.{replies_answer}
-use Rattle.act_executor.specs.Joined.{is_killed, is_starved}
+use Rattle.act_executor.proofs.Common.{◌≡◌, ℕ, zero, suc, true, false, [], ◌∷◌, ◌++◌, Some, None, inl, inr, refl, slice_get, All-contains}
+use Rattle.act_executor.proofs.Common.{Contains-append_cases, KindState, Reply, Notice, Answered, Death, EndView, Killed, Retired, Starved, end_log, replies_to}
+use Rattle.act_executor.proofs.Common.{deaths, IsReplyOf, IsAnswerOf, replies_answer, is_killed, is_starved}
 use Rattle.act_executor.proofs.Elements.{IsIn, in_from_contains, contains_from_in}
 
 one_death : (a k : ℕ) (notice : Notice) → slice_get (Death a ∷ []) k ≡ Some notice → Death a ≡ notice

@@ -1,25 +1,9 @@
 -- What each thread of a run did, step by step, beside what it left.
-use Rattle.std.proofs.Common.{◌≡◌, ℕ, List, [], ◌++◌, All, ap, ◌∙◌, subst}
-use Rattle.std.specs.Prelude.{flat_map}
-use Rattle.std.specs.List.{AllZip}
-use Rattle.act_rules.specs.declared.history.RunItem.{RunItem}
-use Rattle.act_rules.specs.declared.script.Step.{Step}
-use Rattle.act_rules.specs.History.{ActorSpec}
-use Rattle.act_mailbox.specs.Controls.{ControlView, ControlExecView}
-use Rattle.act_mailbox.specs.Notices.{RepliesView, ReplyExecView}
-use Rattle.act_mailbox.specs.Passes.{TakerView}
-use Rattle.act_mailbox.specs.Traces.{clock, steps_in, found_in, IsTimed, AreTakenLater}
-use Rattle.act_mailbox.specs.declared.thread.Endpoint.{Endpoint}
-use Rattle.act_mailbox.specs.declared.mail.Letter.{Letter}
-use Rattle.act_serve.specs.declared.turn.ExecPasses.{ExecPasses}
-use Rattle.act_serve.specs.Served.{EndView, Killed, Retired, Starved, end_id, caller_at, endpoint_callers}
-use Rattle.act_serve.specs.ActorSteps.{ActorStep, letter_taken, kill_taken, ActorMayDoAll}
-use Rattle.act_serve.specs.ActorTraces.{exec_clock, IsGivenAfter, IsActorTrace, IsActorTraced}
-use Rattle.act_drive.specs.declared.caller.Driven.{Driven}
-use Rattle.act_drive.specs.PlanTraces.{HasDonePlan}
-use Rattle.act_plans.specs.Runs.{plan_of}
-use Rattle.act_executor.specs.ByCode.{opened_of}
-use Rattle.act_executor.specs.Left.{ServedView}
+use Rattle.act_executor.proofs.Common.{◌≡◌, ℕ, List, [], ◌++◌, All, ap, ◌∙◌, subst, flat_map, AllZip, RunItem, Step, ActorSpec, ControlView, ControlExecView}
+use Rattle.act_executor.proofs.Common.{RepliesView, ReplyExecView, TakerView, clock, steps_in, found_in, IsTimed, AreTakenLater, Endpoint, Letter, ExecPasses}
+use Rattle.act_executor.proofs.Common.{EndView, Killed, Retired, Starved, end_id, caller_at, endpoint_callers, ActorStep, letter_taken, kill_taken}
+use Rattle.act_executor.proofs.Common.{ActorMayDoAll, exec_clock, IsGivenAfter, IsActorTrace, IsActorTraced, Driven, HasDonePlan, plan_of, opened_of}
+use Rattle.act_executor.proofs.Common.{ServedView}
 
 -- each thread did its steps in order and in time
 pub record HaveTraces (controls : List ControlView) (replies : List RepliesView) (casts : List ActorSpec)

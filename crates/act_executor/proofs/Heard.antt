@@ -1,28 +1,12 @@
 -- What a caller collects of an actor in the play is what its thread took of the actor's line.
-use Rattle.std.proofs.Common.{◌≡◌, ℕ, ◌==◌, Bool, true, false, cond, List, [], ◌∷◌, ◌++◌, Option, Some, None, refl, ap, sym, ◌∙◌, subst, append_assoc}
-use Rattle.std.specs.Prelude.{◌&&◌, map, filter, filter_map}
-use Rattle.std.specs.List.{AllByRecursion, cons_option}
-use Rattle.std.proofs.lemmas.Bool.{eqb-true}
-use Rattle.std.proofs.lemmas.List.{map-append}
-use Rattle.std.proofs.lemmas.List.Elements.{recursion_from_All}
-use Rattle.act_types.specs.KindState.{KindState}
-use Rattle.act_types.specs.declared.call.Notice.{Notice}
-use Rattle.act_types.specs.declared.call.Notice.TheVariants.{Answered, Death}
-use Rattle.act_rules.specs.declared.history.Post.{Post}
+use Rattle.act_executor.proofs.Common.{◌≡◌, ℕ, ◌==◌, Bool, true, false, cond, List, [], ◌∷◌, ◌++◌, Option, Some, None, refl, ap, sym, ◌∙◌, subst, append_assoc}
+use Rattle.act_executor.proofs.Common.{◌&&◌, map, filter, filter_map, AllByRecursion, cons_option, eqb-true, map-append, recursion_from_All, KindState, Notice}
+use Rattle.act_executor.proofs.Common.{Answered, Death, Post, RunItem, IsPrefix, contains, IsPrefix-map, front_trans, whole_front, Copied, Released, Submitted}
+use Rattle.act_executor.proofs.Common.{Sent, Noticed, notice_actor, items_from, Deed, Changed, AskedKill, TookCall, TookNote, Ran, TookKill, ToldDeath}
+use Rattle.act_executor.proofs.Common.{CallerStep, ChangeMade, KillAsked, notice_collected, replies_are_due, post_of, is_between}
 use Rattle.act_rules.specs.declared.history.Post.TheVariants.{Reply as ReplyPost, Death as DeathPost}
-use Rattle.act_rules.specs.declared.history.RunItem.{RunItem}
-use Rattle.act_rules.specs.Consistent.{IsPrefix}
-use Rattle.act_rules.specs.History.{contains}
-use Rattle.act_rules.proofs.Lists.{IsPrefix-map, front_trans, whole_front}
-use Rattle.act_owner.specs.Life.{Copied, Released, Submitted, Sent, Noticed}
-use Rattle.act_mailbox.specs.Notices.{notice_actor}
-use Rattle.act_mailbox.specs.Lines.{items_from}
-use Rattle.act_causes.specs.Deeds.{Deed, Changed, AskedKill, TookCall, TookNote, Ran, TookKill, ToldDeath, Retired}
-use Rattle.act_drive.specs.CallerSteps.{CallerStep, ChangeMade, KillAsked, notice_collected}
+use Rattle.act_causes.specs.Deeds.{Retired}
 use Rattle.act_serve.specs.Served.{EndView, Killed, Retired as RetiredEnd, Starved, replies_to, deaths, places_of, place_of, IsReplyOf}
-use Rattle.act_serve.proofs.Answered.{replies_are_due}
-use Rattle.act_causes.proofs.Fronts.{post_of}
-use Rattle.act_executor.specs.PlanPlays.{is_between}
 use Rattle.act_executor.proofs.Own.{own_step}
 
 abbrev pub post_from : ℕ → Notice → Post

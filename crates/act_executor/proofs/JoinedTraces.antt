@@ -1,55 +1,20 @@
 -- That the threads of a run did each step after its cause, and that a play leaves what they leave.
-use Rattle.std.proofs.Common.{◌≡◌, ◌≢◌, ℕ, ◌<◌, ◌≤◌, Bool, true, false, List, [], ◌∷◌, ◌++◌, length, map, zip, Some, None, inl, inr, refl, ap, sym, ◌∙◌, subst, arith, AllPairs, Contains}
-use Rattle.std.specs.Prelude.{Option, ◌==◌, slice_get, option_map}
-use Rattle.std.specs.List.{AllByRecursion, list_any}
-use Rattle.std.proofs.lemmas.List.Elements.{All-weaker}
-use Rattle.std.proofs.lemmas.List.Kept.{AllPairs-filter}
-use Rattle.std.proofs.lemmas.Option.{slice_get-map}
-use Rattle.std.proofs.lemmas.Bool.{eq-eqb}
-use Rattle.act_types.specs.declared.limits.TheConstants.{MAX_ACTORS, MAX_CALLERS}
-use Rattle.act_types.specs.declared.call.Notice.{Notice}
-use Rattle.act_types.specs.declared.call.Notice.TheVariants.{Answered, Death}
-use Rattle.act_types.specs.declared.call.ReleaseNote.{ReleaseNote}
-use Rattle.act_rules.specs.declared.event.Event.{Event}
-use Rattle.act_rules.specs.declared.history.RunItem.{RunItem}
-use Rattle.act_rules.specs.declared.script.Step.{Step}
-use Rattle.act_rules.specs.RunList.{answer_at, has_terminated}
-use Rattle.act_rules.specs.Submissions.{calls_to}
-use Rattle.act_rules.specs.History.{ActorSpec, contains, actors_naming}
-use Rattle.act_rules.specs.Report.{one_to}
-use Rattle.act_rules.proofs.AsSubmitted.{filter-slice_get}
-use Rattle.act_handles.specs.Handles.{copies_in}
-use Rattle.act_owner.specs.Owner.{OwnerView, packet_at}
-use Rattle.act_owner.specs.Life.{Noticed}
-use Rattle.act_mailbox.specs.declared.control.Asked.{Asked}
-use Rattle.act_mailbox.specs.declared.mail.Letter.{Letter}
-use Rattle.act_mailbox.specs.declared.mail.Letter.TheVariants.{Call, Note}
+use Rattle.act_executor.proofs.Common.{◌≡◌, ◌≢◌, ℕ, ◌<◌, ◌≤◌, Bool, true, false, List, [], ◌∷◌, ◌++◌, length, map, zip, Some, None, inl, inr, refl, ap, sym}
+use Rattle.act_executor.proofs.Common.{◌∙◌, subst, arith, AllPairs, Contains, Option, ◌==◌, slice_get, option_map, AllByRecursion, list_any, All-weaker}
+use Rattle.act_executor.proofs.Common.{AllPairs-filter, slice_get-map, eq-eqb, MAX_ACTORS, MAX_CALLERS, Notice, Answered, Death, ReleaseNote, Event, RunItem}
+use Rattle.act_executor.proofs.Common.{Step, answer_at, has_terminated, calls_to, ActorSpec, contains, actors_naming, one_to, filter-slice_get, copies_in}
+use Rattle.act_executor.proofs.Common.{OwnerView, packet_at, Noticed, Asked, Letter, Call, Note, MailView, caller_of, ControlView, ControlExecView, asker_of}
+use Rattle.act_executor.proofs.Common.{starter, RepliesView, notice_actor, steps_in, found_in, EndView, Killed, Retired, Starved, end_id, end_log, replies_to}
+use Rattle.act_executor.proofs.Common.{deaths, KillsOfDead, KillsTaken, Driven, IsSent, cast_at, numbers_differ, deeds_of, IsNamed, owner_after, ActorStep}
+use Rattle.act_executor.proofs.Common.{LetterTaken, KillTaken, call_run, is_retirement, log_of_steps, has_died_in, ActorMayDoAll, IsGivenAfter, IsActorTraced}
+use Rattle.act_executor.proofs.Common.{CallerStep, ChangeMade, changes_made, owner_after_steps, CallerMayDoAll, IsPostedAfter, IsAskedAfter, CallerThreads}
+use Rattle.act_executor.proofs.Common.{ActorThreads, opened_by, left_by, log_left, IsPosted, IsKillAsked, IsNoticeGiven, AreTraced, IsPlayOfThreads, IsPlayOf}
+use Rattle.act_executor.proofs.Common.{is_starved, calls_of_owner, kept_of_owner, log_of_end, is_killed_end, calls_in, kept_in, log_in, killed_in, opened_of}
+use Rattle.act_executor.proofs.Common.{HasDonePlan, plan_of, ServedView, NoticesAudited, AreJoined}
 use Rattle.act_mailbox.specs.Lines.{items_from as items_put}
-use Rattle.act_mailbox.specs.Mails.{MailView, caller_of}
-use Rattle.act_mailbox.specs.Controls.{ControlView, ControlExecView, asker_of, starter}
-use Rattle.act_mailbox.specs.Notices.{RepliesView, notice_actor}
-use Rattle.act_mailbox.specs.Traces.{steps_in, found_in}
-use Rattle.act_serve.specs.Served.{EndView, Killed, Retired, Starved, end_id, end_log, replies_to, deaths, KillsOfDead, KillsTaken}
-use Rattle.act_drive.specs.declared.caller.Driven.{Driven}
-use Rattle.act_drive.specs.Driven.{IsSent}
-use Rattle.act_plans.specs.Runs.{cast_at}
-use Rattle.act_plans.proofs.Matching.{numbers_differ}
-use Rattle.act_causes.specs.Merge.{deeds_of}
-use Rattle.act_causes.specs.Deeds.{IsNamed, owner_after}
-use Rattle.act_serve.specs.ActorSteps.{ActorStep, LetterTaken, KillTaken, call_run, is_retirement, log_of_steps, has_died_in, ActorMayDoAll}
-use Rattle.act_serve.specs.ActorTraces.{IsGivenAfter, IsActorTraced}
-use Rattle.act_drive.specs.CallerSteps.{CallerStep, ChangeMade, changes_made, owner_after_steps, CallerMayDoAll}
-use Rattle.act_drive.specs.CallerTraces.{IsPostedAfter, IsAskedAfter}
-use Rattle.act_executor.specs.Traced.{CallerThreads, ActorThreads, opened_by, left_by, log_left, IsPosted, IsKillAsked, IsNoticeGiven, AreTraced, IsPlayOfThreads}
-use Rattle.act_executor.specs.Plays.{IsPlayOf}
 use Rattle.act_executor.proofs.Ends.{owners_are, ends_are, fed as ends_fed}
 use Rattle.act_executor.proofs.AsPlay.{is_retired_end, retired_in, LeavesAll, is_play}
-use Rattle.act_executor.specs.Joined.{is_starved, calls_of_owner, kept_of_owner, log_of_end, is_killed_end, calls_in, kept_in, log_in, killed_in}
-use Rattle.act_executor.specs.ByCode.{opened_of}
 use Rattle.act_executor.proofs.HaveTraces.{HaveTraces}
-use Rattle.act_drive.specs.PlanTraces.{HasDonePlan}
-use Rattle.act_plans.specs.Runs.{plan_of}
-use Rattle.act_executor.specs.Left.{ServedView, NoticesAudited, AreJoined}
 use Rattle.act_executor.proofs.Elements.{IsIn, in_from_contains, all_in, all_by_places, in_filter, in_none, in_first}
 use Rattle.act_executor.proofs.Found.{naming, same_cast, driven_named, served_cast}
 use Rattle.act_executor.proofs.Given.{reply_given}

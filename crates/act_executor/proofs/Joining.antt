@@ -1,62 +1,22 @@
 -- That what a run leaves fits the casts and plans that it was given.
-use Rattle.std.proofs.Common.{◌≡◌, ℕ, ◌+◌, ◌∷◌, ◌++◌, true, false, List, [], length, map, get_or, slice_get, Some, sym, ap, ◌∙◌, subst, refl, arith, All, AllPairs, Contains, ◌≢◌}
-use Rattle.std.specs.Prelude.{Option, option_map}
-use Rattle.std.specs.List.{range_with_len, list_any}
-use Rattle.std.specs.Global.{Vec}
-use Rattle.std.proofs.lemmas.Simd.{map-map}
-use Rattle.std.proofs.lemmas.List.{length-map}
-use Rattle.std.proofs.lemmas.List.Elements.{All-map}
-use Rattle.std.proofs.lemmas.List.FromFn.{length-range_with_len}
-use Rattle.std.proofs.lemmas.Option.{slice_get_within, slice_get-map, get_or_from_slice_get}
-use Rattle.act_types.specs.KindState.{KindState}
-use Rattle.act_rules.specs.declared.script.Step.{Step}
-use Rattle.act_rules.specs.Consistent.{IsPrefix}
-use Rattle.act_rules.specs.History.{ActorSpec, contains, actors_naming}
-use Rattle.act_types.specs.declared.limits.TheConstants.{MAX_ACTORS, MAX_CALLERS}
-use Rattle.act_rules.specs.Report.{one_to}
-use Rattle.act_rules.proofs.Unique.{map-slice_get}
-use Rattle.act_rules.proofs.Lists.{element, AllPairs-map, list_any-map}
-use Rattle.act_owner.specs.Owner.{OwnerView, opened_under}
-use Rattle.act_actor.specs.declared.cast.Cast.{Cast}
-use Rattle.act_actor.specs.Cast.{IsFitting}
-use Rattle.act_actor.specs.Casts.{actor_spec}
-use Rattle.act_mailbox.specs.declared.control.Asked.{Asked}
-use Rattle.act_mailbox.specs.Lines.{items_from}
-use Rattle.act_mailbox.specs.Passes.{PutterView}
-use Rattle.act_mailbox.specs.Mails.{MailView}
-use Rattle.act_mailbox.specs.Controls.{ControlView, asker_of, starter}
-use Rattle.act_mailbox.specs.Notices.{RepliesView}
-use Rattle.act_mailbox.specs.declared.thread.Endpoint.{Endpoint}
-use Rattle.act_serve.specs.declared.turn.Finished.{Finished}
-use Rattle.act_serve.specs.Served.{EndView, end_view, end_id, caller_at}
-use Rattle.act_serve.specs.ActorTraces.{IsActorTraced}
-use Rattle.act_drive.specs.declared.caller.Driven.{Driven}
-use Rattle.act_drive.specs.PlanTraces.{HasDonePlan}
-use Rattle.act_plans.specs.declared.rising.CallerSetup.{CallerSetup}
-use Rattle.act_plans.specs.declared.rising.Prepared.{Prepared}
-use Rattle.act_drive.specs.Sessions.{SessionView}
-use Rattle.act_plans.specs.Prepared.{by_rising_actor}
-use Rattle.act_plans.specs.Runs.{limits_naming, callers_of_casts, actors_of_casts, cast_at, plan_of}
-use Rattle.act_plans.proofs.ActorSpecs.{setups_view, plans_are, actors_are, limits_are, actors_view, each_cast_view}
-use Rattle.act_plans.proofs.Keys.{pairs_of_map}
+use Rattle.act_executor.proofs.Common.{◌≡◌, ℕ, ◌+◌, ◌∷◌, ◌++◌, true, false, List, [], length, map, get_or, slice_get, Some, sym, ap, ◌∙◌, subst, refl, arith}
+use Rattle.act_executor.proofs.Common.{All, AllPairs, Contains, ◌≢◌, Option, option_map, range_with_len, list_any, Vec, map-map, length-map, All-map}
+use Rattle.act_executor.proofs.Common.{length-range_with_len, slice_get_within, slice_get-map, get_or_from_slice_get, KindState, Step, IsPrefix, ActorSpec}
+use Rattle.act_executor.proofs.Common.{contains, actors_naming, MAX_ACTORS, MAX_CALLERS, one_to, map-slice_get, element, AllPairs-map, list_any-map, OwnerView}
+use Rattle.act_executor.proofs.Common.{opened_under, Cast, IsFitting, actor_spec, Asked, items_from, PutterView, MailView, ControlView, asker_of, starter}
+use Rattle.act_executor.proofs.Common.{RepliesView, Endpoint, Finished, EndView, end_view, end_id, caller_at, IsActorTraced, Driven, HasDonePlan, CallerSetup}
+use Rattle.act_executor.proofs.Common.{Prepared, SessionView, by_rising_actor, limits_naming, callers_of_casts, actors_of_casts, cast_at, plan_of, setups_view}
+use Rattle.act_executor.proofs.Common.{plans_are, actors_are, limits_are, actors_view, each_cast_view, pairs_of_map, IsJoined, is_starved, ServedView, IsServed}
+use Rattle.act_executor.proofs.Common.{IsDriven, AreAudited, AreCasts, AreJoined, code_of, opened_of, IsDrivenBy, AreJoinedBy, IsJoinedBy, IsPlayedBy, IsPlayed}
+use Rattle.act_executor.proofs.Common.{IsPlayedAsPlanned, SpecsFit, Joined, KillTold, CallerTold, NoticeTold, ActorLeft, left_of, IsUnusedStarter, Doing}
+use Rattle.act_executor.proofs.Common.{does_code, CodesFit, HasRunPlans, IsPrepared, plan_view}
 use Rattle.act_executor.proofs.HaveTraces.{HaveTraces, traced_moved}
 use Rattle.act_executor.proofs.Places.{as_long, at_other, all_at}
-use Rattle.act_executor.specs.Joined.{IsJoined, is_starved}
-use Rattle.act_executor.specs.Left.{ServedView, IsServed, IsDriven, AreAudited, AreCasts, AreJoined}
-use Rattle.act_executor.specs.ByCode.{code_of, opened_of, IsDrivenBy, AreJoinedBy, IsJoinedBy, IsPlayedBy}
 use Rattle.act_executor.proofs.Elements.{all_by_places, range_at}
 use Rattle.act_executor.proofs.Ends.{joined as joined_is}
 use Rattle.act_executor.proofs.ByCode.{steps as steps_by, are_joined as joined_by, are_traced as traced_by, is_joined_by as joined_by_is}
-use Rattle.act_executor.specs.Plays.{IsPlayed}
-use Rattle.act_executor.specs.PlanPlays.{IsPlayedAsPlanned}
-use Rattle.act_causes.specs.Plays.{SpecsFit}
 use Rattle.act_executor.proofs.SpecsFit.{specs_fit}
 use Rattle.act_executor.proofs.PlanPlayed.{never_ran, as_planned}
-use Rattle.act_executor.specs.declared.joined.Joined.{Joined}
-use Rattle.act_executor.specs.Audits.{KillTold, CallerTold, NoticeTold, ActorLeft, left_of}
-use Rattle.act_executor.specs.Work.{IsUnusedStarter}
-use Rattle.act_executor.specs.Conducts.{Doing, does_code, CodesFit}
-use Rattle.act_executor.specs.Runs.{HasRunPlans, IsPrepared, plan_view}
 use Rattle.act_executor.proofs.Settled.{seen_through}
 use Rattle.act_executor.proofs.Actors.{served_view, is_served, notices_audited, same_id}
 use Rattle.act_executor.proofs.Callers.{caller_is, is_driven, letters_audited, kills_audited}

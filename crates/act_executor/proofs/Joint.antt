@@ -1,37 +1,14 @@
 -- What the threads leave, and the audits, fit one another.
-use Rattle.std.proofs.Common.{◌≡◌, ◌≢◌, ℕ, true, false, Bool, List, ◌++◌, length, Some, None, refl, ap, sym, ◌∙◌, subst}
-use Rattle.std.specs.Prelude.{Option, ◌==◌, map, find, slice_get, slice_index_or, option_map, Err, Contains, IsTrue}
-use Rattle.std.specs.List.{list_all, range_with_len}
-use Rattle.std.proofs.lemmas.Bool.{eq-eqb, eqb-true}
-use Rattle.act_types.specs.declared.call.Fault.TheVariants.{ActorDied}
-use Rattle.act_types.specs.declared.call.Packet.{Packet}
-use Rattle.act_types.specs.declared.call.Notice.{Notice}
-use Rattle.act_types.specs.declared.call.Notice.TheVariants.{Answered, Death}
-use Rattle.act_rules.specs.declared.history.RunItem.{RunItem}
-use Rattle.act_rules.specs.declared.history.Submission.{Submission}
-use Rattle.act_rules.specs.declared.script.Step.{Step}
-use Rattle.act_rules.specs.RunList.{Answer, items_of}
-use Rattle.act_rules.specs.Submissions.{kept_at, is_known, settle, number_of}
-use Rattle.act_rules.specs.Consistent.{IsCallToDead}
-use Rattle.act_rules.specs.History.{ActorSpec, contains, opening, opening_of, actors_naming}
-use Rattle.act_rules.proofs.Lists.{find-map}
+use Rattle.act_executor.proofs.Common.{◌≡◌, ◌≢◌, ℕ, true, false, Bool, List, ◌++◌, length, Some, None, refl, ap, sym, ◌∙◌, subst, Option, ◌==◌, map, find}
+use Rattle.act_executor.proofs.Common.{slice_get, slice_index_or, option_map, Err, Contains, IsTrue, list_all, range_with_len, eq-eqb, eqb-true, ActorDied}
+use Rattle.act_executor.proofs.Common.{Packet, Notice, Answered, Death, RunItem, Submission, Step, Answer, items_of, kept_at, is_known, settle, number_of}
+use Rattle.act_executor.proofs.Common.{IsCallToDead, ActorSpec, contains, opening, opening_of, actors_naming, find-map, IsReplied, IsBereft, IsToldBy}
+use Rattle.act_executor.proofs.Common.{is_death-only, MailView, caller_of, ControlView, RepliesView, ReplyExecView, notice_actor, Letter, Call, Endpoint}
+use Rattle.act_executor.proofs.Common.{packet_of_item, EndView, end_id, end_log, replies_to, deaths, caller_at, IsLogOf, Driven, IsSent, HasPosted, cast_at}
+use Rattle.act_executor.proofs.Common.{plan_of, owner_of, end_of, is_starved, calls_of_owner, kept_of_owner, log_of_end, is_killed_end, calls_in, kept_in}
+use Rattle.act_executor.proofs.Common.{log_in, killed_in, ServedView, IsServed, IsDriven, AreAudited, AreJoined}
 use Rattle.act_owner.specs.Owner.{OwnerView, packet_for as packet_of_call, is_known_call, is_to, is_death}
-use Rattle.act_owner.specs.Life.{IsReplied, IsBereft, IsToldBy}
-use Rattle.act_owner.proofs.Told.{is_death-only}
 use Rattle.act_mailbox.specs.Lines.{items_from as items_put}
-use Rattle.act_mailbox.specs.Mails.{MailView, caller_of}
-use Rattle.act_mailbox.specs.Controls.{ControlView}
-use Rattle.act_mailbox.specs.Notices.{RepliesView, ReplyExecView, notice_actor}
-use Rattle.act_mailbox.specs.declared.mail.Letter.{Letter}
-use Rattle.act_mailbox.specs.declared.mail.Letter.TheVariants.{Call}
-use Rattle.act_mailbox.specs.declared.thread.Endpoint.{Endpoint}
-use Rattle.act_actor.specs.Actor.{packet_of_item}
-use Rattle.act_serve.specs.Served.{EndView, end_id, end_log, replies_to, deaths, caller_at, IsLogOf}
-use Rattle.act_drive.specs.declared.caller.Driven.{Driven}
-use Rattle.act_drive.specs.Driven.{IsSent, HasPosted}
-use Rattle.act_plans.specs.Runs.{cast_at, plan_of}
-use Rattle.act_executor.specs.Joined.{owner_of, end_of, is_starved, calls_of_owner, kept_of_owner, log_of_end, is_killed_end, calls_in, kept_in, log_in, killed_in}
-use Rattle.act_executor.specs.Left.{ServedView, IsServed, IsDriven, AreAudited, AreJoined}
 use Rattle.act_executor.proofs.Elements.{IsIn, in_from_contains, all_in, in_filter, in_front, found_is, contains_is, is_contained}
 use Rattle.act_executor.proofs.Found.{naming, IsCast, same_cast, planned_known, driven_named, served_cast, cast_served}
 use Rattle.act_executor.proofs.Given.{reply_given, death_given}

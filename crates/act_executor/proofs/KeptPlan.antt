@@ -1,16 +1,8 @@
 -- A plan is done as well without the notices of strangers.
-use Rattle.std.proofs.Common.{ℕ, Bool, List, [], ◌∷◌, ◌++◌, inl, inr, refl, ap, sym, ◌∙◌, subst}
-use Rattle.std.specs.Prelude.{filter, is_some}
-use Rattle.std.proofs.lemmas.List.Elements.{All-filter, filter-append}
-use Rattle.act_rules.specs.declared.script.Step.{Step}
-use Rattle.act_rules.specs.declared.script.Step.TheVariants.{Submit, Copy, Release, Kill, Await}
-use Rattle.act_rules.specs.Submissions.{kept_at}
-use Rattle.act_owner.specs.Owner.{OwnerView, is_known_dead}
-use Rattle.act_owner.specs.Life.{Copied, Released, Submitted, after_change}
-use Rattle.act_drive.specs.CallerSteps.{CallerStep, ChangeMade, KillAsked, owner_after_steps, CallerMayDoAll}
-use Rattle.act_drive.specs.PlanTraces.{IsMeanwhile}
+use Rattle.act_executor.proofs.Common.{ℕ, Bool, List, [], ◌∷◌, ◌++◌, inl, inr, refl, ap, sym, ◌∙◌, subst, filter, is_some, All-filter, filter-append, Step}
+use Rattle.act_executor.proofs.Common.{Submit, Copy, Release, Kill, Await, kept_at, OwnerView, is_known_dead, Copied, Released, Submitted, after_change}
+use Rattle.act_executor.proofs.Common.{CallerStep, ChangeMade, KillAsked, owner_after_steps, CallerMayDoAll, IsMeanwhile, DoesStep, DoesPlan}
 use Rattle.act_executor.proofs.Kept.{kept_more}
-use Rattle.act_drive.specs.PlanTraces.{DoesStep, DoesPlan}
 use Rattle.act_executor.proofs.CallerWork.{is_by_these, may_front, HoldsThese, change_holds, IsStill, still}
 
 may_later : (owner : OwnerView) (before later : List CallerStep) → CallerMayDoAll owner (before ++ later) → CallerMayDoAll (owner_after_steps owner before) later

@@ -1,33 +1,15 @@
 -- No letter that an actor takes of a caller comes twice, and so it is of the letters that are delivered.
-use Rattle.std.proofs.Common.{◌≡◌, ◌≢◌, ℕ, suc, ◌+◌, ◌==◌, Bool, true, false, cond, List, [], ◌∷◌, ◌++◌, Option, Some, None, refl, ap, sym, ◌∙◌, subst, arith, All, AllPairs}
-use Rattle.std.specs.Prelude.{◌&&◌, map, filter, filter_map, slice_get, option_map}
-use Rattle.std.specs.List.{AllByRecursion, cons_option}
-use Rattle.std.proofs.lemmas.Bool.{eqb-true, eq-eqb, ne_eqb}
-use Rattle.std.proofs.lemmas.List.{map-append}
-use Rattle.std.proofs.lemmas.List.Elements.{recursion_from_All}
-use Rattle.act_types.specs.declared.call.Packet.{Packet}
-use Rattle.act_types.specs.declared.call.ReleaseNote.{ReleaseNote}
-use Rattle.act_rules.specs.declared.history.Submission.{Submission}
+use Rattle.act_executor.proofs.Common.{◌≡◌, ◌≢◌, ℕ, suc, ◌+◌, ◌==◌, Bool, true, false, cond, List, [], ◌∷◌, ◌++◌, Option, Some, None, refl, ap, sym, ◌∙◌, subst}
+use Rattle.act_executor.proofs.Common.{arith, All, AllPairs, ◌&&◌, map, filter, filter_map, slice_get, option_map, AllByRecursion, cons_option, eqb-true}
+use Rattle.act_executor.proofs.Common.{eq-eqb, ne_eqb, map-append, recursion_from_All, Packet, ReleaseNote, Submission, number_of, same_place, OwnerView}
+use Rattle.act_executor.proofs.Common.{packet_for, Letter, Call, Note, Deed, Changed, AskedKill, TookCall, TookNote, Ran, TookKill, ToldDeath, IsSent, AreTwo}
+use Rattle.act_executor.proofs.Common.{letter_of, IsPrefix, contains, items_from, caller_of, steps_in, found_in, ActorStep, LetterTaken, CallRun, KillTaken}
+use Rattle.act_executor.proofs.Common.{DeathTold, Retirement, letter_taken, deeds_of, IsMergeOf, CallerThreads, ActorThreads}
 use Rattle.act_rules.specs.declared.history.Letter.{Letter as SentLetter}
 use Rattle.act_rules.specs.declared.history.Letter.TheVariants.{Call as CallLetter, Note as NoteLetter}
-use Rattle.act_rules.specs.Submissions.{number_of}
-use Rattle.act_rules.proofs.Unique.{same_place}
-use Rattle.act_owner.specs.Owner.{OwnerView, packet_for}
-use Rattle.act_mailbox.specs.declared.mail.Letter.{Letter}
-use Rattle.act_mailbox.specs.declared.mail.Letter.TheVariants.{Call, Note}
-use Rattle.act_causes.specs.Deeds.{Deed, Changed, AskedKill, TookCall, TookNote, Ran, TookKill, ToldDeath, Retired}
-use Rattle.act_drive.specs.Driven.{IsSent, AreTwo}
-use Rattle.act_causes.proofs.Fronts.{letter_of}
+use Rattle.act_causes.specs.Deeds.{Retired}
 use Rattle.act_executor.proofs.Once.{Differ, differ_pairs, front_differs, HasEnds, both_same, all_differ}
 use Rattle.act_executor.proofs.Own.{seen_under, seen_in_steps}
-use Rattle.act_rules.specs.Consistent.{IsPrefix}
-use Rattle.act_rules.specs.History.{contains}
-use Rattle.act_mailbox.specs.Lines.{items_from}
-use Rattle.act_mailbox.specs.Mails.{caller_of}
-use Rattle.act_mailbox.specs.Traces.{steps_in, found_in}
-use Rattle.act_serve.specs.ActorSteps.{ActorStep, LetterTaken, CallRun, KillTaken, DeathTold, Retirement, letter_taken}
-use Rattle.act_causes.specs.Merge.{deeds_of, IsMergeOf}
-use Rattle.act_executor.specs.Traced.{CallerThreads, ActorThreads}
 use Rattle.act_executor.proofs.Threads.{actor_key, key_of, deed_of_actor, all_threads, deeds_of_actor}
 use Rattle.act_executor.proofs.Projections.{deeds_in_order, IsKeyed}
 use Rattle.act_executor.proofs.ActorWork.{is_of_these}

@@ -1,3 +1,4 @@
+pub mod Common
 pub mod Endpoints
 pub mod Pairs
 pub mod Places

@@ -1,8 +1,6 @@
 -- Lists that are used up, and lists that agree place by place.
-use Rattle.std.proofs.Common.{◌≡◌, ℕ, ◌+◌, ◌<◌, suc, zero, List, [], ◌∷◌, ◌++◌, length, map, get_or, zip, ◌⊎◌, inl, inr, sym, ap, ◌∙◌, subst, refl, arith, All}
-use Rattle.std.proofs.Math.Nat.{eq-or-lt_of_le}
-use Rattle.std.proofs.lemmas.List.{get_or-map, length-map}
-use Rattle.act_tasks.specs.Each.{Each}
+use Rattle.act_executor.proofs.Common.{◌≡◌, ℕ, ◌+◌, ◌<◌, suc, zero, List, [], ◌∷◌, ◌++◌, length, map, get_or, zip, ◌⊎◌, inl, inr, sym, ap, ◌∙◌, subst, refl}
+use Rattle.act_executor.proofs.Common.{arith, All, eq-or-lt_of_le, get_or-map, length-map, Each}
 
 module _ {X : Type 0} (P : X → Type 0) where
   pub all_tail : (x : X) (xs : List X) → All P (x ∷ xs) → All P xs

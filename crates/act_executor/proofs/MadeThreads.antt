@@ -1,10 +1,6 @@
 -- Threads made of what each of some did.
-use Rattle.std.proofs.Common.{◌≡◌, ◌≢◌, ℕ, Bool, true, false, cond, List, [], ◌∷◌, map, Some, None, refl, ap, sym, subst, All, AllPairs}
-use Rattle.std.specs.Prelude.{◌==◌, find}
-use Rattle.std.specs.List.{AllByRecursion}
-use Rattle.act_rules.proofs.Lists.{All_at}
-use Rattle.act_plans.proofs.Keys.{pairs_of_map}
-use Rattle.act_causes.specs.Merge.{Thread, deeds_in, deeds_of, AreApart}
+use Rattle.act_executor.proofs.Common.{◌≡◌, ◌≢◌, ℕ, Bool, true, false, cond, List, [], ◌∷◌, map, Some, None, refl, ap, sym, subst, All, AllPairs, ◌==◌, find}
+use Rattle.act_executor.proofs.Common.{AllByRecursion, All_at, pairs_of_map, Thread, deeds_in, deeds_of, AreApart}
 use Rattle.act_executor.proofs.Elements.{all_from_places, all_by_places, all_in}
 
 module _ {A S : Type 0} (number : A → ℕ) (Work : A → List (ℕ × S) → Type 0) where

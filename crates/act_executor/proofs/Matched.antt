@@ -1,15 +1,6 @@
 -- Two casts with three callers, and the parts of these, which the test opens.
-use Rattle.std.proofs.Common.{◌≡◌, ◌≢◌, ℕ, true, false, List, [], ◌∷◌, All, Contains, map, refl, sym, ◌∙◌, subst, arith}
-use Rattle.std.specs.Prelude.{◌==◌, ◌&&◌, ◌||◌, AllPairs}
-use Rattle.std.specs.List.{list_any}
-use Rattle.std.proofs.lemmas.List.Elements.{All-nil, All-cons}
-use Rattle.std.proofs.lemmas.List.Kept.{AllPairs-cons}
-use Rattle.act_rules.specs.History.{contains}
-use Rattle.act_rules.proofs.Lists.{All-two}
-use Rattle.act_actor.specs.Cast.{CallersDiffer}
-use Rattle.act_actor.specs.declared.cast.Cast.{Cast}
-use Rattle.act_plans.specs.declared.rising.CallerSetup.{CallerSetup}
-use Rattle.act_plans.specs.Setups.{AreMatched}
+use Rattle.act_executor.proofs.Common.{◌≡◌, ◌≢◌, ℕ, true, false, List, [], ◌∷◌, All, Contains, map, refl, sym, ◌∙◌, subst, arith, ◌==◌, ◌&&◌, ◌||◌, AllPairs}
+use Rattle.act_executor.proofs.Common.{list_any, All-nil, All-cons, AllPairs-cons, contains, All-two, CallersDiffer, Cast, CallerSetup, AreMatched}
 
 module _ {X : Type 0} (R : X → X → Type 0) where
   one_alone : (x : X) → AllPairs R (x ∷ [])

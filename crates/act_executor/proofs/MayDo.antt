@@ -1,21 +1,10 @@
 -- What each thread may do, at each of its steps; and what it may do after all steps of a front.
-use Rattle.std.proofs.Common.{◌≡◌, ℕ, ◌==◌, Bool, true, false, cond, List, [], ◌∷◌, ◌++◌, Option, Some, None, All, inl, inr, refl, ap, sym, ◌∙◌, subst, arith, Contains, append-nil, append_assoc}
-use Rattle.std.specs.Prelude.{◌⊎◌, ◌≢◌, find}
-use Rattle.std.specs.List.{AllByRecursion, cons_option}
-use Rattle.std.proofs.lemmas.Bool.Decides.{eqb_tells}
-use Rattle.std.proofs.lemmas.List.{map-append}
-use Rattle.std.proofs.lemmas.List.Elements.{recursion_from_All, filter_map-append}
-use Rattle.act_mailbox.specs.Traces.{steps_in}
-use Rattle.act_owner.specs.Owner.{OwnerView}
-use Rattle.act_owner.specs.Life.{Change, Copied, Released, Submitted, Sent, Noticed, after_change, after_changes}
-use Rattle.act_plans.specs.Runs.{cast_at}
-use Rattle.act_rules.specs.History.{ActorSpec}
-use Rattle.act_causes.specs.Deeds.{IsNamed}
-use Rattle.act_causes.specs.Merge.{Thread, deeds_in, deeds_of}
-use Rattle.act_causes.proofs.Unrefused.{IsUnrefused, AreUnrefused}
-use Rattle.act_serve.specs.ActorSteps.{ActorStep, ActorMayDo, ActorMayDoAll}
-use Rattle.act_drive.specs.CallerSteps.{CallerStep, ChangeMade, KillAsked, change_made, changes_made, owner_after_steps, MayChange, CallerMayDo, CallerMayDoAll}
-use Rattle.act_executor.specs.Traced.{CallerThreads, ActorThreads, opened_by}
+use Rattle.act_executor.proofs.Common.{◌≡◌, ℕ, ◌==◌, Bool, true, false, cond, List, [], ◌∷◌, ◌++◌, Option, Some, None, All, inl, inr, refl, ap, sym, ◌∙◌, subst}
+use Rattle.act_executor.proofs.Common.{arith, Contains, append-nil, append_assoc, ◌⊎◌, ◌≢◌, find, AllByRecursion, cons_option, eqb_tells, map-append}
+use Rattle.act_executor.proofs.Common.{recursion_from_All, filter_map-append, steps_in, OwnerView, Change, Copied, Released, Submitted, Sent, Noticed}
+use Rattle.act_executor.proofs.Common.{after_change, after_changes, cast_at, ActorSpec, IsNamed, Thread, deeds_in, deeds_of, IsUnrefused, AreUnrefused}
+use Rattle.act_executor.proofs.Common.{ActorStep, ActorMayDo, ActorMayDoAll, CallerStep, ChangeMade, KillAsked, change_made, changes_made, owner_after_steps}
+use Rattle.act_executor.proofs.Common.{MayChange, CallerMayDo, CallerMayDoAll, CallerThreads, ActorThreads, opened_by}
 
 -- ---- a thread by its number
 

@@ -1,15 +1,8 @@
 -- Where each caller collects in line, no notice is collected twice.
-use Rattle.std.proofs.Common.{◌≡◌, ◌≢◌, ℕ, ◌+◌, ◌≤◌, ◌==◌, Bool, true, false, cond, List, [], ◌∷◌, ◌++◌, refl, ap, sym, ◌∙◌, subst, arith, AllPairs}
-use Rattle.std.specs.Prelude.{◌&&◌, map, filter}
-use Rattle.std.specs.List.{AllByRecursion, enumerate_from}
-use Rattle.std.proofs.lemmas.Bool.{eq-eqb}
-use Rattle.std.proofs.lemmas.List.Elements.{All-from_recursion}
-use Rattle.std.proofs.lemmas.List.Kept.{AllPairs-cons}
-use Rattle.act_rules.specs.declared.history.Post.{Post}
+use Rattle.act_executor.proofs.Common.{◌≡◌, ◌≢◌, ℕ, ◌+◌, ◌≤◌, ◌==◌, Bool, true, false, cond, List, [], ◌∷◌, ◌++◌, refl, ap, sym, ◌∙◌, subst, arith, AllPairs}
+use Rattle.act_executor.proofs.Common.{◌&&◌, map, filter, AllByRecursion, enumerate_from, eq-eqb, All-from_recursion, AllPairs-cons, Post, RunItem, History}
+use Rattle.act_executor.proofs.Common.{runs_of, is_between, CollectsInLine}
 use Rattle.act_rules.specs.declared.history.Post.TheVariants.{Reply as ReplyPost, Death as DeathPost}
-use Rattle.act_rules.specs.declared.history.RunItem.{RunItem}
-use Rattle.act_rules.specs.History.{History, runs_of}
-use Rattle.act_executor.specs.PlanPlays.{is_between, CollectsInLine}
 
 -- no two are the same, by recursion
 abbrev pub Differ : {A : Type 0} → List A → Type 0

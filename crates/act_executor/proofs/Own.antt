@@ -1,16 +1,9 @@
 -- A caller's own deeds in the merged list are its thread's steps, in order.
-use Rattle.std.proofs.Common.{◌≡◌, ◌≢◌, ℕ, ◌==◌, Bool, true, false, cond, List, [], ◌∷◌, Option, Some, None, inl, inr, refl, ap, sym, ◌∙◌}
-use Rattle.std.specs.Prelude.{◌⊎◌, map, filter_map}
-use Rattle.std.specs.List.{cons_option}
-use Rattle.std.proofs.lemmas.Bool.{eq-eqb, ne_eqb}
-use Rattle.std.proofs.lemmas.Bool.Decides.{eqb_tells}
-use Rattle.act_mailbox.specs.Traces.{steps_in}
-use Rattle.act_rules.specs.History.{under}
-use Rattle.act_causes.specs.Deeds.{Deed, Changed, AskedKill, TookCall, TookNote, Ran, TookKill, ToldDeath, Retired}
-use Rattle.act_causes.specs.Merge.{deeds_of, IsMergeOf}
-use Rattle.act_causes.proofs.Merging.{under_here, under_other}
-use Rattle.act_drive.specs.CallerSteps.{CallerStep, ChangeMade, KillAsked}
-use Rattle.act_executor.specs.Traced.{CallerThreads, ActorThreads}
+use Rattle.act_executor.proofs.Common.{◌≡◌, ◌≢◌, ℕ, ◌==◌, Bool, true, false, cond, List, [], ◌∷◌, Option, Some, None, inl, inr, refl, ap, sym, ◌∙◌, ◌⊎◌, map}
+use Rattle.act_executor.proofs.Common.{filter_map, cons_option, eq-eqb, ne_eqb, eqb_tells, steps_in, under, Deed, Changed, AskedKill, TookCall, TookNote, Ran}
+use Rattle.act_executor.proofs.Common.{TookKill, ToldDeath, deeds_of, IsMergeOf, under_here, under_other, CallerStep, ChangeMade, KillAsked, CallerThreads}
+use Rattle.act_executor.proofs.Common.{ActorThreads}
+use Rattle.act_causes.specs.Deeds.{Retired}
 use Rattle.act_executor.proofs.Threads.{caller_key, key_of, deed_of_caller, as_deeds, all_threads, deeds_of_caller}
 use Rattle.act_executor.proofs.Projections.{deeds_in_order, IsKeyed}
 

@@ -1,16 +1,7 @@
 -- Owners that were just opened.
-use Rattle.std.proofs.Common.{◌≡◌, ◌≢◌, ℕ, List, None, Option, ap, sym, ◌∙◌, subst, AllPairs}
-use Rattle.act_rules.specs.declared.script.Step.{Step}
-use Rattle.act_rules.specs.Plans.{first_bad}
-use Rattle.act_handles.specs.Handles.{actors_in}
-use Rattle.act_handles.proofs.Places.{actors_opened}
-use Rattle.act_owner.specs.Owner.{OwnerView, opened_under, opened_with}
-use Rattle.act_drive.specs.declared.driver.CallerLines.{CallerLines}
-use Rattle.act_drive.specs.declared.driver.CallerPasses.{CallerPasses}
-use Rattle.act_drive.specs.Driven.{IsUnusedCaller, IsFreshCaller}
-use Rattle.act_plans.specs.declared.rising.CallerSetup.{CallerSetup}
-use Rattle.act_plans.specs.Setups.{HasLimits}
-use Rattle.act_plans.proofs.Keys.{pairs_of_map}
+use Rattle.act_executor.proofs.Common.{◌≡◌, ◌≢◌, ℕ, List, None, Option, ap, sym, ◌∙◌, subst, AllPairs, Step, first_bad, actors_in, actors_opened, OwnerView}
+use Rattle.act_executor.proofs.Common.{opened_under, opened_with, CallerLines, CallerPasses, IsUnusedCaller, IsFreshCaller, CallerSetup, HasLimits}
+use Rattle.act_executor.proofs.Common.{pairs_of_map}
 
 pub own_actors : (limits : List (ℕ × Option ℕ)) (id : ℕ) (actors : List ℕ) → actors_in (opened_under limits id actors).handles ≡ actors
 own_actors limits id actors = actors_opened actors

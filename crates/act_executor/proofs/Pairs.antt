@@ -1,9 +1,6 @@
 -- Lists that are put together place by place.
-use Rattle.std.proofs.Common.{◌≡◌, ℕ, suc, ◌+◌, List, [], ◌∷◌, ◌++◌, length, length-append, map, ◌⊎◌, inl, inr, ap, sym, ◌∙◌, arith, append_assoc, append-nil}
-use Rattle.std.specs.List.{range_with_len}
-use Rattle.std.proofs.lemmas.List.{map-append, nil_from_length}
-use Rattle.act_mailbox.specs.declared.thread.Endpoint.{Endpoint}
-use Rattle.act_rules.proofs.Lists.{range_push}
+use Rattle.act_executor.proofs.Common.{◌≡◌, ℕ, suc, ◌+◌, List, [], ◌∷◌, ◌++◌, length, length-append, map, ◌⊎◌, inl, inr, ap, sym, ◌∙◌, arith, append_assoc}
+use Rattle.act_executor.proofs.Common.{append-nil, range_with_len, map-append, nil_from_length, Endpoint, range_push}
 
 -- the first of what is left is done
 pub one_done : {Y Z : Type 0} (f : Y → Z) (done after : List Y) (y : Y) (left rest whole : List Z) (z : Z) → map f done ++ left ≡ whole → after ≡ done ++ y ∷ [] → left ≡ z ∷ rest → f y ≡ z → map f after ++ rest ≡ whole

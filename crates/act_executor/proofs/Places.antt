@@ -1,19 +1,9 @@
 -- Lists that agree place by place, and the names in them.
-use Rattle.std.proofs.Common.{◌≡◌, ◌≢◌, ℕ, zero, suc, ◌<◌, Bool, true, false, List, [], ◌∷◌, Some, All, Contains, length, map, get_or, ◌⊎◌, inl, inr, refl, ap, sym, ◌∙◌, subst, arith}
-use Rattle.std.specs.Prelude.{◌==◌, ◌||◌, ◌&&◌, slice_get, option_map, AllPairs}
-use Rattle.std.specs.List.{list_any}
-use Rattle.std.proofs.lemmas.Bool.{eq-eqb, eqb-true, ne_eqb, or_right, cases_Bool, or_cases}
-use Rattle.std.proofs.Math.Bool.{or-false}
-use Rattle.std.proofs.lemmas.Bool.Decides.{eqb_tells}
-use Rattle.std.proofs.lemmas.List.{get_or-map, length-map}
-use Rattle.std.proofs.lemmas.List.Elements.{All-head, All-tail, All-map}
-use Rattle.std.proofs.lemmas.List.Kept.{AllPairs-cons}
-use Rattle.std.proofs.lemmas.Option.{slice_get-map, slice_get-get_or, slice_get_within, get_or_from_slice_get}
-use Rattle.act_rules.specs.History.{contains}
-use Rattle.act_rules.proofs.Unique.{map-slice_get}
-use Rattle.act_tasks.specs.Each.{Each}
-use Rattle.act_actor.specs.Cast.{CallersDiffer, ActorsDiffer}
-use Rattle.act_actor.specs.declared.cast.Cast.{Cast}
+use Rattle.act_executor.proofs.Common.{◌≡◌, ◌≢◌, ℕ, zero, suc, ◌<◌, Bool, true, false, List, [], ◌∷◌, Some, All, Contains, length, map, get_or, ◌⊎◌, inl, inr}
+use Rattle.act_executor.proofs.Common.{refl, ap, sym, ◌∙◌, subst, arith, ◌==◌, ◌||◌, ◌&&◌, slice_get, option_map, AllPairs, list_any, eq-eqb, eqb-true, ne_eqb}
+use Rattle.act_executor.proofs.Common.{or_right, cases_Bool, or_cases, or-false, eqb_tells, get_or-map, length-map, All-head, All-tail, All-map, AllPairs-cons}
+use Rattle.act_executor.proofs.Common.{slice_get-map, slice_get-get_or, slice_get_within, get_or_from_slice_get, contains, map-slice_get, Each, CallersDiffer}
+use Rattle.act_executor.proofs.Common.{ActorsDiffer, Cast}
 
 -- ---- lists that agree under two maps
 

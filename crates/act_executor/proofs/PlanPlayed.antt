@@ -1,49 +1,17 @@
 -- What is joined is a play of its plans, and a call whose kept answer is a death never ran.
-use Rattle.std.proofs.Common.{◌≡◌, ◌≢◌, ℕ, ◌==◌, Bool, true, false, List, [], ◌∷◌, ◌++◌, map, slice_get, Option, Some, None, refl, ap, sym, ◌∙◌, subst, All, AllPairs}
-use Rattle.std.specs.Prelude.{filter, option_map}
-use Rattle.std.proofs.lemmas.Bool.{eq-eqb, eqb-true}
-use Rattle.act_types.specs.KindState.{KindState}
-use Rattle.act_rules.specs.declared.event.Event.{Event}
-use Rattle.act_rules.specs.declared.history.Post.{Post}
+use Rattle.act_executor.proofs.Common.{◌≡◌, ◌≢◌, ℕ, ◌==◌, Bool, true, false, List, [], ◌∷◌, ◌++◌, map, slice_get, Option, Some, None, refl, ap, sym, ◌∙◌, subst}
+use Rattle.act_executor.proofs.Common.{All, AllPairs, filter, option_map, eq-eqb, eqb-true, KindState, Event, Post, RunItem, Step, Release, IsPrefix, ActorSpec}
+use Rattle.act_executor.proofs.Common.{contains, opening_of, actors_naming, runs_of, history, Answer, kept_at, world_sound, map-slice_get, Notice, OwnerView}
+use Rattle.act_executor.proofs.Common.{items_from, MailView, ControlView, RepliesView, notice_actor, steps_in, Driven, CallerStep, notice_collected, deeds_of}
+use Rattle.act_executor.proofs.Common.{SpecsFit, plan_of, end_log, replies_to, deaths, places_of, caller_at, ServedView, IsServed, AreJoined, IsPlayOfThreads}
+use Rattle.act_executor.proofs.Common.{pairs_of_map, cast_at, ActorStep, log_of_steps, ReplyExecView, Endpoint, Contains, filter_map, CallsThatDiedNeverRan}
+use Rattle.act_executor.proofs.Common.{kept_in, log_in, is_between, DoesPlanIn, CollectsInLine, IsPlayOfPlans, IsPlayedAsPlanned, HasPosted, IsSent}
 use Rattle.act_rules.specs.declared.history.Post.TheVariants.{Reply as ReplyPost, Death as DeathPost}
-use Rattle.act_rules.specs.declared.history.RunItem.{RunItem}
 use Rattle.act_rules.specs.declared.history.Letter.{Letter as SentLetter}
-use Rattle.act_rules.specs.declared.script.Step.{Step}
-use Rattle.act_rules.specs.declared.script.Step.TheVariants.{Release}
-use Rattle.act_rules.specs.Consistent.{IsPrefix}
-use Rattle.act_rules.specs.History.{ActorSpec, contains, opening_of, actors_naming, runs_of}
-use Rattle.act_rules.specs.Laws.{history}
-use Rattle.act_rules.specs.RunList.{Answer}
-use Rattle.act_rules.specs.Submissions.{kept_at}
-use Rattle.act_rules.proofs.Sound.{world_sound}
-use Rattle.act_rules.proofs.Unique.{map-slice_get}
-use Rattle.act_types.specs.declared.call.Notice.{Notice}
-use Rattle.act_owner.specs.Owner.{OwnerView}
-use Rattle.act_mailbox.specs.Lines.{items_from}
-use Rattle.act_mailbox.specs.Mails.{MailView}
-use Rattle.act_mailbox.specs.Controls.{ControlView}
-use Rattle.act_mailbox.specs.Notices.{RepliesView, notice_actor}
-use Rattle.act_mailbox.specs.Traces.{steps_in}
-use Rattle.act_drive.specs.declared.caller.Driven.{Driven}
-use Rattle.act_drive.specs.CallerSteps.{CallerStep, notice_collected}
-use Rattle.act_causes.specs.Merge.{deeds_of}
-use Rattle.act_causes.specs.Plays.{SpecsFit}
-use Rattle.act_plans.specs.Runs.{plan_of}
-use Rattle.act_serve.specs.Served.{end_log, replies_to, deaths, places_of, caller_at}
-use Rattle.act_executor.specs.Left.{ServedView, IsServed, AreJoined}
-use Rattle.act_executor.specs.Traced.{IsPlayOfThreads}
 use Rattle.act_executor.proofs.Elements.{IsIn, in_from_contains, all_in, all_by_places, finds, found_is, contains_is}
 use Rattle.act_executor.proofs.Found.{naming, same_cast, served_cast, one_of}
 use Rattle.act_executor.proofs.Joint.{driven_of, served_of, Thread, thread, driver, audit_of}
 use Rattle.act_executor.proofs.AsPlay.{casts_stay}
-use Rattle.act_plans.proofs.Keys.{pairs_of_map}
-use Rattle.act_plans.specs.Runs.{cast_at}
-use Rattle.act_serve.specs.ActorSteps.{ActorStep, log_of_steps}
-use Rattle.act_mailbox.specs.Notices.{ReplyExecView}
-use Rattle.act_mailbox.specs.declared.thread.Endpoint.{Endpoint}
-use Rattle.std.specs.Prelude.{Contains, filter_map}
-use Rattle.act_executor.specs.Joined.{CallsThatDiedNeverRan, kept_in, log_in}
-use Rattle.act_executor.specs.PlanPlays.{is_between, DoesPlanIn, CollectsInLine, IsPlayOfPlans, IsPlayedAsPlanned}
 use Rattle.act_executor.proofs.HaveTraces.{HaveTraces}
 use Rattle.act_executor.proofs.JoinedTraces.{callers, actors, are_traced, caller_found, caller_none, actor_none, actor_found, is_play_of, kept_left, log_is_left, log_found, callers_differ}
 use Rattle.act_executor.proofs.TracedPlans.{IsPlayOfSteps, play_of_steps}
@@ -51,7 +19,6 @@ use Rattle.act_executor.proofs.Heard.{post_from, of_listed, of_stranger, given_p
 use Rattle.act_executor.proofs.Ran.{died_unrun}
 use Rattle.act_executor.proofs.Once.{Differ, collected_once}
 use Rattle.act_executor.proofs.Letters.{letter_from, letter_in_step, taken_differ, delivered_once}
-use Rattle.act_drive.specs.Driven.{HasPosted, IsSent}
 use Rattle.act_executor.proofs.Found.{driven_named}
 
 -- what an endpoint was given, as the actor's end tells it

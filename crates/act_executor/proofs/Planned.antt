@@ -1,31 +1,17 @@
 -- What a caller's thread did by its plan, the caller does by its plan in the play.
-use Rattle.std.proofs.Common.{◌≡◌, ℕ, ◌==◌, Bool, true, false, cond, List, [], ◌∷◌, ◌++◌, Option, Some, None, inl, inr, refl, ap, sym, ◌∙◌, subst, All, append_assoc, append-nil}
-use Rattle.std.specs.Prelude.{filter_map, is_some, Contains}
-use Rattle.std.specs.List.{AllByRecursion, AllZip, cons_option, list_any}
-use Rattle.std.proofs.lemmas.Bool.{eqb-true, and_parts}
-use Rattle.std.proofs.lemmas.List.Elements.{All-from_recursion, recursion_from_All, filter_map-append}
-use Rattle.act_types.specs.declared.call.Notice.TheVariants.{Answered, Death}
-use Rattle.act_rules.specs.declared.event.Event.{Event}
-use Rattle.act_rules.specs.declared.history.Post.{Post}
+use Rattle.act_executor.proofs.Common.{◌≡◌, ℕ, ◌==◌, Bool, true, false, cond, List, [], ◌∷◌, ◌++◌, Option, Some, None, inl, inr, refl, ap, sym, ◌∙◌, subst, All}
+use Rattle.act_executor.proofs.Common.{append_assoc, append-nil, filter_map, is_some, Contains, AllByRecursion, AllZip, cons_option, list_any, eqb-true}
+use Rattle.act_executor.proofs.Common.{and_parts, All-from_recursion, recursion_from_All, filter_map-append, Answered, Death, Event, Post, Step, history}
+use Rattle.act_executor.proofs.Common.{Answer, ActorSpec, History, kept_at, OwnerView, is_known_dead, Change, Copied, Released, Submitted, Sent, Noticed}
+use Rattle.act_executor.proofs.Common.{after_changes, after_all-append, is_death_to, Deed, Changed, AskedKill, TookCall, TookNote, Ran, TookKill, ToldDeath}
+use Rattle.act_executor.proofs.Common.{change_of, changes_by, owner_by, owner_after, IsEventOf, CallerStep, ChangeMade, KillAsked, change_made, changes_made}
+use Rattle.act_executor.proofs.Common.{owner_after_steps, KeepsAnswers, EachFront, step_of, DoesStepIn, DoesPlanIn, DoesPlan}
 use Rattle.act_rules.specs.declared.history.Post.TheVariants.{Reply as ReplyPost, Death as DeathPost}
-use Rattle.act_rules.specs.declared.script.Step.{Step}
 use Rattle.act_rules.specs.declared.script.Step.TheVariants.{Submit as SubmitStep, Copy as CopyStep, Release as ReleaseStep, Kill as KillStep, Await as AwaitStep}
-use Rattle.act_rules.specs.Laws.{history}
-use Rattle.act_rules.specs.RunList.{Answer}
-use Rattle.act_rules.specs.History.{ActorSpec, History}
-use Rattle.act_rules.specs.Submissions.{kept_at}
-use Rattle.act_owner.specs.Owner.{OwnerView, is_known_dead}
-use Rattle.act_owner.specs.Life.{Change, Copied, Released, Submitted, Sent, Noticed, after_changes}
-use Rattle.act_owner.proofs.Life.{after_all-append}
-use Rattle.act_world.specs.Refines.{is_death_to}
-use Rattle.act_causes.specs.Deeds.{Deed, Changed, AskedKill, TookCall, TookNote, Ran, TookKill, ToldDeath, Retired, change_of, changes_by, owner_by, owner_after}
-use Rattle.act_causes.specs.Plays.{IsEventOf}
-use Rattle.act_drive.specs.CallerSteps.{CallerStep, ChangeMade, KillAsked, change_made, changes_made, owner_after_steps}
+use Rattle.act_causes.specs.Deeds.{Retired}
 use Rattle.act_drive.specs.PlanTraces.{IsMeanwhile as IsMeanwhileStep}
 use Rattle.act_executor.proofs.Threads.{deed_of_caller}
-use Rattle.act_causes.proofs.Fronts.{KeepsAnswers, EachFront}
-use Rattle.act_executor.specs.PlanPlays.{step_of, IsMeanwhile, DoesStepIn, DoesPlanIn}
-use Rattle.act_drive.specs.PlanTraces.{DoesPlan}
+use Rattle.act_executor.specs.PlanPlays.{IsMeanwhile}
 use Rattle.act_executor.proofs.Elements.{any_is, contains_from_in}
 use Rattle.act_executor.proofs.Own.{own_step}
 

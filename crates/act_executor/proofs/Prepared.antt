@@ -1,32 +1,13 @@
 -- That what the threads of a run left fits its lines.
-use Rattle.std.proofs.Common.{◌≡◌, ℕ, ◌+◌, ◌<◌, zero, suc, List, [], ◌∷◌, length, map, slice_get, Some, sym, ap, ◌∙◌, subst, refl, arith, All}
-use Rattle.std.proofs.lemmas.Option.{slice_get_within}
-use Rattle.std.specs.List.{range_with_len}
-use Rattle.act_types.specs.KindState.{KindState}
-use Rattle.act_actor.specs.declared.cast.Cast.{Cast}
-use Rattle.act_mailbox.specs.declared.control.Asked.{Asked}
-use Rattle.act_mailbox.specs.Passes.{PutterView}
-use Rattle.act_mailbox.specs.Mails.{MailView}
-use Rattle.act_mailbox.specs.Controls.{ControlView}
-use Rattle.act_mailbox.specs.Notices.{RepliesView}
-use Rattle.act_mailbox.specs.declared.thread.Endpoint.{Endpoint}
-use Rattle.act_serve.specs.declared.turn.ExecPasses.{ExecPasses}
-use Rattle.act_serve.specs.declared.turn.Finished.{Finished}
-use Rattle.act_drive.specs.declared.driver.CallerPasses.{CallerPasses}
-use Rattle.act_drive.specs.declared.caller.Driven.{Driven}
-use Rattle.act_plans.specs.declared.rising.CallerSetup.{CallerSetup}
-use Rattle.act_executor.specs.declared.open.Opened.{Opened}
-use Rattle.act_executor.specs.Opened.{IsExec, IsCaller, AreOpened}
+use Rattle.act_executor.proofs.Common.{◌≡◌, ℕ, ◌+◌, ◌<◌, zero, suc, List, [], ◌∷◌, length, map, slice_get, Some, sym, ap, ◌∙◌, subst, refl, arith, All}
+use Rattle.act_executor.proofs.Common.{slice_get_within, range_with_len, KindState, Cast, Asked, PutterView, MailView, ControlView, RepliesView, Endpoint}
+use Rattle.act_executor.proofs.Common.{ExecPasses, Finished, CallerPasses, Driven, CallerSetup, Opened, IsExec, IsCaller, AreOpened, Doing, SitsAtReplies}
+use Rattle.act_executor.proofs.Common.{SitsAtControl, HasEndpoints, IsUnusedStarter, AreServed, AreDriven, AreStarters, element}
 use Rattle.act_executor.proofs.Places.{as_long, all_at}
 use Rattle.act_executor.proofs.Elements.{all_by_places, range_at}
-use Rattle.act_executor.specs.Conducts.{Doing}
-use Rattle.act_executor.specs.Audits.{SitsAtReplies, SitsAtControl, HasEndpoints}
-use Rattle.act_executor.specs.Work.{IsUnusedStarter}
-use Rattle.act_executor.specs.Joins.{AreServed, AreDriven, AreStarters}
 use Rattle.act_executor.proofs.Tasks.{each_at}
 use Rattle.act_executor.proofs.Actors.{sits, same_letters_line, same_kills_line}
 use Rattle.act_executor.proofs.Callers.{has_endpoints, same_replies_line}
-use Rattle.act_rules.proofs.Lists.{element}
 
 -- lists whose elements agree at each place
 pub maps_agree : {X Y Z : Type 0} (f : X → Z) (g : Y → Z) (xs : List X) (ys : List Y) → length xs ≡ length ys → ((i : ℕ) (x : X) (y : Y) → slice_get xs i ≡ Some x → slice_get ys i ≡ Some y → f x ≡ g y) → map f xs ≡ map g ys

@@ -1,18 +1,11 @@
 -- What a list of all threads' deeds tells of one caller or actor: it is what stands under the number of its thread.
-use Rattle.std.proofs.Common.{◌≡◌, ◌≢◌, ℕ, ◌==◌, Bool, true, false, cond, List, [], ◌∷◌, Option, Some, None, inl, inr, refl, ap, sym, ◌∙◌}
-use Rattle.std.specs.Prelude.{◌⊎◌, ◌||◌, map, filter_map}
-use Rattle.std.specs.List.{AllByRecursion, cons_option, list_any}
-use Rattle.std.proofs.lemmas.Bool.{eq-eqb, ne_eqb}
-use Rattle.std.proofs.lemmas.Bool.Decides.{eqb_tells}
-use Rattle.act_mailbox.specs.declared.mail.Letter.TheVariants.{Call, Note}
-use Rattle.act_mailbox.specs.Traces.{steps_in}
-use Rattle.act_rules.specs.History.{under}
-use Rattle.act_rules.specs.RunList.{has_terminated}
-use Rattle.act_rules.specs.declared.history.RunItem.{RunItem}
-use Rattle.act_causes.specs.Deeds.{Deed, Changed, AskedKill, TookCall, TookNote, Ran, TookKill, ToldDeath, Retired, change_of, changes_by, item_of_deed, log_by, is_kill_taken, is_end_of, is_dead_by, is_retired_by}
-use Rattle.act_serve.specs.ActorSteps.{ActorStep, LetterTaken, CallRun, KillTaken, DeathTold, Retirement, call_run, is_kill_step, is_retirement, log_of_steps, has_died_in}
-use Rattle.act_drive.specs.CallerSteps.{CallerStep, ChangeMade, KillAsked, change_made, changes_made}
-use Rattle.act_causes.proofs.Merging.{under_here, under_other}
+use Rattle.act_executor.proofs.Common.{◌≡◌, ◌≢◌, ℕ, ◌==◌, Bool, true, false, cond, List, [], ◌∷◌, Option, Some, None, inl, inr, refl, ap, sym, ◌∙◌, ◌⊎◌, ◌||◌}
+use Rattle.act_executor.proofs.Common.{map, filter_map, AllByRecursion, cons_option, list_any, eq-eqb, ne_eqb, eqb_tells, Call, Note, steps_in, under}
+use Rattle.act_executor.proofs.Common.{has_terminated, RunItem, Deed, Changed, AskedKill, TookCall, TookNote, Ran, TookKill, ToldDeath, change_of, changes_by}
+use Rattle.act_executor.proofs.Common.{item_of_deed, log_by, is_kill_taken, is_end_of, is_dead_by, is_retired_by, ActorStep, LetterTaken, CallRun, KillTaken}
+use Rattle.act_executor.proofs.Common.{DeathTold, Retirement, call_run, is_kill_step, is_retirement, log_of_steps, has_died_in, CallerStep, ChangeMade}
+use Rattle.act_executor.proofs.Common.{KillAsked, change_made, changes_made, under_here, under_other}
+use Rattle.act_causes.specs.Deeds.{Retired}
 use Rattle.act_executor.proofs.Threads.{caller_key, actor_key, key_of, deed_of_caller, deed_of_actor, as_deeds}
 
 -- all deeds in their order

@@ -1,28 +1,13 @@
 -- Where each caller collects in line, a call whose kept answer is a death never ran.
-use Rattle.std.proofs.Common.{◌≡◌, ◌≢◌, ℕ, zero, suc, ◌+◌, ◌==◌, Bool, true, false, cond, List, [], ◌∷◌, ◌++◌, length, Option, Some, None, inl, inr, refl, ap, sym, ◌∙◌, subst, arith}
-use Rattle.std.specs.Prelude.{◌&&◌, map, filter, filter_map, slice_get, take, is_some, option_and_then, option_map, Err}
-use Rattle.std.specs.List.{AllByRecursion, cons_option, enumerate_from}
-use Rattle.std.proofs.lemmas.Bool.{eqb-true, eq-eqb, and_parts}
-use Rattle.std.proofs.lemmas.Option.{slice_get-map}
-use Rattle.act_types.specs.KindState.{KindState}
-use Rattle.act_types.specs.declared.call.Fault.TheVariants.{ActorDied}
-use Rattle.act_rules.specs.declared.history.Post.{Post}
+use Rattle.act_executor.proofs.Common.{◌≡◌, ◌≢◌, ℕ, zero, suc, ◌+◌, ◌==◌, Bool, true, false, cond, List, [], ◌∷◌, ◌++◌, length, Option, Some, None, inl, inr}
+use Rattle.act_executor.proofs.Common.{refl, ap, sym, ◌∙◌, subst, arith, ◌&&◌, map, filter, filter_map, slice_get, take, is_some, option_and_then, option_map}
+use Rattle.act_executor.proofs.Common.{Err, AllByRecursion, cons_option, enumerate_from, eqb-true, eq-eqb, and_parts, slice_get-map, KindState, ActorDied, Post}
+use Rattle.act_executor.proofs.Common.{RunItem, Submission, Answer, answer_at, items_of, IsPrefix, kept_at, calls_to, History, opening_of, calls_of, kept_of}
+use Rattle.act_executor.proofs.Common.{runs_of, is_item_of, answer_of, answer_in, first_answer, slice_get-filter, slice_get-enumerate_from, slice_get_front}
+use Rattle.act_executor.proofs.Common.{calls_to-at, kept_at_is, kept_by, IsAlive, answer_alive, IsSound, consistent, places_of, CallsThatDiedNeverRan}
+use Rattle.act_executor.proofs.Common.{is_between, CollectsInLine}
 use Rattle.act_rules.specs.declared.history.Post.TheVariants.{Reply as ReplyPost, Death as DeathPost}
-use Rattle.act_rules.specs.declared.history.RunItem.{RunItem}
-use Rattle.act_rules.specs.declared.history.Submission.{Submission}
-use Rattle.act_rules.specs.RunList.{Answer, answer_at, items_of}
-use Rattle.act_rules.specs.Consistent.{IsPrefix}
-use Rattle.act_rules.specs.Submissions.{kept_at, calls_to}
-use Rattle.act_rules.specs.History.{History, opening_of, calls_of, kept_of, runs_of, is_item_of, answer_of, answer_in, first_answer}
-use Rattle.act_rules.proofs.Lists.{slice_get-filter, slice_get-enumerate_from, slice_get_front}
-use Rattle.act_rules.proofs.AsSubmitted.{calls_to-at}
-use Rattle.act_rules.proofs.Kept.{kept_at_is, kept_by}
-use Rattle.act_rules.proofs.KindFaults.{IsAlive, answer_alive}
-use Rattle.act_rules.proofs.Sound.{IsSound, consistent}
-use Rattle.act_serve.specs.Served.{places_of}
 use Rattle.act_executor.proofs.Elements.{IsIn, in_none, in_first}
-use Rattle.act_executor.specs.Joined.{CallsThatDiedNeverRan}
-use Rattle.act_executor.specs.PlanPlays.{is_between, CollectsInLine}
 
 -- ---- the first that answers
 

@@ -1,9 +1,6 @@
 -- What the comparison of the lines leaves as it was.
-use Rattle.std.proofs.Common.{◌≡◌, zero, suc, Bool, true, false, ◌||◌, List, [], ◌∷◌, map, sym, ap, ◌∙◌, refl, arith, All}
-use Rattle.std.specs.List.{list_any}
-use Rattle.std.proofs.lemmas.Simd.{map-map}
-use Rattle.act_serve.specs.declared.turn.Finished.{Finished}
-use Rattle.act_executor.specs.Audits.{ActorLeft, left_of}
+use Rattle.act_executor.proofs.Common.{◌≡◌, zero, suc, Bool, true, false, ◌||◌, List, [], ◌∷◌, map, sym, ap, ◌∙◌, refl, arith, All, list_any, map-map, Finished}
+use Rattle.act_executor.proofs.Common.{ActorLeft, left_of}
 
 -- what shows of actors without the place of their lists is the same
 pub seen_through : {K Z : Type 0} (f : ActorLeft K → Z) (new old : List (Finished K)) → map left_of new ≡ map left_of old → map (λ (a : Finished K). f (left_of a)) new ≡ map (λ (a : Finished K). f (left_of a)) old

@@ -1,16 +1,6 @@
 -- The casts of a run fit: what the law of plays asks of them.
-use Rattle.std.proofs.Common.{◌≢◌, ℕ, zero, suc, ◌≤◌, List, map, All, AllPairs, Contains, subst, arith}
-use Rattle.std.proofs.lemmas.List.Elements.{All-nil, All-push, All-weaker, All-map}
-use Rattle.act_types.specs.KindState.{KindState}
-use Rattle.act_types.specs.declared.limits.TheConstants.{MAX_ACTORS, MAX_CALLERS}
-use Rattle.act_rules.specs.History.{ActorSpec}
-use Rattle.act_rules.specs.Report.{one_to}
-use Rattle.act_rules.proofs.Lists.{AllPairs-map}
-use Rattle.act_actor.specs.declared.cast.Cast.{Cast}
-use Rattle.act_actor.specs.Cast.{IsFitting}
-use Rattle.act_actor.specs.Casts.{actor_spec}
-use Rattle.act_plans.specs.Prepared.{HasNumbers}
-use Rattle.act_causes.specs.Plays.{SpecsFit}
+use Rattle.act_executor.proofs.Common.{◌≢◌, ℕ, zero, suc, ◌≤◌, List, map, All, AllPairs, Contains, subst, arith, All-nil, All-push, All-weaker, All-map}
+use Rattle.act_executor.proofs.Common.{KindState, MAX_ACTORS, MAX_CALLERS, ActorSpec, one_to, AllPairs-map, Cast, IsFitting, actor_spec, HasNumbers, SpecsFit}
 
 -- the numbers from 1 on
 all_within : (n : ℕ) → All (λ m. (1 ≤ m) × (m ≤ n)) (one_to n)

@@ -1,11 +1,6 @@
 -- Items beside their stamps, and what is found in steps.
-use Rattle.std.proofs.Common.{◌≡◌, ℕ, zero, suc, ◌<◌, List, [], ◌∷◌, map, zip, Some, None, refl, ap, sym, ◌∙◌, subst}
-use Rattle.std.specs.Prelude.{Bool, ◌==◌, filter, filter_map, Option, option_map, slice_get}
-use Rattle.std.specs.List.{AllZip, cons_option}
-use Rattle.std.proofs.lemmas.Bool.{eq-eqb}
-use Rattle.std.proofs.lemmas.Option.{slice_get-map}
-use Rattle.act_rules.specs.Consistent.{IsPrefix}
-use Rattle.act_mailbox.specs.Traces.{found_in, AreTakenLater}
+use Rattle.act_executor.proofs.Common.{◌≡◌, ℕ, zero, suc, ◌<◌, List, [], ◌∷◌, map, zip, Some, None, refl, ap, sym, ◌∙◌, subst, Bool, ◌==◌, filter, filter_map}
+use Rattle.act_executor.proofs.Common.{Option, option_map, slice_get, AllZip, cons_option, eq-eqb, slice_get-map, IsPrefix, found_in, AreTakenLater}
 use Rattle.act_executor.proofs.Elements.{IsIn, in_filter, in_front}
 
 -- what holds side by side holds of each pair

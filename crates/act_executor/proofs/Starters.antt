@@ -1,13 +1,6 @@
 -- The starter's passes at their places.
-use Rattle.std.proofs.Common.{◌≡◌, ℕ, ◌+◌, ◌<◌, List, length, map, get_or, sym, ap, ◌∙◌, arith}
-use Rattle.std.specs.List.{range_with_len}
-use Rattle.std.proofs.lemmas.List.{get_or-map}
-use Rattle.std.proofs.lemmas.List.FromFn.{get_or-range_with_len}
-use Rattle.act_mailbox.specs.declared.control.Asked.{Asked}
-use Rattle.act_mailbox.specs.Passes.{PutterView, new_putter}
-use Rattle.act_mailbox.specs.Controls.{ControlView, starter}
-use Rattle.act_mailbox.specs.declared.thread.Endpoint.{Endpoint}
-use Rattle.act_executor.specs.Joins.{AreStarters}
+use Rattle.act_executor.proofs.Common.{◌≡◌, ℕ, ◌+◌, ◌<◌, List, length, map, get_or, sym, ap, ◌∙◌, arith, range_with_len, get_or-map, get_or-range_with_len}
+use Rattle.act_executor.proofs.Common.{Asked, PutterView, new_putter, ControlView, starter, Endpoint, AreStarters}
 use Rattle.act_executor.proofs.Places.{as_long}
 
 abbrev pass_on : ControlView → PutterView Asked ℕ

@@ -1,24 +1,9 @@
 -- From what the tasks were given and left to the casts and the parts.
-use Rattle.std.proofs.Common.{◌≡◌, ℕ, zero, suc, List, [], ◌∷◌, length, map, drop, zip, get_or, slice_get, Some, sym, ap, ◌∙◌, subst, arith}
-use Rattle.std.proofs.lemmas.Option.{slice_get_within, get_or_from_slice_get}
-use Rattle.std.proofs.lemmas.List.{length-map}
-use Rattle.act_types.specs.KindState.{KindState}
-use Rattle.act_actor.specs.declared.cast.Cast.{Cast}
-use Rattle.act_tasks.specs.Each.{Each}
-use Rattle.act_mailbox.specs.declared.thread.Endpoint.{Endpoint}
-use Rattle.act_serve.specs.declared.turn.ExecPasses.{ExecPasses}
-use Rattle.act_serve.specs.declared.turn.Finished.{Finished}
-use Rattle.act_serve.specs.Served.{HasServed, end_view}
-use Rattle.act_drive.specs.declared.driver.CallerPasses.{CallerPasses}
-use Rattle.act_drive.specs.declared.caller.Driven.{Driven}
-use Rattle.act_plans.specs.declared.rising.CallerSetup.{CallerSetup}
-use Rattle.act_executor.specs.declared.open.Lines.{Lines}
-use Rattle.act_executor.specs.declared.work.Serving.{Serving}
-use Rattle.act_executor.specs.declared.work.Driving.{Driving}
-use Rattle.act_executor.specs.Conducts.{Doing, HasConducted}
-use Rattle.act_executor.specs.Work.{IsServedBy, IsDrivenTo, ActorStart, serving_start, cast_start, CallerStart, driving_start, setup_start}
-use Rattle.act_executor.specs.Joins.{AreServed, AreDriven}
-use Rattle.act_rules.proofs.Lists.{element, length-zip_same}
+use Rattle.act_executor.proofs.Common.{◌≡◌, ℕ, zero, suc, List, [], ◌∷◌, length, map, drop, zip, get_or, slice_get, Some, sym, ap, ◌∙◌, subst, arith}
+use Rattle.act_executor.proofs.Common.{slice_get_within, get_or_from_slice_get, length-map, KindState, Cast, Each, Endpoint, ExecPasses, Finished, HasServed}
+use Rattle.act_executor.proofs.Common.{end_view, CallerPasses, Driven, CallerSetup, Lines, Serving, Driving, Doing, HasConducted, IsServedBy, IsDrivenTo}
+use Rattle.act_executor.proofs.Common.{ActorStart, serving_start, cast_start, CallerStart, driving_start, setup_start, AreServed, AreDriven, element}
+use Rattle.act_executor.proofs.Common.{length-zip_same}
 
 -- the elements at a place of a list, and of two lists beside each other, that agree
 pub starts_at : {X A B Z : Type 0} (f : X → Z) (g : A × B → Z) (xs : List X) (ls : List A) (ms : List B) (j : ℕ) (x : X) (a : A) (b : B) → map f xs ≡ map g (zip ls ms) →

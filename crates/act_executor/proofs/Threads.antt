@@ -1,17 +1,10 @@
 -- The threads of callers and of actors as threads of deeds, each with a number that no other has.
-use Rattle.std.proofs.Common.{◌≡◌, ◌≢◌, ℕ, zero, suc, ◌+◌, ◌≤◌, ◌==◌, Bool, true, false, cond, List, [], ◌∷◌, ◌++◌, Some, All, inl, inr, refl, ap, sym, ◌∙◌, subst, arith, append-nil}
-use Rattle.std.specs.Prelude.{◌⊎◌, map, find, AllPairs}
-use Rattle.std.specs.List.{AllByRecursion}
-use Rattle.std.proofs.lemmas.Bool.{eq-eqb, ne_eqb}
-use Rattle.std.proofs.lemmas.Bool.Decides.{eqb_tells}
-use Rattle.std.proofs.lemmas.List.Elements.{All-append, All-map, All-from_recursion}
-use Rattle.act_mailbox.specs.declared.mail.Letter.{Letter}
-use Rattle.act_mailbox.specs.declared.mail.Letter.TheVariants.{Call, Note}
-use Rattle.act_rules.proofs.Lists.{AllPairs-map}
-use Rattle.act_causes.specs.Deeds.{Deed, Changed, AskedKill, TookCall, TookNote, Ran, TookKill, ToldDeath, Retired}
-use Rattle.act_causes.specs.Merge.{Thread, deeds_in, deeds_of, AreApart, NeverFall}
-use Rattle.act_serve.specs.ActorSteps.{ActorStep, LetterTaken, CallRun, KillTaken, DeathTold, Retirement}
-use Rattle.act_drive.specs.CallerSteps.{CallerStep, ChangeMade, KillAsked}
+use Rattle.act_executor.proofs.Common.{◌≡◌, ◌≢◌, ℕ, zero, suc, ◌+◌, ◌≤◌, ◌==◌, Bool, true, false, cond, List, [], ◌∷◌, ◌++◌, Some, All, inl, inr, refl, ap, sym}
+use Rattle.act_executor.proofs.Common.{◌∙◌, subst, arith, append-nil, ◌⊎◌, map, find, AllPairs, AllByRecursion, eq-eqb, ne_eqb, eqb_tells, All-append, All-map}
+use Rattle.act_executor.proofs.Common.{All-from_recursion, Letter, Call, Note, AllPairs-map, Deed, Changed, AskedKill, TookCall, TookNote, Ran, TookKill}
+use Rattle.act_executor.proofs.Common.{ToldDeath, Thread, deeds_in, deeds_of, AreApart, NeverFall, ActorStep, LetterTaken, CallRun, KillTaken, DeathTold}
+use Rattle.act_executor.proofs.Common.{Retirement, CallerStep, ChangeMade, KillAsked}
+use Rattle.act_causes.specs.Deeds.{Retired}
 use Rattle.act_executor.proofs.Cuts.{pairs_append}
 
 -- ---- numbers: a caller's is even, an actor's odd

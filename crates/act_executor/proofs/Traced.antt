@@ -1,18 +1,8 @@
 -- What threads did, merged by their stamps, is a play.
-use Rattle.std.proofs.Common.{◌≡◌, ℕ, List, [], ◌∷◌, ◌++◌, inl, inr, refl, ap, sym, ◌∙◌, subst, append_assoc}
-use Rattle.std.specs.List.{AllByRecursion}
-use Rattle.std.proofs.lemmas.List.{map-append}
-use Rattle.act_owner.specs.Owner.{OwnerView}
-use Rattle.act_owner.specs.Life.{Change}
-use Rattle.act_rules.specs.declared.event.Event.{Event}
-use Rattle.act_rules.specs.History.{ActorSpec, under}
-use Rattle.act_causes.specs.Deeds.{Deed, IsCaused, AreCaused, owner_after, owner_by}
-use Rattle.act_causes.specs.Merge.{deeds_of, IsMergeOf}
-use Rattle.act_causes.specs.Plays.{SpecsFit, IsPlayOfDeeds}
-use Rattle.act_causes.proofs.Merging.{merge_of}
-use Rattle.act_causes.proofs.Fronts.{IsStepwisePlay}
-use Rattle.act_causes.proofs.Replaying.{play_of}
-use Rattle.act_executor.specs.Traced.{CallerThreads, ActorThreads, left_by, AreTraced, IsPlayOfThreads, TracedRunsArePlayed}
+use Rattle.act_executor.proofs.Common.{◌≡◌, ℕ, List, [], ◌∷◌, ◌++◌, inl, inr, refl, ap, sym, ◌∙◌, subst, append_assoc, AllByRecursion, map-append, OwnerView}
+use Rattle.act_executor.proofs.Common.{Change, Event, ActorSpec, under, Deed, IsCaused, AreCaused, owner_after, owner_by, deeds_of, IsMergeOf, SpecsFit}
+use Rattle.act_executor.proofs.Common.{IsPlayOfDeeds, merge_of, IsStepwisePlay, play_of, CallerThreads, ActorThreads, left_by, AreTraced, IsPlayOfThreads}
+use Rattle.act_executor.proofs.Common.{TracedRunsArePlayed}
 use Rattle.act_executor.proofs.Cuts.{IsCutOf, cut_of, all_from_under}
 use Rattle.act_executor.proofs.Threads.{caller_key, actor_key, key_is, key_of, deed_of_caller, deed_of_actor, as_deeds, all_threads, deeds_of_caller, deeds_of_actor, all_apart, all_rise, all_keyed}
 use Rattle.act_executor.proofs.Projections.{deeds_in_order, IsKeyed, changes_are, log_is, death_is, retirement_is}

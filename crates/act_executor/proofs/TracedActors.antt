@@ -1,29 +1,12 @@
 -- What each actor's thread did, as the rules see it.
-use Rattle.std.proofs.Common.{◌≡◌, ℕ, ◌≤◌, Bool, true, false, List, [], ◌∷◌, map, zip, Some, refl, ap, sym, ◌∙◌, subst, AllPairs}
-use Rattle.std.specs.Prelude.{◌||◌, filter, filter_map, slice_get}
-use Rattle.std.specs.List.{AllZip, list_any}
-use Rattle.std.proofs.lemmas.List.Kept.{AllPairs-filter}
-use Rattle.act_types.specs.declared.call.Notice.{Notice}
-use Rattle.act_types.specs.declared.call.Notice.TheVariants.{Answered, Death}
-use Rattle.act_rules.specs.declared.history.RunItem.{RunItem}
-use Rattle.act_rules.specs.RunList.{has_terminated}
-use Rattle.act_rules.specs.History.{ActorSpec, contains}
-use Rattle.act_rules.proofs.AsSubmitted.{filter-slice_get}
-use Rattle.act_mailbox.specs.declared.control.Asked.{Asked}
-use Rattle.act_mailbox.specs.declared.mail.Letter.{Letter}
-use Rattle.act_mailbox.specs.declared.thread.Endpoint.{Endpoint}
-use Rattle.act_mailbox.specs.Mails.{caller_of}
-use Rattle.act_mailbox.specs.Controls.{ControlExecView}
-use Rattle.act_mailbox.specs.Notices.{RepliesView, ReplyExecView}
-use Rattle.act_mailbox.specs.Traces.{steps_in, found_in}
-use Rattle.act_serve.specs.declared.turn.ExecPasses.{ExecPasses}
-use Rattle.act_serve.specs.Served.{EndView, Killed, Retired, Starved, end_id, end_log, caller_at, endpoint_callers, KillsOfDead, KillsTaken}
-use Rattle.act_plans.specs.Runs.{cast_at}
-use Rattle.act_serve.specs.ActorSteps.{ActorStep, LetterTaken, CallRun, KillTaken, DeathTold, Retirement, letter_taken, call_run, kill_taken, is_kill_step, is_retirement, log_of_steps, has_died_in, ActorMayDoAll}
-use Rattle.act_serve.specs.ActorTraces.{IsGivenAfter, IsActorTrace, IsActorTraced}
-use Rattle.act_executor.specs.Joined.{is_killed, is_starved}
+use Rattle.act_executor.proofs.Common.{◌≡◌, ℕ, ◌≤◌, Bool, true, false, List, [], ◌∷◌, map, zip, Some, refl, ap, sym, ◌∙◌, subst, AllPairs, ◌||◌, filter}
+use Rattle.act_executor.proofs.Common.{filter_map, slice_get, AllZip, list_any, AllPairs-filter, Notice, Answered, Death, RunItem, has_terminated, ActorSpec}
+use Rattle.act_executor.proofs.Common.{contains, filter-slice_get, Asked, Letter, Endpoint, caller_of, ControlExecView, RepliesView, ReplyExecView, steps_in}
+use Rattle.act_executor.proofs.Common.{found_in, ExecPasses, EndView, Killed, Retired, Starved, end_id, end_log, caller_at, endpoint_callers, KillsOfDead}
+use Rattle.act_executor.proofs.Common.{KillsTaken, cast_at, ActorStep, LetterTaken, CallRun, KillTaken, DeathTold, Retirement, letter_taken, call_run}
+use Rattle.act_executor.proofs.Common.{kill_taken, is_kill_step, is_retirement, log_of_steps, has_died_in, ActorMayDoAll, IsGivenAfter, IsActorTrace}
+use Rattle.act_executor.proofs.Common.{IsActorTraced, is_killed, is_starved, ServedView, IsServed}
 use Rattle.act_executor.proofs.AsPlay.{has_retired}
-use Rattle.act_executor.specs.Left.{ServedView, IsServed}
 use Rattle.act_executor.proofs.Elements.{IsIn, in_from_contains, contains_from_in, all_in, all_from_places, in_filter, contains_is}
 use Rattle.act_executor.proofs.FoundSteps.{found_is as found_alone}
 use Rattle.act_executor.proofs.Stamped.{IsTakenFrom, mapped_at, found_step, found_taken, zipped}

@@ -1,45 +1,17 @@
 -- What each caller's thread did, as the rules see it.
-use Rattle.std.proofs.Common.{◌≡◌, ℕ, ◌≤◌, Bool, List, ◌++◌, zip, refl, ap, sym, ◌∙◌, subst, AllPairs}
-use Rattle.std.specs.Prelude.{filter, slice_index_or}
-use Rattle.std.specs.List.{AllZip}
-use Rattle.std.proofs.lemmas.List.{map-append}
-use Rattle.std.proofs.lemmas.List.Elements.{All-filter, filter-append}
-use Rattle.std.proofs.lemmas.List.Kept.{AllPairs-filter}
-use Rattle.act_types.specs.declared.call.Notice.{Notice}
-use Rattle.act_rules.specs.History.{ActorSpec, actors_naming}
-use Rattle.act_rules.proofs.AsSubmitted.{filter-slice_get}
-use Rattle.act_handles.specs.Handles.{copies_in}
-use Rattle.act_owner.specs.Owner.{OwnerView}
-use Rattle.act_owner.specs.Life.{Sent, Noticed}
-use Rattle.act_mailbox.specs.declared.control.Asked.{Asked}
-use Rattle.act_mailbox.specs.declared.mail.Letter.{Letter}
-use Rattle.act_mailbox.specs.declared.mail.Letter.TheVariants.{Call, Note}
-use Rattle.act_mailbox.specs.declared.thread.Endpoint.{Endpoint}
-use Rattle.act_mailbox.specs.Passes.{PutterView}
-use Rattle.act_mailbox.specs.Controls.{ControlView}
-use Rattle.act_mailbox.specs.Notices.{notice_actor}
-use Rattle.act_mailbox.specs.Traces.{steps_in, found_in}
-use Rattle.act_drive.specs.declared.caller.Driven.{Driven}
-use Rattle.act_plans.specs.Runs.{limits_naming}
-use Rattle.act_causes.specs.Deeds.{IsNamed}
-use Rattle.act_drive.specs.CallerSteps.{CallerStep, ChangeMade, KillAsked, notice_collected, owner_after_steps, CallerMayDoAll}
-use Rattle.act_drive.specs.CallerTraces.{IsPostedAfter, IsAskedAfter, IsCallerTrace}
-use Rattle.act_executor.specs.ByCode.{opened_of}
+use Rattle.act_executor.proofs.Common.{◌≡◌, ℕ, ◌≤◌, Bool, List, ◌++◌, zip, refl, ap, sym, ◌∙◌, subst, AllPairs, filter, slice_index_or, AllZip, map-append}
+use Rattle.act_executor.proofs.Common.{All-filter, filter-append, AllPairs-filter, Notice, ActorSpec, actors_naming, filter-slice_get, copies_in, OwnerView}
+use Rattle.act_executor.proofs.Common.{Sent, Noticed, Asked, Letter, Call, Note, Endpoint, PutterView, ControlView, notice_actor, steps_in, found_in, Driven}
+use Rattle.act_executor.proofs.Common.{limits_naming, IsNamed, CallerStep, ChangeMade, KillAsked, notice_collected, owner_after_steps, CallerMayDoAll}
+use Rattle.act_executor.proofs.Common.{IsPostedAfter, IsAskedAfter, IsCallerTrace, opened_of, DoesPlan, HasDonePlan, plan_of, Step, Release, contains, true}
+use Rattle.act_executor.proofs.Common.{false, cond, [], ◌∷◌, Some, None, Option, map, filter_map, cons_option}
 use Rattle.act_executor.proofs.Elements.{IsIn, in_from_contains, contains_from_in, all_in, in_filter, contains_is}
 use Rattle.act_executor.proofs.Stamped.{IsTakenFrom, found_step, found_taken, zipped}
 use Rattle.act_executor.proofs.Kept.{keep_stamped, kept_steps}
 use Rattle.act_executor.proofs.CallerWork.{is_by_these, is_from_these, may_front, HoldsThese, opened_holds, IsStill, still}
 use Rattle.act_executor.proofs.FoundSteps.{found_is as found_alone}
 use Rattle.act_executor.proofs.Kept.{kept_first}
-use Rattle.act_drive.specs.PlanTraces.{DoesPlan, HasDonePlan}
 use Rattle.act_executor.proofs.KeptPlan.{plan_kept}
-use Rattle.act_plans.specs.Runs.{plan_of}
-use Rattle.act_rules.specs.declared.script.Step.{Step}
-use Rattle.act_rules.specs.declared.script.Step.TheVariants.{Release}
-use Rattle.act_rules.specs.History.{contains}
-use Rattle.std.proofs.Common.{true, false, cond, [], ◌∷◌, Some, None}
-use Rattle.std.specs.Prelude.{Option, map, filter_map}
-use Rattle.std.specs.List.{cons_option}
 
 -- what the run needs of the steps of a caller's thread
 pub record IsCallerWork (casts : List ActorSpec) (controls : List ControlView) (plans : List (ℕ × List Step)) (d : Driven) (trace : List (ℕ × CallerStep)) : Type 0 where

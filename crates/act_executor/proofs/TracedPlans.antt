@@ -1,20 +1,8 @@
 -- What the threads did by their plans, each caller does by its plan in the play.
-use Rattle.std.proofs.Common.{◌≡◌, ℕ, List, [], ap, ◌∙◌}
-use Rattle.std.specs.Prelude.{map, filter, filter_map}
+use Rattle.act_executor.proofs.Common.{◌≡◌, ℕ, List, [], ap, ◌∙◌, map, filter, filter_map, Event, Step, history, ActorSpec, items_from, notice_actor, steps_in}
+use Rattle.act_executor.proofs.Common.{deeds_of, SpecsFit, CallerStep, notice_collected, DoesPlan, CallerThreads, ActorThreads, opened_by, AreTraced}
+use Rattle.act_executor.proofs.Common.{IsPlayOfThreads, DoesPlanIn, is_between}
 use Rattle.act_rules.specs.declared.history.Letter.{Letter}
-use Rattle.act_rules.specs.declared.event.Event.{Event}
-use Rattle.act_rules.specs.declared.script.Step.{Step}
-use Rattle.act_rules.specs.Laws.{history}
-use Rattle.act_rules.specs.History.{ActorSpec}
-use Rattle.act_mailbox.specs.Lines.{items_from}
-use Rattle.act_mailbox.specs.Notices.{notice_actor}
-use Rattle.act_mailbox.specs.Traces.{steps_in}
-use Rattle.act_causes.specs.Merge.{deeds_of}
-use Rattle.act_causes.specs.Plays.{SpecsFit}
-use Rattle.act_drive.specs.CallerSteps.{CallerStep, notice_collected}
-use Rattle.act_drive.specs.PlanTraces.{DoesPlan}
-use Rattle.act_executor.specs.Traced.{CallerThreads, ActorThreads, opened_by, AreTraced, IsPlayOfThreads}
-use Rattle.act_executor.specs.PlanPlays.{DoesPlanIn, is_between}
 use Rattle.act_executor.proofs.Projections.{deeds_in_order}
 use Rattle.act_executor.proofs.Traced.{IsMergedPlay, merged_play}
 use Rattle.act_executor.proofs.Own.{own_steps}

@@ -1,30 +1,9 @@
 -- A whole search answers for each end of plans, and for each run in threads.
-use Rattle.std.proofs.Common.{◌≡◌, ℕ, ◌<◌, length, Option, true, false, List, Some, is_some, slice_get, sym, ap, ◌∙◌, subst, Contains}
-use Rattle.std.proofs.lemmas.Option.{slice_get_within}
-use Rattle.std.proofs.lemmas.List.Elements.{All-contains}
-use Rattle.act_rules.specs.declared.event.Event.{Event}
-use Rattle.act_rules.specs.declared.history.Submission.{Submission}
-use Rattle.act_rules.specs.declared.script.Step.{Step}
-use Rattle.act_rules.specs.History.{ActorSpec, History, calls_of, kept_of}
-use Rattle.act_rules.specs.Submissions.{kept_at}
-use Rattle.act_early.specs.Plays.{At, IsPlay}
-use Rattle.act_early.specs.Early.{EndsAlike}
-use Rattle.act_early.proofs.Ending.{enough}
-use Rattle.act_early.proofs.Listed.{named_caller}
-use Rattle.act_early.proofs.Replies.{named_call}
-use Rattle.act_early.proofs.Worlds.{world}
-use Rattle.act_owner.specs.Owner.{OwnerView}
-use Rattle.act_serve.specs.Served.{EndView}
-use Rattle.act_plans.specs.Runs.{plan_of}
-use Rattle.act_executor.specs.Joined.{IsJoined, calls_of_owner, kept_of_owner, calls_in, kept_in}
-use Rattle.act_executor.specs.Plays.{IsOwnerIn}
-use Rattle.act_executor.proofs.Elements.{all_in}
-use Rattle.act_thread_ends.specs.ThreadEnds.{AreOfARun, EndsAsThreads}
-use Rattle.act_thread_ends.proofs.Ends.{seen_end}
-use Rattle.act_thread_ends.proofs.Plans.{is_named}
-use Rattle.act_thread_ends.proofs.Left.{owner_left}
-use Rattle.act_explore.specs.Ends.{IsDone, HasPassed, EachEndHas, EachRunHas}
-use Rattle.act_explore.specs.Searches.{HasSearchedAll}
+use Rattle.act_explore.proofs.Common.{◌≡◌, ℕ, ◌<◌, length, Option, true, false, List, Some, is_some, slice_get, sym, ap, ◌∙◌, subst, Contains, slice_get_within}
+use Rattle.act_explore.proofs.Common.{All-contains, Event, Submission, Step, ActorSpec, History, calls_of, kept_of, kept_at, At, IsPlay, EndsAlike, enough}
+use Rattle.act_explore.proofs.Common.{named_caller, named_call, world, OwnerView, EndView, plan_of, IsJoined, calls_of_owner, kept_of_owner, calls_in, kept_in}
+use Rattle.act_explore.proofs.Common.{IsOwnerIn, all_in, AreOfARun, EndsAsThreads, seen_end, is_named, owner_left, IsDone, HasPassed, EachEndHas, EachRunHas}
+use Rattle.act_explore.proofs.Common.{HasSearchedAll}
 
 -- a play that ends as an ended one is done
 module _ (plans : ℕ → List Step) (early : At) (late : History) (alike : EndsAlike plans early late)

@@ -1,17 +1,7 @@
 -- When nothing waits any more, the search was whole.
-use Rattle.std.proofs.Common.{◌≡◌, ◌⊎◌, ℕ, ◌||◌, Bool, true, false, List, [], ◌∷◌, ◌++◌, refl, sym, subst, arith, inl, inr, Contains}
-use Rattle.std.proofs.lemmas.List.Elements.{All-contains, All-nil, All-weaker}
-use Rattle.act_rules.specs.declared.event.Event.{Event}
-use Rattle.act_rules.specs.declared.script.Step.{Step}
-use Rattle.act_rules.specs.History.{ActorSpec, runs_of}
-use Rattle.act_early.specs.Plays.{At}
-use Rattle.act_early.specs.Early.{HasRunMore, IsWholeSearch}
-use Rattle.act_plan_plays.specs.declared.choice.Choice.{Choice}
-use Rattle.act_plan_plays.specs.declared.choice.Choice.TheVariants.{Run, Take}
-use Rattle.act_plan_plays.specs.Play.{HasChosen}
-use Rattle.act_explore.specs.Ends.{IsDone, HasPassed}
-use Rattle.act_explore.specs.Paths.{HasMade, HasNumber, key_of}
-use Rattle.act_explore.specs.Searches.{Left, IsKnown, Waits, IsLookedAt, IsSeen, HasSearched, HasSearchedAll}
+use Rattle.act_explore.proofs.Common.{◌≡◌, ◌⊎◌, ℕ, ◌||◌, Bool, true, false, List, [], ◌∷◌, ◌++◌, refl, sym, subst, arith, inl, inr, Contains, All-contains}
+use Rattle.act_explore.proofs.Common.{All-nil, All-weaker, Event, Step, ActorSpec, runs_of, At, HasRunMore, IsWholeSearch, Choice, Run, Take, HasChosen, IsDone}
+use Rattle.act_explore.proofs.Common.{HasPassed, HasMade, HasNumber, key_of, Left, IsKnown, Waits, IsLookedAt, IsSeen, HasSearched, HasSearchedAll}
 use Rattle.act_explore.proofs.Keys.{same_key}
 use Rattle.act_explore.proofs.Paths.{made_same, chosen_more, none_ran, none_killed}
 

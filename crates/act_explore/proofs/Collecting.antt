@@ -1,12 +1,6 @@
 -- Ends that are kept, one after another.
-use Rattle.std.proofs.Common.{◌≡◌, List, [], ◌∷◌, ◌++◌, refl, sym, ap, ◌∙◌, subst, All, Contains}
-use Rattle.std.proofs.lemmas.List.Elements.{All-push, Contains-push, Contains-append_left}
-use Rattle.act_rules.specs.declared.event.Event.{Event}
-use Rattle.act_rules.specs.History.{ActorSpec, History}
-use Rattle.act_rules.specs.Laws.{history}
-use Rattle.act_explore.specs.declared.exploring.Found.{Found}
-use Rattle.act_explore.specs.Ends.{HasPassed}
-use Rattle.act_explore.specs.Found.{IsFoundBy, IsFound}
+use Rattle.act_explore.proofs.Common.{◌≡◌, List, [], ◌∷◌, ◌++◌, refl, sym, ap, ◌∙◌, subst, All, Contains, All-push, Contains-push, Contains-append_left, Event}
+use Rattle.act_explore.proofs.Common.{ActorSpec, History, history, Found, HasPassed, IsFoundBy, IsFound}
 
 pub found_last : (old new : List Found) (found : Found) → new ≡ old ++ found ∷ [] → IsFoundBy new found.events.items
 found_last old new found is = record { found = found; listed = subst (λ (l : List Found). Contains l found) (sym is) (Contains-push old found); events_are = refl }

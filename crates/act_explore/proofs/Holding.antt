@@ -1,27 +1,8 @@
 -- The parts that are prepared hold the plans.
-use Rattle.std.proofs.Common.{◌≡◌, ℕ, true, List, map, sym, ◌∙◌, subst, All, Contains}
-use Rattle.std.specs.Global.{Vec}
-use Rattle.std.specs.List.{list_any}
-use Rattle.std.proofs.lemmas.List.Elements.{All-weaker}
-use Rattle.act_types.specs.KindState.{KindState}
-use Rattle.act_types.specs.declared.limits.TheConstants.{MAX_CALLERS}
-use Rattle.act_rules.specs.declared.script.Step.{Step}
-use Rattle.act_rules.specs.History.{ActorSpec, contains}
-use Rattle.act_rules.specs.Report.{one_to}
-use Rattle.act_rules.proofs.Lists.{list_any-map}
-use Rattle.act_actor.specs.declared.cast.Cast.{Cast}
-use Rattle.act_actor.specs.Casts.{actor_spec}
-use Rattle.act_plans.specs.declared.rising.CallerSetup.{CallerSetup}
-use Rattle.act_plans.specs.Prepared.{setup_view, setup_of, callers_named_by}
-use Rattle.act_plans.specs.Runs.{plan_of, callers_of_casts}
-use Rattle.act_plans.specs.Setups.{PlansFit}
-use Rattle.act_plans.proofs.ActorSpecs.{setups_view, plans_are, actors_are}
-use Rattle.act_plan_plays.specs.Play.{HoldPlans}
-use Rattle.act_executor.specs.Runs.{plan_view}
-use Rattle.act_executor.proofs.Elements.{IsIn, in_from_contains, contains_from_in, all_in, in_filter, any_is, contains_is}
-use Rattle.act_thread_ends.specs.ThreadEnds.{AreOfARun}
-use Rattle.act_thread_ends.proofs.Plans.{is_named, no_plan}
-use Rattle.act_explore.specs.Plans.{AreSuited}
+use Rattle.act_explore.proofs.Common.{◌≡◌, ℕ, true, List, map, sym, ◌∙◌, subst, All, Contains, Vec, list_any, All-weaker, KindState, MAX_CALLERS, Step}
+use Rattle.act_explore.proofs.Common.{ActorSpec, contains, one_to, list_any-map, Cast, actor_spec, CallerSetup, setup_view, setup_of, callers_named_by, plan_of}
+use Rattle.act_explore.proofs.Common.{callers_of_casts, PlansFit, setups_view, plans_are, actors_are, HoldPlans, plan_view, IsIn, in_from_contains}
+use Rattle.act_explore.proofs.Common.{contains_from_in, all_in, in_filter, any_is, contains_is, AreOfARun, is_named, no_plan, AreSuited}
 
 -- a caller that a cast names is one of the callers
 named_caller : (casts : List ActorSpec) (plans : List (ℕ × List Step)) → AreOfARun casts plans → (c : ℕ) → is_named casts c ≡ true → IsIn (callers_of_casts casts) c

@@ -1,12 +1,8 @@
 -- Paths with the same key have the same choices.
-use Rattle.std.proofs.Common.{◌≡◌, ℕ, zero, suc, ◌+◌, ◌<◌, ◌≤◌, ◌==◌, Bool, true, false, List, [], ◌∷◌, ◌++◌, map, if◌then◌else◌, refl, sym, ap, ◌∙◌, arith, All, Contains, inl, inr, ◌⊎◌, flat_map, append_assoc, ne_eqb}
-use Rattle.std.proofs.lemmas.Bool.{cases_lt}
-use Rattle.std.proofs.lemmas.List.Elements.{All-contains, All-nil, All-cons, All-head, All-tail, Contains-push_cases}
-use Rattle.act_rules.specs.Report.{one_to}
-use Rattle.act_plans.proofs.Numbers.{in_one_to}
-use Rattle.act_plan_plays.specs.declared.choice.Choice.{Choice}
-use Rattle.act_plan_plays.specs.declared.choice.Choice.TheVariants.{Run, Take}
-use Rattle.act_explore.specs.Paths.{runs_in, takes_in, letter_of, part_of, key_of, HasNumber}
+use Rattle.act_explore.proofs.Common.{◌≡◌, ℕ, zero, suc, ◌+◌, ◌<◌, ◌≤◌, ◌==◌, Bool, true, false, List, [], ◌∷◌, ◌++◌, map, if◌then◌else◌, refl, sym, ap, ◌∙◌}
+use Rattle.act_explore.proofs.Common.{arith, All, Contains, inl, inr, ◌⊎◌, flat_map, append_assoc, ne_eqb, cases_lt, All-contains, All-nil, All-cons, All-head}
+use Rattle.act_explore.proofs.Common.{All-tail, Contains-push_cases, one_to, in_one_to, Choice, Run, Take, runs_in, takes_in, letter_of, part_of, HasNumber}
+use Rattle.act_explore.specs.Paths.{key_of}
 
 -- the actor's choices are the same on both
 pub record AreSame (p q : List Choice) (a : ℕ) : Type 0 where

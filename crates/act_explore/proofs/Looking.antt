@@ -1,17 +1,9 @@
 -- One more play that was looked at.
-use Rattle.std.proofs.Common.{◌≡◌, ◌⊎◌, ℕ, true, List, [], ◌∷◌, ◌++◌, ap, ◌∙◌, inl, inr, All, Contains, is_some, None}
-use Rattle.std.proofs.lemmas.List.Elements.{All-contains, All-nil, All-cons, All-weaker, Contains-push, Contains-push_cases, Contains-append_left, Contains-append_right}
-use Rattle.act_rules.specs.declared.event.Event.{Event}
+use Rattle.act_explore.proofs.Common.{◌≡◌, ◌⊎◌, ℕ, true, List, [], ◌∷◌, ◌++◌, ap, ◌∙◌, inl, inr, All, Contains, is_some, None, All-contains, All-nil, All-cons}
+use Rattle.act_explore.proofs.Common.{All-weaker, Contains-push, Contains-push_cases, Contains-append_left, Contains-append_right, Event, Step, ActorSpec}
+use Rattle.act_explore.proofs.Common.{next_item, refusal_of, At, Choice, Run, Take, IsDone, HasPassed, HasNumber, key_of, Left, with_path, IsKnown, Waits}
+use Rattle.act_explore.proofs.Common.{IsOpened, Grows, HasAdded, IsPlayAt, IsLookedAt, IsSeen, HasSearched}
 use Rattle.act_rules.specs.declared.event.Event.TheVariants as event
-use Rattle.act_rules.specs.declared.script.Step.{Step}
-use Rattle.act_rules.specs.History.{ActorSpec, next_item}
-use Rattle.act_rules.specs.Rules.{refusal_of}
-use Rattle.act_early.specs.Plays.{At}
-use Rattle.act_plan_plays.specs.declared.choice.Choice.{Choice}
-use Rattle.act_plan_plays.specs.declared.choice.Choice.TheVariants.{Run, Take}
-use Rattle.act_explore.specs.Ends.{IsDone, HasPassed}
-use Rattle.act_explore.specs.Paths.{HasNumber, key_of}
-use Rattle.act_explore.specs.Searches.{Left, with_path, IsKnown, Waits, IsOpened, Grows, HasAdded, IsPlayAt, IsLookedAt, IsSeen, HasSearched}
 
 -- at first nothing was looked at
 pub opened : (casts : List ActorSpec) (plans : ℕ → List Step) (Passed : List Event → Type 0) (left : Left) → IsOpened left → HasSearched casts plans Passed left []

@@ -1,11 +1,5 @@
 -- A world that was handed on.
-use Rattle.std.proofs.Common.{◌≡◌, List, sym, subst}
-use Rattle.act_types.specs.KindState.{KindState}
-use Rattle.act_rules.specs.declared.event.Event.{Event}
-use Rattle.act_rules.specs.History.{ActorSpec}
-use Rattle.act_world.specs.declared.slot.Slot.{Slot}
-use Rattle.act_world.specs.View.{WorldOf, world_view}
-use Rattle.act_world.specs.IsReachedBy.{IsReachedBy}
+use Rattle.act_explore.proofs.Common.{◌≡◌, List, sym, subst, KindState, Event, ActorSpec, Slot, WorldOf, world_view, IsReachedBy}
 
 pub moved : {K : Type 0} (state : K → KindState) (casts : List ActorSpec) (events later : List Event) (world handed : WorldOf (Slot K)) → handed ≡ world → later ≡ events
     → IsReachedBy casts events (world_view state world) → IsReachedBy casts later (world_view state handed)

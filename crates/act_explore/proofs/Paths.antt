@@ -1,15 +1,8 @@
 -- One choice more on a path, and in the history that it made.
-use Rattle.std.proofs.Common.{◌≡◌, ℕ, ◌+◌, ◌<◌, ◌==◌, ◌||◌, Bool, true, false, List, [], ◌∷◌, ◌++◌, map, take, length, get_or, option_to_list, if◌then◌else◌, Option, Some, None, refl, sym, ap, ◌∙◌, append-nil, append_assoc, eq-eqb, filter_map}
-use Rattle.std.proofs.lemmas.List.{map-append, take_more}
-use Rattle.std.proofs.lemmas.List.Elements.{filter_map-append}
-use Rattle.std.proofs.lemmas.List.Folds.{list_any-append}
-use Rattle.act_rules.specs.declared.history.RunItem.{RunItem}
-use Rattle.act_rules.specs.History.{History, contains, runs_of}
-use Rattle.act_early.specs.Early.{is_heard}
-use Rattle.act_plan_plays.specs.declared.choice.Choice.{Choice}
-use Rattle.act_plan_plays.specs.declared.choice.Choice.TheVariants.{Run, Take}
-use Rattle.act_plan_plays.specs.Play.{HasChosen}
-use Rattle.act_explore.specs.Paths.{run_at, is_take, runs_in, takes_in, HasMade, letter_of}
+use Rattle.act_explore.proofs.Common.{◌≡◌, ℕ, ◌+◌, ◌<◌, ◌==◌, ◌||◌, Bool, true, false, List, [], ◌∷◌, ◌++◌, map, take, length, get_or, option_to_list}
+use Rattle.act_explore.proofs.Common.{if◌then◌else◌, Option, Some, None, refl, sym, ap, ◌∙◌, append-nil, append_assoc, eq-eqb, filter_map, map-append}
+use Rattle.act_explore.proofs.Common.{take_more, filter_map-append, list_any-append, RunItem, History, contains, runs_of, is_heard, Choice, Run, Take}
+use Rattle.act_explore.proofs.Common.{HasChosen, run_at, is_take, runs_in, takes_in, HasMade, letter_of}
 use Rattle.act_explore.proofs.Keys.{AreSame}
 
 abbrev heard : ℕ → ℕ × Bool

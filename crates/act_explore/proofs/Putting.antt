@@ -1,10 +1,7 @@
 -- Paths that are put where they wait.
-use Rattle.std.proofs.Common.{◌≡◌, ◌⊎◌, ℕ, ◌+◌, ◌<◌, Bool, true, false, cond, List, [], ◌∷◌, ◌++◌, length, take, get_or, refl, sym, ap, ◌∙◌, subst, inl, inr, All, Contains, bytes_eq}
-use Rattle.std.proofs.lemmas.Slice.Eq.{bytes_eq-Decides}
-use Rattle.std.proofs.lemmas.List.Elements.{All-nil, All-more, All-weaker, Contains-push, Contains-append_left}
-use Rattle.act_plan_plays.specs.declared.choice.Choice.{Choice}
-use Rattle.act_explore.specs.Paths.{HasNumber, key_of}
-use Rattle.act_explore.specs.Searches.{Left, IsKnown, Waits, IsOpened, Grows, HasPut, HasAdded}
+use Rattle.act_explore.proofs.Common.{◌≡◌, ◌⊎◌, ℕ, ◌+◌, ◌<◌, Bool, true, false, cond, List, [], ◌∷◌, ◌++◌, length, take, get_or, refl, sym, ap, ◌∙◌, subst, inl}
+use Rattle.act_explore.proofs.Common.{inr, All, Contains, bytes_eq, bytes_eq-Decides, All-nil, All-more, All-weaker, Contains-push, Contains-append_left}
+use Rattle.act_explore.proofs.Common.{Choice, HasNumber, key_of, Left, IsKnown, Waits, IsOpened, Grows, HasPut, HasAdded}
 
 -- a path whose key is new
 module _ (path : List Choice) (old new : Left) (numbers : All HasNumber path) (waiting : new.waiting ≡ old.waiting ++ path ∷ [])

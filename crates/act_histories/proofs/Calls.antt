@@ -1,18 +1,9 @@
 -- The calls that steps submit, one after the other.
-use Rattle.std.proofs.Common.{◌≡◌, ℕ, ◌+◌, ◌<◌, ◌≤◌, ◌==◌, Bool, true, false, List, [], ◌∷◌, ◌++◌, length, take, get_or, Option, Some, None, option_map, ◌⊎◌, inl, inr, refl, sym, ap, ◌∙◌, subst, arith}
-use Rattle.std.specs.Prelude.{slice_get, if◌then◌else◌, All, IsTrue}
-use Rattle.std.proofs.lemmas.Grind.{flat_map-append}
-use Rattle.std.proofs.lemmas.List.{append-nil, take_all, take_more}
-use Rattle.std.proofs.lemmas.List.Elements.{All-more}
-use Rattle.std.proofs.lemmas.Option.{slice_get_cases, get_or_from_slice_get}
-use Rattle.act_types.specs.declared.call.Method.{Method}
-use Rattle.act_types.specs.declared.call.Arg.{Arg}
-use Rattle.act_rules.specs.declared.history.Submission.{Submission}
-use Rattle.act_rules.specs.declared.script.Step.{Step}
+use Rattle.act_histories.proofs.Common.{◌≡◌, ℕ, ◌+◌, ◌<◌, ◌≤◌, ◌==◌, Bool, true, false, List, [], ◌∷◌, ◌++◌, length, take, get_or, Option, Some, None}
+use Rattle.act_histories.proofs.Common.{option_map, ◌⊎◌, inl, inr, refl, sym, ap, ◌∙◌, subst, arith, slice_get, if◌then◌else◌, All, IsTrue, flat_map-append}
+use Rattle.act_histories.proofs.Common.{append-nil, take_all, take_more, All-more, slice_get_cases, get_or_from_slice_get, Method, Arg, Submission, Step, Call}
+use Rattle.act_histories.proofs.Common.{call_at, numbered_call, call_of, calls_of_steps, BeginsWith, IsNext}
 use Rattle.act_rules.specs.declared.script.Step.TheVariants as step
-use Rattle.act_owner.specs.declared.owner.Call.{Call}
-use Rattle.act_owner.specs.Owner.{call_at, numbered_call}
-use Rattle.act_histories.specs.Play.{call_of, calls_of_steps, BeginsWith, IsNext}
 
 -- ---- one item more of which something holds
 

@@ -1,18 +1,9 @@
 -- How a caller comes from one of its steps to the next, in a play that is looked through.
-use Rattle.std.proofs.Common.{◌≡◌, ℕ, zero, ◌+◌, ◌<◌, ◌≤◌, ◌==◌, Bool, true, false, List, [], ◌∷◌, ◌++◌, length, map, take, get_or, Option, Some, None, inl, inr, refl, sym, ap, ◌∙◌, subst, append_assoc, append-nil, arith}
-use Rattle.std.specs.Prelude.{◌&&◌, filter, slice_get, slice_set, if◌then◌else◌}
-use Rattle.std.specs.List.{list_any}
-use Rattle.std.proofs.lemmas.List.{take_more, take_all, map-append}
-use Rattle.std.proofs.lemmas.List.Elements.{filter-append, All-nil}
-use Rattle.act_rules.specs.declared.event.Event.{Event}
-use Rattle.act_rules.specs.declared.event.Event.TheVariants.{Release}
-use Rattle.act_rules.specs.declared.script.Step.{Step}
+use Rattle.act_histories.proofs.Common.{◌≡◌, ℕ, ◌+◌, ◌<◌, ◌≤◌, ◌==◌, Bool, true, false, List, [], ◌∷◌, ◌++◌, length, map, take, get_or, None, inl, inr, refl}
+use Rattle.act_histories.proofs.Common.{sym, ap, ◌∙◌, subst, append_assoc, arith, filter, if◌then◌else◌, take_more, take_all, map-append, filter-append}
+use Rattle.act_histories.proofs.Common.{All-nil, Event, Release, Step, ActorSpec, step_of, DoesStepIn, DoesPlanIn, steps_of_caller, DoesSteps, HasDone, IsPast}
+use Rattle.std.proofs.Common.{append-nil}
 use Rattle.act_rules.specs.declared.script.Step.TheVariants as step
-use Rattle.act_rules.specs.History.{ActorSpec}
-use Rattle.act_executor.specs.PlanPlays.{step_of, DoesStepIn, DoesPlanIn}
-use Rattle.act_console.specs.Plans.{steps_of_caller}
-use Rattle.act_histories.specs.Play.{is_await, awaits, DoesSteps}
-use Rattle.act_histories.specs.Order.{HasDone, IsPast}
 use Rattle.act_histories.proofs.Steps.{goes_by, goes_on}
 
 -- ---- one line more

@@ -1,3 +1,4 @@
+pub mod Common
 pub mod Told
 pub mod Calls
 pub mod Verdicts

@@ -1,24 +1,9 @@
 -- The places of the callers that await answers.
-use Rattle.std.proofs.Common.{◌≡◌, ◌≢◌, ℕ, suc, zero, ◌+◌, ◌<◌, ◌≤◌, ◌==◌, leb, Bool, true, false, List, [], ◌∷◌, ◌++◌, length, take, get_or, Option, Some, None, refl, sym, ap, ◌∙◌, subst, append_assoc, append-nil, arith}
-use Rattle.std.specs.Prelude.{◌&&◌, ◌||◌, slice_get, slice_set, if◌then◌else◌}
-use Rattle.std.specs.List.{list_any}
-use Rattle.std.proofs.Math.Bool.{or-false}
-use Rattle.std.proofs.lemmas.Bool.{eq-eqb, eqb-true, leb-true, leb-false}
-use Rattle.std.proofs.lemmas.List.{take_more}
-use Rattle.std.proofs.lemmas.Option.{slice_get-get_or}
-use Rattle.std.proofs.lemmas.List.Folds.{list_any-append}
-use Rattle.act_rules.specs.declared.event.Event.{Event}
-use Rattle.act_rules.specs.declared.script.Step.{Step}
-use Rattle.act_rules.specs.History.{ActorSpec, opening}
-use Rattle.act_rules.specs.Laws.{history}
-use Rattle.act_rules.specs.Rules.{Outcome, outcome_of, after, after_all, outcomes}
-use Rattle.act_rules.proofs.Steps.{after_all-append, outcomes-append}
-use Rattle.act_world.specs.View.{WorldView}
-use Rattle.act_world.proofs.Lists.{get_set-other}
-use Rattle.act_world.specs.IsReachedBy.{IsReachedBy}
-use Rattle.act_executor.specs.PlanPlays.{step_of}
-use Rattle.act_histories.specs.Play.{is_await, awaits}
-use Rattle.act_histories.specs.Order.{HasDone, HasDoneTo, HaveDone, Tells}
+use Rattle.act_histories.proofs.Common.{◌≡◌, ℕ, suc, zero, ◌+◌, ◌<◌, ◌≤◌, ◌==◌, leb, Bool, true, false, List, [], ◌∷◌, ◌++◌, length, take, get_or, Option, Some}
+use Rattle.act_histories.proofs.Common.{None, refl, sym, ap, ◌∙◌, subst, arith, ◌&&◌, ◌||◌, slice_get, slice_set, or-false, eq-eqb, eqb-true, leb-true}
+use Rattle.act_histories.proofs.Common.{leb-false, take_more, slice_get-get_or, list_any-append, Event, Step, ActorSpec, opening, history, Outcome, outcome_of}
+use Rattle.act_histories.proofs.Common.{outcomes, outcomes-append, WorldView, get_set-other, IsReachedBy, step_of, is_await, awaits, HasDone, HasDoneTo}
+use Rattle.act_histories.proofs.Common.{HaveDone, Tells}
 use Rattle.act_histories.proofs.Done.{done-start, done-by}
 
 -- ---- a list, where one place is set

@@ -1,14 +1,6 @@
 -- What a world shows, beside the lines of a history.
-use Rattle.std.proofs.Common.{◌≡◌, ℕ, List, [], ◌++◌, sym, ap, subst, ◌∙◌}
-use Rattle.act_rules.specs.declared.event.Event.{Event}
-use Rattle.act_rules.specs.History.{ActorSpec}
-use Rattle.act_rules.specs.Laws.{history}
-use Rattle.act_rules.specs.Report.{summary}
-use Rattle.act_world.specs.View.{WorldView}
-use Rattle.act_world.specs.IsReachedBy.{IsReachedBy}
-use Rattle.act_console.specs.Parts.{world_report}
-use Rattle.act_console.proofs.Shown.{summary_is}
-use Rattle.act_histories.specs.Lines.{AreTold}
+use Rattle.act_histories.proofs.Common.{◌≡◌, ℕ, List, [], ◌++◌, sym, ap, subst, ◌∙◌, Event, ActorSpec, history, summary, WorldView, IsReachedBy, world_report}
+use Rattle.act_histories.proofs.Common.{summary_is, AreTold}
 
 -- the report of no events is the summary
 pub shown : (casts : List ActorSpec) (events : List Event) (world : WorldView) (empty text rest told : List ℕ) → IsReachedBy casts events world → empty ≡ [] → text ≡ empty ++ world_report [] world → AreTold rest told → text ≡ told → AreTold rest (summary (history casts events))

@@ -1,11 +1,7 @@
 -- A plan that is done in a play, where the play goes on.
-use Rattle.std.proofs.Common.{◌≡◌, ℕ, List, [], ◌∷◌, ◌++◌, Option, None, refl, sym, ap, ◌∙◌, subst, append_assoc, append-nil}
-use Rattle.std.specs.Prelude.{All}
-use Rattle.std.proofs.lemmas.List.Elements.{All-nil, All-cons, All-append}
-use Rattle.act_rules.specs.declared.event.Event.{Event}
-use Rattle.act_rules.specs.declared.script.Step.{Step}
-use Rattle.act_rules.specs.History.{ActorSpec}
-use Rattle.act_executor.specs.PlanPlays.{step_of, IsMeanwhile, DoesStepIn, DoesPlanIn}
+use Rattle.act_histories.proofs.Common.{◌≡◌, ℕ, List, [], ◌∷◌, ◌++◌, None, sym, ap, ◌∙◌, subst, append_assoc, All-nil, All-cons, All-append, Event, Step}
+use Rattle.act_histories.proofs.Common.{ActorSpec, step_of, DoesStepIn, DoesPlanIn}
+use Rattle.std.proofs.Common.{append-nil}
 
 module _ (casts : List ActorSpec) (c : ℕ) where
   abbrev IsStrange : Event → Type 0

@@ -1,11 +1,7 @@
 -- The lines that are told, one after the other.
-use Rattle.std.proofs.Common.{◌≡◌, ◌≢◌, ℕ, Bool, true, false, List, [], ◌∷◌, ◌++◌, map, Bor, ◌⊎◌, inl, inr, refl, sym, ap, subst, ◌∙◌, All}
-use Rattle.std.specs.List.{flat_map}
-use Rattle.std.proofs.lemmas.Grind.{flat_map-append}
-use Rattle.std.proofs.lemmas.List.{append-nil, map-append}
-use Rattle.std.proofs.lemmas.List.Elements.{All-append, All-cons, All-nil, All-head, All-tail}
-use Rattle.act_rules.specs.Grammar.{lines_in}
-use Rattle.act_histories.specs.Lines.{told_line, told_lines, is_open, IsToldAs, Make, AreToldAsTheyStand}
+use Rattle.act_histories.proofs.Common.{◌≡◌, ℕ, true, false, List, [], ◌∷◌, ◌++◌, map, Bor, inl, inr, refl, sym, ap, subst, ◌∙◌, All, flat_map, flat_map-append}
+use Rattle.act_histories.proofs.Common.{append-nil, map-append, All-append, All-cons, All-nil, All-head, All-tail, told_line, is_open, IsToldAs, Make}
+use Rattle.act_histories.proofs.Common.{AreToldAsTheyStand}
 
 -- the texts of borrowed lines
 abbrev texts : List (Bor (List ℕ)) → List (List ℕ)

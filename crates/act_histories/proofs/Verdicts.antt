@@ -1,23 +1,10 @@
 -- What was read, played and written of a history.
-use Rattle.std.proofs.Common.{◌≡◌, ℕ, ◌+◌, ◌<◌, List, [], ◌++◌, length, map, Option, Some, None, Result, Ok, Err, refl, sym, ap, ◌∙◌, subst, arith}
-use Rattle.std.specs.Prelude.{string_bytes}
-use Rattle.std.specs.Io.KnownBytes.{Keeps}
-use Rattle.act_types.specs.declared.limits.TheConstants.{MAX_SCRIPT_BYTES}
-use Rattle.act_rules.specs.declared.event.Event.{Event}
-use Rattle.act_rules.specs.declared.script.Role.{Role}
-use Rattle.act_rules.specs.declared.script.Step.{Step}
-use Rattle.act_rules.specs.declared.script.Mode.TheVariants.{Play, Threads}
-use Rattle.act_rules.specs.History.{ActorSpec}
-use Rattle.act_rules.specs.Grammar.{Script, spelled}
-use Rattle.act_rules.specs.Scripts.{actor_spec_of}
-use Rattle.act_console.specs.Input.{IsWholeInput}
-use Rattle.act_console.specs.Plans.{script_of}
-use Rattle.act_histories.specs.declared.fault.CheckFault.{CheckFault}
+use Rattle.act_histories.proofs.Common.{◌≡◌, ℕ, ◌+◌, ◌<◌, List, [], ◌++◌, length, map, Option, Some, None, Result, Ok, Err, refl, sym, ap, ◌∙◌, subst, arith}
+use Rattle.act_histories.proofs.Common.{string_bytes, Keeps, MAX_SCRIPT_BYTES, Event, Role, Step, Play, Threads, ActorSpec, Script, spelled, actor_spec_of}
+use Rattle.act_histories.proofs.Common.{IsWholeInput, script_of, CheckFault, Verdict, EndsSo, IsPlayScript, IsPlayText, IsVerdict, IsVerdictOf, IsBeforeVerdict}
+use Rattle.act_histories.proofs.Common.{WroteVerdict, Checked}
 use Rattle.act_histories.specs.declared.fault.CheckFault.TheVariants as faults
-use Rattle.act_histories.specs.declared.check.Verdict.{Verdict}
 use Rattle.act_histories.specs.declared.check.Verdict.TheVariants as verdicts
-use Rattle.act_histories.specs.Play.{EndsSo, IsPlayScript, IsPlayText}
-use Rattle.act_histories.specs.Checked.{IsVerdict, IsVerdictOf, IsBeforeVerdict, WroteVerdict, Checked}
 
 -- ---- a play
 

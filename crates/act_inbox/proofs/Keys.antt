@@ -1,17 +1,9 @@
 -- What the indexes of held calls tell, and how they change.
-use Rattle.std.proofs.Common.{◌≡◌, ◌≢◌, ℕ, ◌<◌, List, [], length, Option, Some, None, Bool, true, false, ◌==◌, ◌&&◌, if◌then◌else◌, refl, sym, ◌∙◌, ap, subst, arith, get_or, set, slice_get, inl, inr, find, IsSomeAnd, All}
-use Rattle.std.specs.Option.{option_and_then}
-use Rattle.std.specs.Ordering.{nat_cmp}
-use Rattle.std.specs.Cmp.{unsigned_tied}
+use Rattle.act_inbox.proofs.Common.{◌≡◌, ◌≢◌, ℕ, ◌<◌, List, [], length, Option, Some, None, Bool, true, false, ◌==◌, ◌&&◌, if◌then◌else◌, refl, sym, ◌∙◌, ap}
+use Rattle.act_inbox.proofs.Common.{subst, arith, get_or, set, slice_get, inl, inr, find, IsSomeAnd, All, option_and_then, nat_cmp, unsigned_tied, lookup}
+use Rattle.act_inbox.proofs.Common.{eqb_tells, nat_tests, cases_eq, slice_get-get_or, slice_get_within, get_or_from_slice_get, Slab, get, values, Updates}
+use Rattle.act_inbox.proofs.Common.{Packet, key_of, IsHeld, is_packet_of}
 use Rattle.std.specs.BTreeMap.{BTreeMap, get as get_in_map, is_at, UpdatesBy}
-use Rattle.std.specs.Map.{lookup}
-use Rattle.std.proofs.lemmas.Bool.Decides.{eqb_tells, nat_tests}
-use Rattle.std.proofs.lemmas.Bool.{cases_eq}
-use Rattle.std.proofs.lemmas.Option.{slice_get-get_or, slice_get_within, get_or_from_slice_get}
-use Rattle.slab.specs.Slab.{Slab, get, values, Updates}
-use Rattle.act_types.specs.declared.call.Packet.{Packet}
-use Rattle.act_inbox.specs.View.{key_of, IsHeld}
-use Rattle.act_inbox.specs.Inbox.{is_packet_of}
 use Rattle.act_inbox.proofs.Packets.{both_equal, is_call_tells}
 use Rattle.act_inbox.proofs.Slots.{find-slot, find-no_slot, All-filled, slot-All, slice_get-set_same, slice_get-set_other}
 

@@ -1,14 +1,7 @@
 -- What the lanes of an inbox tell.
-use Rattle.std.proofs.Common.{◌≡◌, ◌≢◌, ℕ, ◌+◌, ◌*◌, ◌<◌, ◌≤◌, length, Some, None, false, refl, sym, ◌∙◌, ap, arith, eq-eqb, get_or, inl, inr, All, find, position, sum_by}
-use Rattle.std.specs.Prelude.{slice_set}
-use Rattle.std.proofs.lemmas.Bool.{eqb-true}
-use Rattle.std.proofs.lemmas.Bool.Decides.{eqb_tells}
-use Rattle.std.proofs.lemmas.List.Folds.{find-set, find_past}
-use Rattle.std.proofs.lemmas.List.Sums.{sum_by-set, sum_by-le}
-use Rattle.std.proofs.lemmas.List.Quantifiers.{position-Some}
-use Rattle.act_inbox.specs.declared.inbox.Lane.{Lane}
-use Rattle.act_inbox.specs.Inbox.{InboxView, is_lane_of, lane_at_first, lane_of, handed_of, handed_in_all}
-use Rattle.act_rules.proofs.Finding.{find-Some, find-None, position_or_len-Some}
+use Rattle.act_inbox.proofs.Common.{◌≡◌, ◌≢◌, ℕ, ◌+◌, ◌*◌, ◌<◌, ◌≤◌, length, Some, None, false, refl, sym, ◌∙◌, ap, arith, eq-eqb, get_or, inl, inr, All, find}
+use Rattle.act_inbox.proofs.Common.{position, sum_by, slice_set, eqb-true, eqb_tells, find-set, find_past, sum_by-set, sum_by-le, position-Some, Lane}
+use Rattle.act_inbox.proofs.Common.{InboxView, is_lane_of, lane_at_first, lane_of, handed_of, handed_in_all, find-Some, find-None, position_or_len-Some}
 
 -- the counts of few lanes add up to little
 pub in_all_bound : (inbox : InboxView) → length inbox.lanes ≤ 16 → All (λ lane. lane.handed ≤ 65536) inbox.lanes → handed_in_all inbox ≤ 16 * 65536

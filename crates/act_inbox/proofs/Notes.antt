@@ -1,15 +1,8 @@
 -- What the release notes of an inbox tell.
-use Rattle.std.proofs.Common.{◌≡◌, ◌≢◌, ℕ, ◌<◌, List, length, Option, Some, None, Bool, true, false, refl, sym, ◌∙◌, ap, subst, arith, get_or, slice_get, inl, inr, is_some, All, AllPairs, map, find, position}
-use Rattle.std.specs.Bool.{Decides}
-use Rattle.std.proofs.lemmas.Bool.Decides.{eqb_tells}
-use Rattle.std.proofs.lemmas.List.{get_or-map, length-map}
-use Rattle.std.proofs.lemmas.List.Folds.{find_at}
-use Rattle.std.proofs.lemmas.List.Sums.{position_or_len_is}
-use Rattle.std.proofs.lemmas.Option.{slice_get-get_or}
-use Rattle.act_inbox.specs.declared.inbox.Lane.{Lane}
-use Rattle.act_inbox.specs.View.{IsInbox}
-use Rattle.act_inbox.specs.Inbox.{InboxView, is_lane_of, lane_at_first, lane_of, is_listed, handed_of, note_of, IsDrained}
-use Rattle.act_rules.proofs.Finding.{find-Some, find-None}
+use Rattle.act_inbox.proofs.Common.{◌≡◌, ◌≢◌, ℕ, ◌<◌, List, length, Option, Some, None, Bool, true, false, refl, sym, ◌∙◌, ap, subst, arith, get_or, slice_get}
+use Rattle.act_inbox.proofs.Common.{inl, inr, is_some, All, AllPairs, map, find, position, Decides, eqb_tells, get_or-map, length-map, find_at}
+use Rattle.act_inbox.proofs.Common.{position_or_len_is, slice_get-get_or, Lane, IsInbox, InboxView, is_lane_of, lane_at_first, lane_of, is_listed, handed_of}
+use Rattle.act_inbox.proofs.Common.{note_of, IsDrained, find-Some, find-None}
 use Rattle.act_inbox.proofs.Lanes.{caller_at, listed_handed, within}
 
 -- who has a lane is listed

@@ -1,22 +1,9 @@
 -- What an inbox is when it is opened.
-use Rattle.std.proofs.Common.{◌≡◌, ◌≢◌, ℕ, suc, Option, None, replicate, ap, ◌<◌, ◌≤◌, List, [], ◌∷◌, length, false, refl, arith, get_or, inl, inr, is_some, All, AllPairs, find, sum_by, map}
-use Rattle.std.specs.List.{IsDistinct}
-use Rattle.std.specs.Option.{option_map_or}
-use Rattle.std.proofs.Math.Dec.{eqb}
-use Rattle.std.proofs.lemmas.Bool.{eqb-true, le-ltb}
-use Rattle.std.proofs.lemmas.Bool.Decides.{leb_tells, eqb_tells, Decides-eqb}
-use Rattle.std.proofs.lemmas.List.{length-map, length-replicate, get_or-replicate, get_or_past}
-use Rattle.std.proofs.lemmas.List.Elements.{All-nil, All-cons, All-map, recursion_from_All}
-use Rattle.std.proofs.lemmas.List.Folds.{Any-from_list_any}
-use Rattle.std.proofs.lemmas.List.Sums.{sum_by-le}
-use Rattle.std.proofs.lemmas.Map.Keys.{IsDistinct-cons}
-use Rattle.std.proofs.lemmas.Map.Made.{IsDistinct-from_AllPairs}
-use Rattle.std.proofs.lemmas.Map.Steps.{length-le_from_distinct_below}
-use Rattle.act_types.specs.declared.call.Packet.{Packet}
-use Rattle.act_rules.specs.History.{contains}
-use Rattle.act_inbox.specs.declared.inbox.Lane.{Lane}
-use Rattle.act_inbox.specs.View.{IsInbox}
-use Rattle.act_inbox.specs.Inbox.{InboxView, is_lane_of, lane_at_first, IsOpened}
+use Rattle.act_inbox.proofs.Common.{◌≡◌, ◌≢◌, ℕ, suc, Option, None, replicate, ap, ◌<◌, ◌≤◌, List, [], ◌∷◌, length, false, refl, arith, get_or, inl, inr}
+use Rattle.act_inbox.proofs.Common.{is_some, All, AllPairs, find, sum_by, map, IsDistinct, option_map_or, eqb, eqb-true, le-ltb, leb_tells, eqb_tells}
+use Rattle.act_inbox.proofs.Common.{Decides-eqb, length-map, length-replicate, get_or-replicate, get_or_past, All-nil, All-cons, All-map, recursion_from_All}
+use Rattle.act_inbox.proofs.Common.{Any-from_list_any, sum_by-le, IsDistinct-cons, IsDistinct-from_AllPairs, length-le_from_distinct_below, Packet, contains}
+use Rattle.act_inbox.proofs.Common.{Lane, IsInbox, InboxView, is_lane_of, lane_at_first, IsOpened}
 
 -- numbers from 1 to 16 with no two equal are at most 16
 few_callers : (callers : List ℕ) → AllPairs (λ one other. one ≢ other) callers → All (λ caller. (1 ≤ caller) × (caller ≤ 16)) callers → length callers ≤ 16

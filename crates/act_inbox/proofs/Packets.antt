@@ -1,12 +1,8 @@
 -- What the packets that an inbox holds tell.
-use Rattle.std.proofs.Common.{◌≡◌, ℕ, ◌<◌, ◌≤◌, Option, Some, None, Bool, true, false, ◌==◌, ◌&&◌, ◌||◌, is_some, nat_lt, if◌then◌else◌, [], refl, sym, ◌∙◌, arith, eq-eqb, find}
-use Rattle.std.specs.Prelude.{IsTrue, ◌↔◌}
-use Rattle.std.proofs.lemmas.Bool.{lt-ltb, le-ltb, ltb-true, ltb-false, eqb-true}
-use Rattle.std.proofs.lemmas.Bool.Decides.{nat_tests}
-use Rattle.act_types.specs.declared.call.Packet.{Packet}
-use Rattle.act_rules.specs.declared.outcome.Arrival.TheVariants.{New, Repeat, Stranger}
-use Rattle.act_inbox.specs.declared.inbox.Lane.{Lane}
-use Rattle.act_inbox.specs.Inbox.{InboxView, is_packet_of, lane_of, is_listed, handed_of, was_handed, waiting_packet, next_of, has_come, call_arrival, arrival_of, waiting_after, with_held, IsNextToCome}
+use Rattle.act_inbox.proofs.Common.{◌≡◌, ℕ, ◌<◌, ◌≤◌, Option, Some, None, Bool, true, false, ◌==◌, ◌&&◌, ◌||◌, is_some, nat_lt, if◌then◌else◌, [], refl, sym}
+use Rattle.act_inbox.proofs.Common.{◌∙◌, arith, eq-eqb, find, IsTrue, ◌↔◌, lt-ltb, le-ltb, ltb-true, ltb-false, eqb-true, nat_tests, Packet, New, Repeat}
+use Rattle.act_inbox.proofs.Common.{Stranger, Lane, InboxView, is_packet_of, lane_of, is_listed, handed_of, was_handed, waiting_packet, next_of, has_come}
+use Rattle.act_inbox.proofs.Common.{call_arrival, arrival_of, waiting_after, with_held, IsNextToCome}
 use Rattle.act_inbox.proofs.Lanes.{listed_handed}
 
 pub both_equal : (a b c d : ℕ) → ((a == b) && (c == d)) ≡ true → (a ≡ b) × (c ≡ d)

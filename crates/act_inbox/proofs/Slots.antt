@@ -1,11 +1,7 @@
 -- What the slots of a slab tell of the list of its values.
-use Rattle.std.proofs.Common.{◌≡◌, ◌≢◌, ℕ, zero, suc, ◌<◌, List, [], ◌∷◌, length, Option, Some, None, Bool, true, false, cond, refl, ap, subst, arith, get_or, set, slice_get, find, filter_map, All, is_some, ◌==◌, sym, ◌∙◌, eq-eqb}
-use Rattle.std.specs.Prelude.{count_by}
-use Rattle.std.specs.Bool.{Decides}
-use Rattle.std.proofs.lemmas.Bool.{eqb-true}
-use Rattle.std.proofs.lemmas.List.{nil_from_length}
-use Rattle.slab.proofs.DrainLemmas.{length-values}
-use Rattle.std.proofs.lemmas.List.Elements.{All-nil, All-cons, All-head, All-tail}
+use Rattle.act_inbox.proofs.Common.{◌≡◌, ◌≢◌, ℕ, zero, suc, ◌<◌, List, [], ◌∷◌, length, Option, Some, None, Bool, true, false, cond, refl, ap, subst, arith}
+use Rattle.act_inbox.proofs.Common.{get_or, set, slice_get, find, filter_map, All, is_some, ◌==◌, sym, ◌∙◌, eq-eqb, count_by, Decides, eqb-true}
+use Rattle.act_inbox.proofs.Common.{nil_from_length, length-values, All-nil, All-cons, All-head, All-tail}
 
 module _ {X : Type 0} where
   -- the values of the slots, in their order

@@ -1,16 +1,8 @@
 -- What handing out a caller's next call does.
-use Rattle.std.proofs.Common.{◌≡◌, ℕ, List, ◌∷◌, ◌+◌, ◌<◌, ◌≤◌, Option, Some, None, Bool, true, false, ◌==◌, if◌then◌else◌, refl, sym, ◌∙◌, ap, subst, arith, get_or, inl, inr, find, position, All, eq-eqb}
-use Rattle.std.specs.Prelude.{slice_set, is_some, IsSome}
-use Rattle.std.proofs.Math.Seq.{map-set_same}
-use Rattle.std.proofs.lemmas.Bool.{lt-ltb, ltb-true, ltb-false}
-use Rattle.std.proofs.lemmas.Bool.Decides.{eqb_tells}
-use Rattle.std.proofs.lemmas.List.{length-set}
-use Rattle.std.proofs.lemmas.List.Elements.{All-set, All-cons}
-use Rattle.act_types.specs.declared.call.Packet.{Packet}
-use Rattle.act_inbox.specs.declared.inbox.Lane.{Lane}
-use Rattle.act_inbox.specs.View.{IsInbox}
-use Rattle.act_inbox.specs.Inbox.{InboxView, is_lane_of, is_packet_of, lane_of, is_listed, handed_of, was_handed, next_of, with_held, IsNextToCome, IsNextTaken}
-use Rattle.act_rules.proofs.Finding.{find-tells}
+use Rattle.act_inbox.proofs.Common.{◌≡◌, ℕ, List, ◌∷◌, ◌+◌, ◌<◌, ◌≤◌, Option, Some, None, Bool, true, false, ◌==◌, if◌then◌else◌, refl, sym, ◌∙◌, ap, subst}
+use Rattle.act_inbox.proofs.Common.{arith, get_or, inl, inr, find, position, All, eq-eqb, slice_set, is_some, IsSome, map-set_same, lt-ltb, ltb-true, ltb-false}
+use Rattle.act_inbox.proofs.Common.{eqb_tells, length-set, All-set, All-cons, Packet, Lane, IsInbox, InboxView, is_lane_of, is_packet_of, lane_of, is_listed}
+use Rattle.act_inbox.proofs.Common.{handed_of, was_handed, next_of, with_held, IsNextToCome, IsNextTaken, find-tells}
 use Rattle.act_inbox.proofs.Lanes.{one_more, lane_is, caller_at, same_lane, listed_handed, lane_written, lane_left, in_all_written, in_all_bound}
 use Rattle.act_inbox.proofs.Packets.{is_call_tells, listed_next, new_tells}
 

@@ -1,18 +1,8 @@
 -- A history on the way to another: it grows, and what ran at an actor that has ended stays.
-use Rattle.std.proofs.Common.{◌≡◌, ℕ, ◌+◌, ◌≤◌, ◌⊎◌, inl, inr, true, List, [], ◌∷◌, ◌++◌, length, Some, refl, sym, ap, subst, ◌∙◌, arith, length-append}
-use Rattle.act_rules.specs.declared.event.Event.{Event}
-use Rattle.act_rules.specs.RunList.{Answer}
-use Rattle.act_rules.specs.Submissions.{kept_at}
-use Rattle.act_rules.specs.Consistent.{IsPrefix}
-use Rattle.act_rules.specs.History.{ActorSpec, History, opening, calls_of, runs_of, kept_of, is_ended}
-use Rattle.act_rules.specs.Rules.{after, after_all}
-use Rattle.act_rules.specs.Laws.{history}
-use Rattle.act_rules.proofs.Lists.{whole_front, front_trans}
-use Rattle.act_rules.proofs.Growth.{Grows, added_grows, calls_grow}
-use Rattle.act_rules.proofs.Steps.{after_all_keeps, after_all-append}
-use Rattle.act_rules.proofs.Ended.{HasEnded, ended_stays}
-use Rattle.act_rules.proofs.Kept.{kept_stays}
-use Rattle.act_rules.proofs.Sound.{IsSound, world_sound}
+use Rattle.act_order_plays.proofs.Common.{◌≡◌, ℕ, ◌+◌, ◌≤◌, ◌⊎◌, inl, inr, true, List, [], ◌∷◌, ◌++◌, length, Some, refl, sym, ap, subst, ◌∙◌, arith}
+use Rattle.act_order_plays.proofs.Common.{length-append, Event, Answer, kept_at, IsPrefix, ActorSpec, History, opening, calls_of, runs_of, kept_of, is_ended}
+use Rattle.act_order_plays.proofs.Common.{after, after_all, history, whole_front, front_trans, Grows, added_grows, calls_grow, after_all_keeps}
+use Rattle.act_order_plays.proofs.Common.{after_all-append, HasEnded, ended_stays, kept_stays, IsSound, world_sound}
 
 pub grows_not : (h : History) → Grows h h
 grows_not h = record {

@@ -1,22 +1,11 @@
 -- What the actors of the play answer.
-use Rattle.std.proofs.Common.{◌≡◌, ◌≢◌, ℕ, zero, suc, ◌-◌, false, List, [], ◌∷◌, length, map, Option, Some, None, Ok, Err, slice_get, refl, sym, ap, subst, ◌∙◌}
-use Rattle.std.specs.Prelude.{Result}
-use Rattle.act_types.specs.declared.call.Value.{Value}
+use Rattle.act_order_plays.proofs.Common.{◌≡◌, ◌≢◌, ℕ, zero, suc, ◌-◌, false, List, [], ◌∷◌, length, map, Option, Some, None, Ok, Err, slice_get, refl, sym, ap}
+use Rattle.act_order_plays.proofs.Common.{subst, ◌∙◌, Result, Value, Fault, BadArgs, Dependency, ActorDied, Method, Get, Put, KindState, OwnAt, Ask, Behaviour}
+use Rattle.act_order_plays.proofs.Common.{after_ask, RunItem, told_reply, Answer, values_of, step_of_reply, step_of_call, call_reply, after_item, answer_at}
+use Rattle.act_order_plays.proofs.Common.{ends_actor, has_terminated, Outcome, Failed, Died, Open, Told, call_of, answer_to, answers, future_of, item_key}
+use Rattle.act_order_plays.proofs.Common.{run_key}
 use Rattle.act_types.specs.declared.call.Value.TheVariants.{Unit as Nothing}
-use Rattle.act_types.specs.declared.call.Fault.{Fault}
-use Rattle.act_types.specs.declared.call.Fault.TheVariants.{BadArgs, Dependency, ActorDied}
-use Rattle.act_types.specs.declared.call.Method.{Method}
-use Rattle.act_types.specs.declared.call.Method.TheVariants.{Get, Put}
-use Rattle.act_types.specs.KindState.{KindState, OwnAt}
-use Rattle.act_types.specs.Own.{Ask, Behaviour, after_ask}
-use Rattle.act_rules.specs.declared.history.RunItem.{RunItem}
-use Rattle.act_rules.specs.Kinds.{told_reply}
-use Rattle.act_rules.specs.RunList.{Answer, values_of, step_of_reply, step_of_call, call_reply, after_item, answer_at, ends_actor, has_terminated}
-use Rattle.act_orders.specs.declared.told.Outcome.{Outcome}
-use Rattle.act_orders.specs.declared.told.Outcome.TheVariants.{Answered, Failed, Died, Open}
-use Rattle.act_orders.specs.declared.told.Told.{Told}
-use Rattle.act_orders.specs.Order.{call_of}
-use Rattle.act_order_plays.specs.Plays.{answer_to, answers, future_of, item_key, run_key}
+use Rattle.act_orders.specs.declared.told.Outcome.TheVariants.{Answered}
 
 -- the method of a call that ends so
 abbrev pub method_of : Outcome → Method

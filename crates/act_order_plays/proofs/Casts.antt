@@ -1,17 +1,8 @@
 -- The actors of the play: who may call whom.
-use Rattle.std.proofs.Common.{◌≡◌, ℕ, zero, suc, ◌+◌, ◌<◌, ◌==◌, ◌||◌, inl, inr, Bool, true, false, List, [], ◌∷◌, length, find, Some, None, slice_get, refl, ap, subst, ◌∙◌, arith}
-use Rattle.std.specs.Prelude.{option_map}
-use Rattle.std.specs.List.{Contains, enumerate_from, list_any}
-use Rattle.std.proofs.lemmas.Bool.{eqb-true, eq-eqb, ne_eqb}
-use Rattle.std.proofs.lemmas.List.{get_or_past}
-use Rattle.std.proofs.lemmas.Option.{slice_get-map, slice_get-get_or}
-use Rattle.act_types.specs.KindState.{OwnAt}
-use Rattle.act_rules.specs.History.{ActorSpec, History, contains, cast_of, names, is_caller}
-use Rattle.act_rules.proofs.Lists.{find-map, slice_get-enumerate_from}
-use Rattle.act_orders.specs.declared.told.Actor.{Actor}
-use Rattle.act_orders.specs.declared.told.Told.{Told}
-use Rattle.act_orders.specs.Order.{actor_of}
-use Rattle.act_order_plays.specs.Plays.{answers, cast_of_actor, casts_of}
+use Rattle.act_order_plays.proofs.Common.{◌≡◌, ℕ, zero, suc, ◌+◌, ◌<◌, ◌==◌, ◌||◌, inl, inr, Bool, true, false, List, [], ◌∷◌, length, find, Some, None}
+use Rattle.act_order_plays.proofs.Common.{slice_get, refl, ap, subst, ◌∙◌, arith, option_map, Contains, enumerate_from, list_any, eqb-true, eq-eqb, ne_eqb}
+use Rattle.act_order_plays.proofs.Common.{get_or_past, slice_get-map, slice_get-get_or, OwnAt, ActorSpec, History, contains, cast_of, names, is_caller}
+use Rattle.act_order_plays.proofs.Common.{find-map, slice_get-enumerate_from, Actor, Told, actor_of, answers, cast_of_actor, casts_of}
 use Rattle.act_order_plays.proofs.Lists.{Has, cases_le}
 
 -- what holds of one item holds of some

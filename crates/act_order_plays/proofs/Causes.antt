@@ -1,20 +1,8 @@
 -- What comes before what happens next: so what happened is a front of each caller's calls and of each actor's runs.
-use Rattle.std.proofs.Common.{◌≡◌, ◌≢◌, ℕ, zero, suc, ◌+◌, ◌-◌, ◌<◌, ◌≤◌, ◌⊎◌, inl, inr, Bool, true, false, cond, List, [], ◌∷◌, ◌++◌, length, filter, Some, slice_get, refl, sym, ap, subst, ◌∙◌, arith}
-use Rattle.std.proofs.lemmas.Bool.{eqb-true}
-use Rattle.std.proofs.lemmas.Bool.Decides.{eqb_tells}
-use Rattle.std.proofs.lemmas.List.{append-nil}
-use Rattle.std.proofs.lemmas.List.Elements.{filter-append, filter_map-append}
-use Rattle.std.proofs.lemmas.Option.{slice_get_within}
-use Rattle.act_rules.specs.Consistent.{IsPrefix}
-use Rattle.act_rules.proofs.Lists.{element}
-use Rattle.act_orders.specs.declared.told.Happening.{Happening}
-use Rattle.act_orders.specs.declared.told.Happening.TheVariants.{Submitted, Ran, Answered}
-use Rattle.act_orders.specs.declared.told.Outcome.{Outcome}
-use Rattle.act_orders.specs.declared.told.Outcome.TheVariants.{Died}
-use Rattle.act_orders.specs.declared.told.Run.{Run}
-use Rattle.act_orders.specs.declared.told.Told.{Told}
-use Rattle.act_orders.specs.Order.{call_of, SameCaller, RunsInTurn, Happened, RunsBefore, IsCause}
-use Rattle.act_order_plays.specs.Plays.{calls_by, future_of, runs_by}
+use Rattle.act_order_plays.proofs.Common.{◌≡◌, ◌≢◌, ℕ, zero, suc, ◌+◌, ◌-◌, ◌<◌, ◌≤◌, ◌⊎◌, inl, inr, Bool, true, false, cond, List, [], ◌∷◌, ◌++◌, length}
+use Rattle.act_order_plays.proofs.Common.{filter, Some, slice_get, refl, sym, ap, subst, ◌∙◌, arith, eqb-true, eqb_tells, append-nil, filter-append}
+use Rattle.act_order_plays.proofs.Common.{filter_map-append, slice_get_within, IsPrefix, element, Happening, Submitted, Ran, Answered, Outcome, Died, Run, Told}
+use Rattle.act_order_plays.proofs.Common.{call_of, SameCaller, RunsInTurn, Happened, RunsBefore, IsCause, calls_by, future_of, runs_by}
 use Rattle.act_order_plays.proofs.Premises.{Premises}
 use Rattle.act_order_plays.proofs.Lists.{Has, has_more, has_pushed, cases_le, front_grows}
 use Rattle.act_order_plays.proofs.Fronts.{submits, rans, is_by, is_to, subs_of, rans_of, has_subs_of, subs_of_has, rans_of_has, has_rans_of, call_at, call_before, calls_differ, IsRunAt, run_at, rank, run_ranks, run_before, runs_differ}

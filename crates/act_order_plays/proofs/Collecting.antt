@@ -1,26 +1,10 @@
 -- A post that is collected.
-use Rattle.std.proofs.Common.{◌≡◌, ℕ, ◌<◌, ◌==◌, ◌&&◌, Bool, true, cond, List, [], ◌∷◌, ◌++◌, length, Option, Some, None, Err, slice_get, refl, sym, ap, subst, ◌∙◌, arith}
-use Rattle.std.specs.Prelude.{filter_map, option_and_then}
-use Rattle.std.specs.List.{AllByRecursion}
-use Rattle.std.proofs.lemmas.Bool.{eq-eqb, and_from}
-use Rattle.std.proofs.lemmas.Option.{slice_get_within}
-use Rattle.act_types.specs.declared.call.Fault.TheVariants.{ActorDied}
-use Rattle.act_types.specs.KindState.{KindState, OwnAt}
-use Rattle.act_rules.specs.declared.event.Event.TheVariants.{Collect}
-use Rattle.act_rules.specs.declared.history.Post.{Post}
+use Rattle.act_order_plays.proofs.Common.{◌≡◌, ℕ, ◌<◌, ◌==◌, ◌&&◌, Bool, true, cond, List, [], ◌∷◌, ◌++◌, length, Option, Some, None, Err, slice_get, refl, sym}
+use Rattle.act_order_plays.proofs.Common.{ap, subst, ◌∙◌, arith, filter_map, option_and_then, AllByRecursion, eq-eqb, and_from, slice_get_within, ActorDied}
+use Rattle.act_order_plays.proofs.Common.{KindState, OwnAt, Collect, Post, RunItem, Answer, answer_at, answers_from, History, runs_of, is_item_of, answer_of}
+use Rattle.act_order_plays.proofs.Common.{refusal_of, add_event, and_also, element, All_more, length-answers_from, sound_step, Happening, Submitted, Told}
+use Rattle.act_order_plays.proofs.Common.{call_of, kept_for, answers, future_of}
 use Rattle.act_rules.specs.declared.history.Post.TheVariants.{Reply as ReplyPost, Death as DeathPost}
-use Rattle.act_rules.specs.declared.history.RunItem.{RunItem}
-use Rattle.act_rules.specs.RunList.{Answer, answer_at, answers_from}
-use Rattle.act_rules.specs.History.{History, runs_of, is_item_of, answer_of}
-use Rattle.act_rules.specs.Rules.{refusal_of, add_event, and_also}
-use Rattle.act_rules.proofs.Lists.{element, All_more}
-use Rattle.act_rules.proofs.Kept.{length-answers_from}
-use Rattle.act_rules.proofs.Sound.{sound_step}
-use Rattle.act_orders.specs.declared.told.Happening.{Happening}
-use Rattle.act_orders.specs.declared.told.Happening.TheVariants.{Submitted}
-use Rattle.act_orders.specs.declared.told.Told.{Told}
-use Rattle.act_orders.specs.Order.{call_of}
-use Rattle.act_order_plays.specs.Plays.{kept_for, answers, future_of}
 use Rattle.act_order_plays.proofs.Lists.{Has}
 use Rattle.act_order_plays.proofs.Fronts.{rans_of}
 use Rattle.act_order_plays.proofs.Causes.{Good}

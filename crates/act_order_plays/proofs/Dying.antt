@@ -1,22 +1,10 @@
 -- An answer: a death is told and collected, and any other was collected with its run.
-use Rattle.std.proofs.Common.{◌≡◌, ◌≢◌, ℕ, ◌<◌, ◌⊎◌, inl, inr, Bool, true, false, List, [], ◌∷◌, ◌++◌, length, Some, None, Err, slice_get, refl, sym, ap, subst, ◌∙◌}
-use Rattle.std.specs.Prelude.{is_some}
-use Rattle.act_types.specs.declared.call.Fault.TheVariants.{ActorDied}
-use Rattle.act_rules.specs.declared.event.Event.TheVariants.{Collect, AskKill, TakeKill, Tell}
+use Rattle.act_order_plays.proofs.Common.{◌≡◌, ◌≢◌, ℕ, ◌<◌, ◌⊎◌, inl, inr, Bool, true, false, List, [], ◌∷◌, ◌++◌, length, Some, None, Err, slice_get, refl}
+use Rattle.act_order_plays.proofs.Common.{sym, ap, subst, ◌∙◌, is_some, ActorDied, Collect, AskKill, TakeKill, Tell, Answer, has_terminated, History, contains}
+use Rattle.act_order_plays.proofs.Common.{cast_of, names, is_caller, copies_of, runs_of, is_dead, is_ended, refusal_of, add_event, slice_get_last, added_grows}
+use Rattle.act_order_plays.proofs.Common.{sound_step, Happening, Submitted, Answered, Outcome, Told, call_of, actor_of, RunsInTurn, kept_for}
 use Rattle.act_rules.specs.declared.history.Post.TheVariants.{Death as DeathPost}
-use Rattle.act_rules.specs.RunList.{Answer, has_terminated}
-use Rattle.act_rules.specs.History.{History, contains, cast_of, names, is_caller, copies_of, runs_of, is_dead, is_ended}
-use Rattle.act_rules.specs.Rules.{refusal_of, add_event}
-use Rattle.act_rules.proofs.Lists.{slice_get_last}
-use Rattle.act_rules.proofs.Growth.{added_grows}
-use Rattle.act_rules.proofs.Sound.{sound_step}
-use Rattle.act_orders.specs.declared.told.Happening.{Happening}
-use Rattle.act_orders.specs.declared.told.Happening.TheVariants.{Submitted, Answered}
-use Rattle.act_orders.specs.declared.told.Outcome.{Outcome}
 use Rattle.act_orders.specs.declared.told.Outcome.TheVariants as out
-use Rattle.act_orders.specs.declared.told.Told.{Told}
-use Rattle.act_orders.specs.Order.{call_of, actor_of, RunsInTurn}
-use Rattle.act_order_plays.specs.Plays.{kept_for}
 use Rattle.act_order_plays.proofs.Premises.{Premises}
 use Rattle.act_order_plays.proofs.Lists.{Has, has_more, has_last, has_pushed}
 use Rattle.act_order_plays.proofs.Fronts.{rans_of}

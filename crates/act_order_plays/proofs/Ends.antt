@@ -1,19 +1,8 @@
 -- How actors end: those below a number have ended as it is told.
-use Rattle.std.proofs.Common.{◌≡◌, ◌≢◌, ℕ, suc, ◌<◌, ◌≤◌, inl, inr, Bool, true, false, List, [], ◌∷◌, length, Some, refl, sym, ap, subst, ◌∙◌, arith}
-use Rattle.std.specs.Prelude.{is_some}
-use Rattle.std.proofs.lemmas.Bool.{false_from_ne_true}
-use Rattle.act_rules.specs.declared.event.Event.TheVariants.{AskKill, TakeKill}
-use Rattle.act_rules.specs.RunList.{has_terminated}
-use Rattle.act_rules.specs.History.{History, contains, cast_of, runs_of, count_pairs, copies_of, is_dead, is_retired, is_ended}
-use Rattle.act_rules.specs.Rules.{add_event}
-use Rattle.act_rules.proofs.Lists.{element}
-use Rattle.act_rules.proofs.Ended.{contains_more}
-use Rattle.act_orders.specs.declared.told.End.{End}
-use Rattle.act_orders.specs.declared.told.End.TheVariants.{Live, Dead, Retired}
-use Rattle.act_orders.specs.declared.told.Happening.{Happening}
-use Rattle.act_orders.specs.declared.told.Told.{Told}
-use Rattle.act_orders.specs.Order.{actor_of, IsInOrderBy}
-use Rattle.act_order_plays.specs.Plays.{EndsAs, LeavesTold}
+use Rattle.act_order_plays.proofs.Common.{◌≡◌, ◌≢◌, ℕ, suc, ◌<◌, ◌≤◌, inl, inr, Bool, true, false, List, [], ◌∷◌, length, Some, refl, sym, ap, subst, ◌∙◌}
+use Rattle.act_order_plays.proofs.Common.{arith, is_some, false_from_ne_true, AskKill, TakeKill, has_terminated, History, contains, cast_of, runs_of}
+use Rattle.act_order_plays.proofs.Common.{count_pairs, copies_of, is_dead, is_retired, is_ended, add_event, element, contains_more, End, Live, Dead, Retired}
+use Rattle.act_order_plays.proofs.Common.{Happening, Told, actor_of, IsInOrderBy, EndsAs, LeavesTold}
 use Rattle.act_order_plays.proofs.Premises.{Premises}
 use Rattle.act_order_plays.proofs.Lists.{Has, has_last, cases_le}
 use Rattle.act_order_plays.proofs.Causes.{Good}

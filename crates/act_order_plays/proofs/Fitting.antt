@@ -1,41 +1,19 @@
 -- What a play leaves fits the limits, and what it answers took no answer that failed.
-use Rattle.std.proofs.Common.{◌≡◌, ℕ, zero, suc, ◌<◌, ◌≤◌, ◌==◌, inl, inr, Bool, true, false, cond, List, [], ◌∷◌, ◌++◌, length, map, nat_lt, nat_le, Option, Some, None, Ok, Err, slice_get, refl, sym, ap, subst, ◌∙◌, arith, length-append}
-use Rattle.std.specs.Prelude.{Result, filter, is_some, option_map, option_and_then}
-use Rattle.std.specs.List.{AllByRecursion, list_all, Contains}
-use Rattle.std.proofs.lemmas.Bool.{eqb-true, ltb-true, leb-true}
-use Rattle.std.proofs.lemmas.List.{append-nil, length-map}
-use Rattle.std.proofs.lemmas.Option.{slice_get-map, slice_get_within}
-use Rattle.act_types.specs.declared.call.Arg.{Arg}
-use Rattle.act_types.specs.declared.call.Arg.TheVariants.{Fut}
-use Rattle.act_types.specs.declared.call.Method.{Method}
-use Rattle.act_types.specs.declared.call.Settled.{Settled}
-use Rattle.act_types.specs.declared.call.Settled.TheVariants.{Good, Bad}
-use Rattle.act_types.specs.declared.call.Value.{Value}
+use Rattle.act_order_plays.proofs.Common.{◌≡◌, ℕ, zero, suc, ◌<◌, ◌≤◌, ◌==◌, inl, inr, Bool, true, false, cond, List, [], ◌∷◌, ◌++◌, length, map, nat_lt}
+use Rattle.act_order_plays.proofs.Common.{nat_le, Option, Some, None, Ok, Err, slice_get, refl, sym, ap, subst, ◌∙◌, arith, length-append, Result, filter}
+use Rattle.act_order_plays.proofs.Common.{is_some, option_map, option_and_then, AllByRecursion, list_all, Contains, eqb-true, ltb-true, leb-true, append-nil}
+use Rattle.act_order_plays.proofs.Common.{length-map, slice_get-map, slice_get_within, Arg, Fut, Method, Settled, Good, Bad, Value, KindState, Event, RunItem}
+use Rattle.act_order_plays.proofs.Common.{Submission, Answer, with_value, values_of, step_of_call, after_item, answer_at, needs, kept_at, settled_future}
+use Rattle.act_order_plays.proofs.Common.{settle, copies_held, is_earlier, submit_refusal, limit_refusal, IsAsSubmitted, ActorSpec, History, opening}
+use Rattle.act_order_plays.proofs.Common.{opening_of, under, is_caller, calls_of, copies_of, limit_of, runs_of, kept_of, next_item, unanswered}
+use Rattle.act_order_plays.proofs.Common.{submission_refusal, refusal_of, after_run, after_all, All_more, All_at, option_map-none, option_or-none, IsKept}
+use Rattle.act_order_plays.proofs.Common.{after_all_keeps, needs-none, under-push, filter-slice_get, map-slice_get, IsSound, answers_are, consistent, Outcome}
+use Rattle.act_order_plays.proofs.Common.{Failed, Died, Open, Told, call_of, IsWhole, kept_for, IsKeptFor, LeavesTold, Fits, args_of, future_of}
 use Rattle.act_types.specs.declared.call.Value.TheVariants.{Unit as Nothing}
-use Rattle.act_types.specs.KindState.{KindState}
-use Rattle.act_rules.specs.declared.event.Event.{Event}
 use Rattle.act_rules.specs.declared.event.Event.TheVariants.{Submit, Copy, Release, Send, Deliver, Run as RunNext, Collect, AskKill, TakeKill, Tell, Retire}
-use Rattle.act_rules.specs.declared.history.RunItem.{RunItem}
-use Rattle.act_rules.specs.declared.history.Submission.{Submission}
 use Rattle.act_rules.specs.declared.outcome.SubmitRefusal.TheVariants.{NoActor as NoSuchActor, NoHandle as NoCopy, TooManyArgs, BadFuture, TooManyCalls}
 use Rattle.act_rules.specs.declared.outcome.WorldRefusal.TheVariants.{Submit as SubmitRefused, NoCaller}
-use Rattle.act_rules.specs.RunList.{Answer, with_value, values_of, step_of_call, after_item, answer_at}
-use Rattle.act_rules.specs.Submissions.{needs, kept_at, settled_future, settle, copies_held, is_earlier, submit_refusal, limit_refusal}
-use Rattle.act_rules.specs.Consistent.{IsAsSubmitted}
-use Rattle.act_rules.specs.History.{ActorSpec, History, opening, opening_of, under, is_caller, calls_of, copies_of, limit_of, runs_of, kept_of, next_item}
-use Rattle.act_rules.specs.Rules.{unanswered, submission_refusal, refusal_of, after_run, after_all}
-use Rattle.act_rules.proofs.Lists.{All_more, All_at, option_map-none, option_or-none}
-use Rattle.act_rules.proofs.Steps.{IsKept, after_all_keeps}
-use Rattle.act_rules.proofs.Ended.{needs-none, under-push}
-use Rattle.act_rules.proofs.AsSubmitted.{filter-slice_get}
-use Rattle.act_rules.proofs.Unique.{map-slice_get}
-use Rattle.act_rules.proofs.Sound.{IsSound, answers_are, consistent}
-use Rattle.act_orders.specs.declared.told.Outcome.{Outcome}
-use Rattle.act_orders.specs.declared.told.Outcome.TheVariants.{Answered, Failed, Died, Open}
-use Rattle.act_orders.specs.declared.told.Told.{Told}
-use Rattle.act_orders.specs.Order.{call_of}
-use Rattle.act_orders.specs.Causes.{IsWhole}
-use Rattle.act_order_plays.specs.Plays.{kept_for, IsKeptFor, LeavesTold, Fits, args_of, future_of}
+use Rattle.act_orders.specs.declared.told.Outcome.TheVariants.{Answered}
 use Rattle.act_order_plays.proofs.Lists.{has_of}
 use Rattle.act_order_plays.proofs.Left.{IsOf, stands, call_there}
 use Rattle.act_order_plays.proofs.Along.{grows_not}

@@ -1,19 +1,8 @@
 -- What happened so far: a front of each caller's calls and of each actor's runs.
-use Rattle.std.proofs.Common.{◌≡◌, ℕ, zero, suc, ◌<◌, ◌==◌, inl, inr, Bool, true, false, cond, List, [], ◌∷◌, length, filter, take, Option, Some, None, slice_get, refl, sym, ap, subst, ◌∙◌, arith}
-use Rattle.std.specs.Prelude.{filter_map, option_map}
-use Rattle.std.specs.List.{Contains}
-use Rattle.std.proofs.lemmas.Bool.{eqb-true, eq-eqb}
-use Rattle.std.proofs.lemmas.Option.{slice_get-map}
-use Rattle.act_rules.specs.Consistent.{IsPrefix}
-use Rattle.act_rules.proofs.Lists.{element, slice_get_front, slice_get-filter, IsPrefix-filter}
-use Rattle.act_rules.proofs.AsSubmitted.{filter-slice_get}
-use Rattle.act_rules.proofs.Unique.{map-slice_get}
-use Rattle.act_orders.specs.declared.told.Happening.{Happening}
-use Rattle.act_orders.specs.declared.told.Happening.TheVariants.{Submitted, Ran, Answered}
-use Rattle.act_orders.specs.declared.told.Run.{Run}
-use Rattle.act_orders.specs.declared.told.Told.{Told}
-use Rattle.act_orders.specs.Order.{call_of, calls_run, SameCaller, RunsInTurn}
-use Rattle.act_order_plays.specs.Plays.{calls_by, future_of, runs_by}
+use Rattle.act_order_plays.proofs.Common.{◌≡◌, ℕ, zero, suc, ◌<◌, ◌==◌, inl, inr, Bool, true, false, cond, List, [], ◌∷◌, length, filter, take, Option, Some}
+use Rattle.act_order_plays.proofs.Common.{None, slice_get, refl, sym, ap, subst, ◌∙◌, arith, filter_map, option_map, Contains, eqb-true, eq-eqb, slice_get-map}
+use Rattle.act_order_plays.proofs.Common.{IsPrefix, element, slice_get_front, slice_get-filter, IsPrefix-filter, filter-slice_get, map-slice_get, Happening}
+use Rattle.act_order_plays.proofs.Common.{Submitted, Ran, Answered, Run, Told, call_of, calls_run, SameCaller, RunsInTurn, calls_by, future_of, runs_by}
 use Rattle.act_order_plays.proofs.Lists.{Has, has_of, contains_of, has_filter, filter_has, has_filter_map, filter_map_has, Differ, below, below_at, below_has, below_differ, cases_le}
 
 abbrev pub submitted_in : Happening → Option ℕ

@@ -1,29 +1,10 @@
 -- What has happened so far in a play, and all that happens.
-use Rattle.std.proofs.Common.{◌≡◌, ◌≢◌, ℕ, ◌==◌, ◌&&◌, inl, inr, Bool, true, false, List, [], ◌∷◌, ◌++◌, length, map, nat_lt, Some, None, refl, sym, ap, subst, ◌∙◌, arith, append_assoc}
-use Rattle.std.specs.Prelude.{Option, is_some, option_map}
-use Rattle.std.specs.List.{list_any}
-use Rattle.std.proofs.lemmas.Bool.{ltb-true, lt-ltb}
-use Rattle.std.proofs.lemmas.List.Folds.{list_any-append}
-use Rattle.std.proofs.lemmas.Option.{slice_get-map}
-use Rattle.act_rules.specs.declared.event.Event.{Event}
-use Rattle.act_rules.specs.declared.history.RunItem.{RunItem}
-use Rattle.act_rules.specs.RunList.{Answer}
-use Rattle.act_rules.specs.Consistent.{IsPrefix}
-use Rattle.act_rules.specs.History.{ActorSpec, History, contains, calls_of, runs_of}
-use Rattle.act_rules.specs.Rules.{after, after_all}
-use Rattle.act_rules.specs.Laws.{history}
-use Rattle.act_rules.proofs.Growth.{runs_grow}
-use Rattle.act_rules.proofs.Steps.{after_keeps}
-use Rattle.act_rules.proofs.Sound.{IsSound, sound_step}
-use Rattle.act_rules.proofs.Unique.{map-slice_get}
-use Rattle.act_orders.specs.declared.told.Happening.{Happening}
-use Rattle.act_orders.specs.declared.told.Happening.TheVariants.{Submitted, Ran, Answered}
-use Rattle.act_orders.specs.declared.told.Outcome.{Outcome}
+use Rattle.act_order_plays.proofs.Common.{◌≡◌, ◌≢◌, ℕ, ◌==◌, ◌&&◌, inl, inr, Bool, true, false, List, [], ◌∷◌, ◌++◌, length, map, nat_lt, Some, None, refl, sym}
+use Rattle.act_order_plays.proofs.Common.{ap, subst, ◌∙◌, arith, append_assoc, Option, is_some, option_map, list_any, ltb-true, lt-ltb, list_any-append}
+use Rattle.act_order_plays.proofs.Common.{slice_get-map, Event, RunItem, Answer, IsPrefix, ActorSpec, History, contains, calls_of, runs_of, after, after_all}
+use Rattle.act_order_plays.proofs.Common.{history, runs_grow, after_keeps, IsSound, sound_step, map-slice_get, Happening, Submitted, Ran, Answered, Outcome}
+use Rattle.act_order_plays.proofs.Common.{Told, call_of, calls_run, Happened, IsWhole, kept_for, future_of}
 use Rattle.act_orders.specs.declared.told.Outcome.TheVariants as out
-use Rattle.act_orders.specs.declared.told.Told.{Told}
-use Rattle.act_orders.specs.Order.{call_of, calls_run, Happened}
-use Rattle.act_orders.specs.Causes.{IsWhole}
-use Rattle.act_order_plays.specs.Plays.{kept_for, future_of}
 use Rattle.act_order_plays.proofs.Lists.{Has, has_of, contains_of, has_more, below, below_at, below_has, below_differ}
 use Rattle.act_order_plays.proofs.Fronts.{run_at}
 use Rattle.act_order_plays.proofs.Casts.{contains_has, has_contains}

@@ -1,19 +1,8 @@
 -- What a play leaves is in order.
-use Rattle.std.proofs.Common.{◌≡◌, ℕ, ◌<◌, ◌≤◌, inl, inr, Bool, true, false, List, [], ◌∷◌, ◌++◌, length, take, nat_lt, Some, slice_get, refl, sym, subst, ◌∙◌, arith, append_assoc}
-use Rattle.std.specs.List.{Contains}
-use Rattle.std.proofs.lemmas.Bool.{ltb-true}
-use Rattle.act_rules.specs.declared.event.Event.{Event}
-use Rattle.act_rules.specs.History.{ActorSpec, History, opening, calls_of}
-use Rattle.act_rules.specs.Rules.{after}
-use Rattle.act_rules.specs.Laws.{history}
-use Rattle.act_rules.proofs.Sound.{IsSound, world_sound}
-use Rattle.act_rules.proofs.RanAll.{world_retires}
-use Rattle.act_orders.specs.declared.told.Happening.{Happening}
-use Rattle.act_orders.specs.declared.told.Happening.TheVariants.{Submitted, Ran, Answered}
-use Rattle.act_orders.specs.declared.told.Told.{Told}
-use Rattle.act_orders.specs.Order.{call_of, Happened, IsCause, IsOrder, IsInOrder}
-use Rattle.act_orders.specs.Causes.{IsWhole}
-use Rattle.act_order_plays.specs.Plays.{casts_of, future_of, IsPlayOf}
+use Rattle.act_order_plays.proofs.Common.{◌≡◌, ℕ, ◌<◌, ◌≤◌, inl, inr, Bool, true, false, List, [], ◌∷◌, ◌++◌, length, take, nat_lt, Some, slice_get, refl, sym}
+use Rattle.act_order_plays.proofs.Common.{subst, ◌∙◌, arith, append_assoc, Contains, ltb-true, Event, ActorSpec, History, opening, calls_of, after, history}
+use Rattle.act_order_plays.proofs.Common.{IsSound, world_sound, world_retires, Happening, Submitted, Ran, Answered, Told, call_of, Happened, IsCause, IsOrder}
+use Rattle.act_order_plays.proofs.Common.{IsInOrder, IsWhole, casts_of, future_of, IsPlayOf}
 use Rattle.act_order_plays.proofs.Lists.{has_of, contains_of}
 use Rattle.act_order_plays.proofs.Fronts.{run_at}
 use Rattle.act_order_plays.proofs.Left.{run_happened, run_call}

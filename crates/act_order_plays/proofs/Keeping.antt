@@ -1,24 +1,10 @@
 -- Which collected posts answer a call.
-use Rattle.std.proofs.Common.{◌≡◌, ℕ, ◌<◌, ◌==◌, ◌&&◌, ◌⊎◌, inl, inr, Bool, true, false, cond, List, [], ◌∷◌, ◌++◌, length, Option, Some, None, Err, slice_get, refl, sym, ap, subst, ◌∙◌}
-use Rattle.std.specs.Prelude.{filter_map, option_map, option_and_then}
-use Rattle.std.specs.List.{AllByRecursion, cons_option}
-use Rattle.std.proofs.lemmas.Bool.{eqb-true, and_parts}
-use Rattle.std.proofs.lemmas.Option.{slice_get-map}
-use Rattle.act_types.specs.declared.call.Fault.TheVariants.{ActorDied}
-use Rattle.act_types.specs.KindState.{KindState, OwnAt}
-use Rattle.act_rules.specs.declared.history.Post.{Post}
+use Rattle.act_order_plays.proofs.Common.{◌≡◌, ℕ, ◌<◌, ◌==◌, ◌&&◌, ◌⊎◌, inl, inr, Bool, true, false, cond, List, [], ◌∷◌, ◌++◌, length, Option, Some, None, Err}
+use Rattle.act_order_plays.proofs.Common.{slice_get, refl, sym, ap, subst, ◌∙◌, filter_map, option_map, option_and_then, AllByRecursion, cons_option, eqb-true}
+use Rattle.act_order_plays.proofs.Common.{and_parts, slice_get-map, ActorDied, KindState, OwnAt, Post, RunItem, Submission, Answer, answer_at, ActorSpec}
+use Rattle.act_order_plays.proofs.Common.{History, opening_of, calls_of, runs_of, is_item_of, answer_of, answer_in, slice_get_front, kept_by, kept_at_is}
+use Rattle.act_order_plays.proofs.Common.{Happening, Submitted, Ran, Told, call_of, kept_for, answers, calls_by, future_of}
 use Rattle.act_rules.specs.declared.history.Post.TheVariants.{Reply as ReplyPost, Death as DeathPost}
-use Rattle.act_rules.specs.declared.history.RunItem.{RunItem}
-use Rattle.act_rules.specs.declared.history.Submission.{Submission}
-use Rattle.act_rules.specs.RunList.{Answer, answer_at}
-use Rattle.act_rules.specs.History.{ActorSpec, History, opening_of, calls_of, runs_of, is_item_of, answer_of, answer_in}
-use Rattle.act_rules.proofs.Lists.{slice_get_front}
-use Rattle.act_rules.proofs.Kept.{kept_by, kept_at_is}
-use Rattle.act_orders.specs.declared.told.Happening.{Happening}
-use Rattle.act_orders.specs.declared.told.Happening.TheVariants.{Submitted, Ran}
-use Rattle.act_orders.specs.declared.told.Told.{Told}
-use Rattle.act_orders.specs.Order.{call_of}
-use Rattle.act_order_plays.specs.Plays.{kept_for, answers, calls_by, future_of}
 use Rattle.act_order_plays.proofs.Lists.{Has}
 use Rattle.act_order_plays.proofs.Fronts.{subs_of, rans_of, subs_of_has, has_rans_of, call_at, calls_differ}
 use Rattle.act_order_plays.proofs.Causes.{Good}

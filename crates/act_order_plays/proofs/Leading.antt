@@ -1,26 +1,10 @@
 -- What leads to what in a play: what happened before each call, each run and each answer.
-use Rattle.std.proofs.Common.{◌≡◌, ◌≢◌, ℕ, ◌+◌, ◌<◌, ◌||◌, Bool, true, false, List, length, nat_lt, Some, None, Ok, Err, slice_get, refl, sym, ap, subst, ◌∙◌, arith}
-use Rattle.std.specs.Prelude.{Option, is_some}
-use Rattle.std.specs.List.{list_any, Contains}
-use Rattle.std.proofs.lemmas.Bool.{ltb-true, lt-ltb}
-use Rattle.std.proofs.lemmas.Option.{slice_get_within}
-use Rattle.act_types.specs.declared.call.Arg.{Arg}
-use Rattle.act_types.specs.declared.call.Fault.TheVariants.{ActorDied}
-use Rattle.act_rules.specs.declared.event.Event.{Event}
-use Rattle.act_rules.specs.declared.history.RunItem.{RunItem}
-use Rattle.act_rules.specs.RunList.{Answer}
-use Rattle.act_rules.specs.History.{History, calls_of, runs_of, is_dead, is_retired}
-use Rattle.act_rules.specs.Rules.{after}
-use Rattle.act_rules.proofs.Sound.{IsSound, kept_from, answers_are, deaths_are}
-use Rattle.act_orders.specs.declared.told.Happening.{Happening}
-use Rattle.act_orders.specs.declared.told.Happening.TheVariants.{Submitted, Ran, Answered}
-use Rattle.act_orders.specs.declared.told.Outcome.{Outcome}
+use Rattle.act_order_plays.proofs.Common.{◌≡◌, ◌≢◌, ℕ, ◌+◌, ◌<◌, ◌||◌, Bool, true, false, List, length, nat_lt, Some, None, Ok, Err, slice_get, refl, sym, ap}
+use Rattle.act_order_plays.proofs.Common.{subst, ◌∙◌, arith, Option, is_some, list_any, Contains, ltb-true, lt-ltb, slice_get_within, Arg, ActorDied, Event}
+use Rattle.act_order_plays.proofs.Common.{RunItem, Answer, History, calls_of, runs_of, is_dead, is_retired, after, IsSound, kept_from, answers_are, deaths_are}
+use Rattle.act_order_plays.proofs.Common.{Happening, Submitted, Ran, Answered, Outcome, Run, Told, call_of, calls_run, Happened, IsLastRun, RunsBefore, IsCause}
+use Rattle.act_order_plays.proofs.Common.{IsWhole, kept_for, IsKeptFor, LeavesTold, future_of}
 use Rattle.act_orders.specs.declared.told.Outcome.TheVariants as out
-use Rattle.act_orders.specs.declared.told.Run.{Run}
-use Rattle.act_orders.specs.declared.told.Told.{Told}
-use Rattle.act_orders.specs.Order.{call_of, calls_run, Happened, IsLastRun, RunsBefore, IsCause}
-use Rattle.act_orders.specs.Causes.{IsWhole}
-use Rattle.act_order_plays.specs.Plays.{kept_for, IsKeptFor, LeavesTold, future_of}
 use Rattle.act_order_plays.proofs.Fronts.{rank, run_ranks, run_at}
 use Rattle.act_order_plays.proofs.Casts.{list_any_has, any_has}
 use Rattle.act_order_plays.proofs.Left.{IsOf, ran_by, run_happened, stands, call_there, item_at, run_told, item_here}

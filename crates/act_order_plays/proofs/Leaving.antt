@@ -1,26 +1,10 @@
 -- What stands once all has happened: the calls, the run lists and the answers that are told.
-use Rattle.std.proofs.Common.{◌≡◌, ◌≢◌, ℕ, ◌<◌, ◌⊎◌, inl, inr, false, List, [], ◌∷◌, length, map, filter, Option, Some, None, slice_get, refl, sym, ap, subst, ◌∙◌}
-use Rattle.std.specs.Prelude.{option_map}
-use Rattle.std.specs.List.{Contains}
-use Rattle.std.proofs.lemmas.Bool.{eqb-true}
-use Rattle.std.proofs.lemmas.List.{length-map}
-use Rattle.std.proofs.lemmas.Option.{slice_get-map}
-use Rattle.act_rules.specs.declared.history.RunItem.{RunItem}
-use Rattle.act_rules.specs.declared.history.Submission.{Submission}
-use Rattle.act_rules.specs.RunList.{Answer, items_of, has_terminated}
-use Rattle.act_rules.specs.Submissions.{calls_to}
-use Rattle.act_rules.specs.History.{History, calls_of, runs_of, ran_count, under}
-use Rattle.act_rules.proofs.AsSubmitted.{calls_to-at}
-use Rattle.act_rules.proofs.Unique.{map-slice_get}
-use Rattle.act_orders.specs.declared.told.End.TheVariants.{Retired}
-use Rattle.act_orders.specs.declared.told.Happening.{Happening}
-use Rattle.act_orders.specs.declared.told.Happening.TheVariants.{Submitted, Ran, Answered}
-use Rattle.act_orders.specs.declared.told.Outcome.{Outcome}
+use Rattle.act_order_plays.proofs.Common.{◌≡◌, ◌≢◌, ℕ, ◌<◌, ◌⊎◌, inl, inr, false, List, [], ◌∷◌, length, map, filter, Option, Some, None, slice_get, refl, sym}
+use Rattle.act_order_plays.proofs.Common.{ap, subst, ◌∙◌, option_map, Contains, eqb-true, length-map, slice_get-map, RunItem, Submission, Answer, items_of}
+use Rattle.act_order_plays.proofs.Common.{has_terminated, calls_to, History, calls_of, runs_of, ran_count, under, calls_to-at, map-slice_get, Retired}
+use Rattle.act_order_plays.proofs.Common.{Happening, Submitted, Ran, Answered, Outcome, Run, Told, call_of, actor_of, calls_run, IsInOrderBy, kept_for}
+use Rattle.act_order_plays.proofs.Common.{IsKeptFor, submission_key, call_key, item_key, run_key, casts_of, calls_by, runs_by, future_of}
 use Rattle.act_orders.specs.declared.told.Outcome.TheVariants as out
-use Rattle.act_orders.specs.declared.told.Run.{Run}
-use Rattle.act_orders.specs.declared.told.Told.{Told}
-use Rattle.act_orders.specs.Order.{call_of, actor_of, calls_run, IsInOrderBy}
-use Rattle.act_order_plays.specs.Plays.{kept_for, IsKeptFor, submission_key, call_key, item_key, run_key, casts_of, calls_by, runs_by, future_of}
 use Rattle.act_order_plays.proofs.Lists.{Has, has_of, contains_of, filter_has, front_has_all, below_has}
 use Rattle.act_order_plays.proofs.Fronts.{is_by, subs_of, rans_of, subs_of_has, rans_of_has, calls_differ, runs_differ, is_run_of, call_at}
 use Rattle.act_order_plays.proofs.Causes.{Good}

@@ -1,23 +1,9 @@
 -- What is left, call by call: where a call stands, and which calls ran.
-use Rattle.std.proofs.Common.{◌≡◌, ℕ, zero, suc, ◌<◌, List, [], ◌∷◌, length, map, filter, Some, slice_get, refl, sym, ap, subst, ◌∙◌}
-use Rattle.std.specs.Prelude.{option_map}
-use Rattle.std.specs.List.{Contains}
-use Rattle.std.proofs.lemmas.Bool.{eqb-true}
-use Rattle.std.proofs.lemmas.Option.{slice_get-map, slice_get_within, get_or_from_slice_get}
-use Rattle.act_types.specs.declared.call.Arg.{Arg}
-use Rattle.act_rules.specs.declared.history.RunItem.{RunItem}
-use Rattle.act_rules.specs.declared.history.Submission.{Submission}
-use Rattle.act_rules.specs.History.{History, calls_of, runs_of}
-use Rattle.act_rules.proofs.Lists.{slice_get_front}
-use Rattle.act_rules.proofs.Growth.{Grows, calls_grow}
-use Rattle.act_rules.proofs.Sound.{IsSound}
-use Rattle.act_rules.proofs.AsSubmitted.{filter-slice_get}
-use Rattle.act_rules.proofs.Unique.{map-slice_get, held_submission}
-use Rattle.act_orders.specs.declared.told.Run.{Run}
-use Rattle.act_orders.specs.declared.told.Told.{Told}
-use Rattle.act_orders.specs.Order.{call_of, calls_run}
-use Rattle.act_orders.specs.Causes.{IsWhole}
-use Rattle.act_order_plays.specs.Plays.{submission_key, call_key, item_key, run_key, LeavesTold, calls_by, runs_by, future_of}
+use Rattle.act_order_plays.proofs.Common.{◌≡◌, ℕ, zero, suc, ◌<◌, List, [], ◌∷◌, length, map, filter, Some, slice_get, refl, sym, ap, subst, ◌∙◌, option_map}
+use Rattle.act_order_plays.proofs.Common.{Contains, eqb-true, slice_get-map, slice_get_within, get_or_from_slice_get, Arg, RunItem, Submission, History}
+use Rattle.act_order_plays.proofs.Common.{calls_of, runs_of, slice_get_front, Grows, calls_grow, IsSound, filter-slice_get, map-slice_get, held_submission, Run}
+use Rattle.act_order_plays.proofs.Common.{Told, call_of, calls_run, IsWhole, submission_key, call_key, item_key, run_key, LeavesTold, calls_by, runs_by}
+use Rattle.act_order_plays.proofs.Common.{future_of}
 use Rattle.act_order_plays.proofs.Lists.{contains_of}
 use Rattle.act_order_plays.proofs.Fronts.{IsRunAt, is_run_of, call_at}
 use Rattle.act_order_plays.proofs.Keeping.{same_call}

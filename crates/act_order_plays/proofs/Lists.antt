@@ -1,14 +1,9 @@
 -- Laws of lists: what they have, fronts of lists whose items differ, and numbers that pass a test.
-use Rattle.std.proofs.Common.{◌≡◌, ℕ, zero, suc, ◌+◌, ◌<◌, ◌≤◌, ◌⊎◌, inl, inr, Bool, true, false, cond, List, [], ◌∷◌, ◌++◌, length, filter, take, Option, Some, None, slice_get, refl, sym, ap, subst, ◌∙◌, arith, length-append}
-use Rattle.std.specs.Prelude.{filter_map}
-use Rattle.std.specs.List.{Contains, cons_option, range_with_len}
-use Rattle.std.proofs.lemmas.Bool.{cases_lt}
-use Rattle.std.proofs.lemmas.List.{append-nil}
-use Rattle.std.proofs.lemmas.List.Elements.{filter-append}
-use Rattle.std.proofs.lemmas.Option.{slice_get_within, slice_get-get_or, get_or_from_slice_get}
-use Rattle.act_rules.specs.Consistent.{IsPrefix}
-use Rattle.act_rules.proofs.Lists.{slice_get_more, slice_get_front, slice_get_last, slice_get-filter, front_next, range_push, element}
-use Rattle.act_rules.proofs.AsSubmitted.{filter-slice_get}
+use Rattle.act_order_plays.proofs.Common.{◌≡◌, ℕ, zero, suc, ◌+◌, ◌<◌, ◌≤◌, ◌⊎◌, inl, inr, Bool, true, false, cond, List, [], ◌∷◌, ◌++◌, length, filter, take}
+use Rattle.act_order_plays.proofs.Common.{Option, Some, None, slice_get, refl, sym, ap, subst, ◌∙◌, arith, length-append, filter_map, Contains, cons_option}
+use Rattle.act_order_plays.proofs.Common.{range_with_len, cases_lt, append-nil, filter-append, slice_get_within, slice_get-get_or, get_or_from_slice_get}
+use Rattle.act_order_plays.proofs.Common.{IsPrefix, slice_get_more, slice_get_front, slice_get_last, slice_get-filter, front_next, range_push, element}
+use Rattle.act_order_plays.proofs.Common.{filter-slice_get}
 
 -- ---- what a list has
 

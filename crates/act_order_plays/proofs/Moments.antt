@@ -1,34 +1,13 @@
 -- What one event brings about: what comes before each call and each run.
-use Rattle.std.proofs.Common.{◌≡◌, ℕ, zero, suc, ◌+◌, ◌<◌, ◌≤◌, ◌==◌, ◌||◌, ◌⊎◌, inl, inr, Bool, true, false, cond, List, [], ◌∷◌, ◌++◌, length, filter, take, Some, None, slice_get, refl, sym, ap, subst, ◌∙◌, arith, length-append}
-use Rattle.std.specs.Prelude.{Option, option_map}
-use Rattle.std.specs.List.{list_any, list_all, Contains}
-use Rattle.std.proofs.lemmas.Bool.{lt-ltb, eqb-true, eq-eqb, and_parts, and_from}
-use Rattle.std.proofs.lemmas.List.{append-nil}
-use Rattle.std.proofs.lemmas.Option.{slice_get-map, slice_get_within}
-use Rattle.act_types.specs.declared.call.Arg.{Arg}
-use Rattle.act_types.specs.declared.call.Arg.TheVariants.{Fut}
-use Rattle.act_rules.specs.declared.event.Event.{Event}
+use Rattle.act_order_plays.proofs.Common.{◌≡◌, ℕ, zero, suc, ◌+◌, ◌<◌, ◌≤◌, ◌==◌, ◌||◌, ◌⊎◌, inl, inr, Bool, true, false, cond, List, [], ◌∷◌, ◌++◌, length}
+use Rattle.act_order_plays.proofs.Common.{filter, take, Some, None, slice_get, refl, sym, ap, subst, ◌∙◌, arith, length-append, Option, option_map, list_any}
+use Rattle.act_order_plays.proofs.Common.{list_all, Contains, lt-ltb, eqb-true, eq-eqb, and_parts, and_from, append-nil, slice_get-map, slice_get_within, Arg}
+use Rattle.act_order_plays.proofs.Common.{Fut, Event, RunItem, Submission, is_known, History, under, calls_of, runs_of, kept_of, ran_count, next_item}
+use Rattle.act_order_plays.proofs.Common.{add_event, after_run, after, slice_get_front, slice_get_last, element, runs_grow, under-push, after_keeps}
+use Rattle.act_order_plays.proofs.Common.{IsSoundLetter, has_letter-sound, IsNext, next_item_is, calls_to-at, one_place, IsSound, Run, Told, call_of, RunsNext}
+use Rattle.act_order_plays.proofs.Common.{IsWhole, LeavesTold, args_of, future_of}
 use Rattle.act_rules.specs.declared.event.Event.TheVariants.{Submit, Copy, Release, Send, Deliver, Run as RunNext, Collect, AskKill, TakeKill, Tell, Retire}
-use Rattle.act_rules.specs.declared.history.RunItem.{RunItem}
-use Rattle.act_rules.specs.declared.history.Submission.{Submission}
 use Rattle.act_rules.specs.declared.history.Letter.TheVariants.{Call as CallLetter}
-use Rattle.act_rules.specs.Submissions.{is_known}
-use Rattle.act_rules.specs.History.{History, under, calls_of, runs_of, kept_of, ran_count, next_item}
-use Rattle.act_rules.specs.Rules.{add_event, after_run, after}
-use Rattle.act_rules.proofs.Lists.{slice_get_front, slice_get_last, element}
-use Rattle.act_rules.proofs.Growth.{runs_grow}
-use Rattle.act_rules.proofs.Ended.{under-push}
-use Rattle.act_rules.proofs.Steps.{after_keeps}
-use Rattle.act_rules.proofs.Letters.{IsSoundLetter, has_letter-sound}
-use Rattle.act_rules.proofs.Order.{IsNext, next_item_is}
-use Rattle.act_rules.proofs.AsSubmitted.{calls_to-at}
-use Rattle.act_rules.proofs.Unique.{one_place}
-use Rattle.act_rules.proofs.Sound.{IsSound}
-use Rattle.act_orders.specs.declared.told.Run.{Run}
-use Rattle.act_orders.specs.declared.told.Told.{Told}
-use Rattle.act_orders.specs.Order.{call_of, RunsNext}
-use Rattle.act_orders.specs.Causes.{IsWhole}
-use Rattle.act_order_plays.specs.Plays.{LeavesTold, args_of, future_of}
 use Rattle.act_order_plays.proofs.Lists.{has_of}
 use Rattle.act_order_plays.proofs.Fronts.{is_run_of, rank, run_ranks}
 use Rattle.act_order_plays.proofs.Casts.{list_any_has}

@@ -1,18 +1,7 @@
 -- What stands after one more happening.
-use Rattle.std.proofs.Common.{◌≡◌, ℕ, inl, inr, List, [], ◌∷◌, ◌++◌, map, Some, Err, slice_get, sym, ap, subst, ◌∙◌}
-use Rattle.std.specs.List.{AllByRecursion}
-use Rattle.std.proofs.lemmas.List.{append-nil}
-use Rattle.act_types.specs.declared.call.Fault.TheVariants.{ActorDied}
-use Rattle.act_rules.specs.declared.history.Post.{Post}
+use Rattle.act_order_plays.proofs.Common.{◌≡◌, ℕ, inl, inr, List, [], ◌∷◌, ◌++◌, map, Some, Err, slice_get, sym, ap, subst, ◌∙◌, AllByRecursion, append-nil}
+use Rattle.act_order_plays.proofs.Common.{ActorDied, Post, History, All_weaker, slice_get_more, Happening, Ran, Answered, Died, Told, call_of, kept_for}
 use Rattle.act_rules.specs.declared.history.Post.TheVariants.{Reply as ReplyPost, Death as DeathPost}
-use Rattle.act_rules.specs.History.{History}
-use Rattle.act_rules.proofs.Lists.{All_weaker, slice_get_more}
-use Rattle.act_orders.specs.declared.told.Happening.{Happening}
-use Rattle.act_orders.specs.declared.told.Happening.TheVariants.{Ran, Answered}
-use Rattle.act_orders.specs.declared.told.Outcome.TheVariants.{Died}
-use Rattle.act_orders.specs.declared.told.Told.{Told}
-use Rattle.act_orders.specs.Order.{call_of}
-use Rattle.act_order_plays.specs.Plays.{kept_for}
 use Rattle.act_order_plays.proofs.Lists.{has_more, has_pushed}
 use Rattle.act_order_plays.proofs.Fronts.{submits, rans, rans_of}
 use Rattle.act_order_plays.proofs.Causes.{submits_more, rans_more, rans_of_more}

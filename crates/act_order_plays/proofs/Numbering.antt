@@ -1,28 +1,9 @@
 -- An actor ran as many of a caller's calls as come before its next call to it.
-use Rattle.std.proofs.Common.{◌≡◌, ℕ, zero, suc, ◌+◌, ◌<◌, ◌≤◌, ◌==◌, Bool, true, false, cond, List, [], ◌∷◌, length, map, filter, take, Some, slice_get, refl, sym, ap, subst, ◌∙◌, arith}
-use Rattle.std.specs.Prelude.{option_map}
-use Rattle.std.specs.List.{enumerate_from}
-use Rattle.std.proofs.lemmas.Bool.{eqb-true, eq-eqb}
-use Rattle.std.proofs.lemmas.List.{length-map}
-use Rattle.std.proofs.lemmas.Option.{slice_get-map}
-use Rattle.act_rules.specs.Consistent.{IsPrefix}
-use Rattle.act_rules.specs.declared.history.RunItem.{RunItem}
-use Rattle.act_rules.specs.declared.history.Submission.{Submission}
-use Rattle.act_rules.specs.RunList.{items_of}
-use Rattle.act_rules.specs.Submissions.{calls_to, number_of}
-use Rattle.act_rules.specs.History.{History, calls_of, runs_of, ran_count}
-use Rattle.act_rules.proofs.Lists.{element, slice_get_front, IsPrefix-map}
-use Rattle.act_rules.proofs.Growth.{calls_to_grow}
-use Rattle.act_rules.proofs.Letters.{calls_to-number}
-use Rattle.act_rules.proofs.Order.{InOrder, numbered, numbers}
-use Rattle.act_rules.proofs.AsSubmitted.{calls_to-at}
-use Rattle.act_rules.proofs.Unique.{map-slice_get}
-use Rattle.act_orders.specs.declared.told.Happening.{Happening}
-use Rattle.act_orders.specs.declared.told.Happening.TheVariants.{Submitted, Ran}
-use Rattle.act_orders.specs.declared.told.Run.{Run}
-use Rattle.act_orders.specs.declared.told.Told.{Told}
-use Rattle.act_orders.specs.Order.{call_of, SameWay, RunsInTurn, IsCause}
-use Rattle.act_order_plays.specs.Plays.{calls_by, future_of}
+use Rattle.act_order_plays.proofs.Common.{◌≡◌, ℕ, zero, suc, ◌+◌, ◌<◌, ◌≤◌, ◌==◌, Bool, true, false, cond, List, [], ◌∷◌, length, map, filter, take, Some}
+use Rattle.act_order_plays.proofs.Common.{slice_get, refl, sym, ap, subst, ◌∙◌, arith, option_map, enumerate_from, eqb-true, eq-eqb, length-map, slice_get-map}
+use Rattle.act_order_plays.proofs.Common.{IsPrefix, RunItem, Submission, items_of, calls_to, number_of, History, calls_of, runs_of, ran_count, element}
+use Rattle.act_order_plays.proofs.Common.{slice_get_front, IsPrefix-map, calls_to_grow, calls_to-number, InOrder, numbered, numbers, calls_to-at, map-slice_get}
+use Rattle.act_order_plays.proofs.Common.{Happening, Submitted, Ran, Run, Told, call_of, SameWay, RunsInTurn, IsCause, calls_by, future_of}
 use Rattle.act_order_plays.proofs.Premises.{Premises}
 use Rattle.act_order_plays.proofs.Lists.{Has, has_filter, filter_has, Differ, front_ends}
 use Rattle.act_order_plays.proofs.Fronts.{subs_of, rans_of, rans_of_has, has_rans_of, call_at, call_before, calls_differ, IsRunAt, run_at, ran_earlier, get_taken, take_front}

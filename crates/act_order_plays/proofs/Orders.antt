@@ -1,8 +1,6 @@
 -- An order of what comes true along states: what comes true at each of them, one after the other.
-use Rattle.std.proofs.Common.{◌≡◌, ℕ, zero, suc, ◌<◌, ◌&&◌, ◌⊎◌, inl, inr, Bool, true, false, List, [], ◌∷◌, ◌++◌, filter, map, take, Some, slice_get, refl, sym, ap, subst, ◌∙◌, arith, cond}
-use Rattle.std.specs.Prelude.{not}
-use Rattle.std.proofs.lemmas.Bool.{and_parts, not-true}
-use Rattle.act_rules.proofs.Unique.{map-slice_get}
+use Rattle.act_order_plays.proofs.Common.{◌≡◌, ℕ, zero, suc, ◌<◌, ◌&&◌, ◌⊎◌, inl, inr, Bool, true, false, List, [], ◌∷◌, ◌++◌, filter, map, take, Some}
+use Rattle.act_order_plays.proofs.Common.{slice_get, refl, sym, ap, subst, ◌∙◌, arith, cond, not, and_parts, not-true, map-slice_get}
 use Rattle.act_order_plays.proofs.Lists.{Has, has_more, has_filter, filter_has}
 
 -- ---- lists of which no item stands twice

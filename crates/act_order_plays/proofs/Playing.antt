@@ -1,18 +1,7 @@
 -- All that happened, in its order.
-use Rattle.std.proofs.Common.{◌≡◌, ℕ, zero, suc, ◌≤◌, inl, inr, List, [], ◌∷◌, ◌++◌, length, take, Some, slice_get, refl, sym, ap, subst, ◌∙◌, arith, append_assoc}
-use Rattle.std.specs.List.{Contains}
-use Rattle.std.proofs.Math.Seq.{take-length}
-use Rattle.act_rules.specs.History.{History, opening}
-use Rattle.act_rules.specs.Laws.{history}
-use Rattle.act_rules.specs.declared.event.Event.{Event}
-use Rattle.act_rules.proofs.Lists.{element}
-use Rattle.act_rules.proofs.Sound.{world_sound}
-use Rattle.act_rules.proofs.Steps.{after_all-append}
-use Rattle.act_orders.specs.declared.told.Happening.{Happening}
-use Rattle.act_orders.specs.declared.told.Happening.TheVariants.{Submitted, Ran, Answered}
-use Rattle.act_orders.specs.declared.told.Told.{Told}
-use Rattle.act_orders.specs.Order.{call_of, IsAfter, IsOrder, IsInOrderBy}
-use Rattle.act_order_plays.specs.Plays.{casts_of, kept_for, Waited}
+use Rattle.act_order_plays.proofs.Common.{◌≡◌, ℕ, zero, suc, ◌≤◌, inl, inr, List, [], ◌∷◌, ◌++◌, length, take, Some, slice_get, refl, sym, ap, subst, ◌∙◌}
+use Rattle.act_order_plays.proofs.Common.{arith, append_assoc, Contains, take-length, History, opening, history, Event, element, world_sound, after_all-append}
+use Rattle.act_order_plays.proofs.Common.{Happening, Submitted, Ran, Answered, Told, call_of, IsAfter, IsOrder, IsInOrderBy, casts_of, kept_for, Waited}
 use Rattle.act_order_plays.proofs.Premises.{Premises}
 use Rattle.act_order_plays.proofs.Lists.{Has, has_of, contains_of, has_pushed}
 use Rattle.act_order_plays.proofs.Causes.{IsNext, Good, good_none, good_more}

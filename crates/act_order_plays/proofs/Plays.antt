@@ -1,19 +1,7 @@
 -- A history in order is a play.
-use Rattle.std.proofs.Common.{◌≡◌, ◌≢◌, ℕ, zero, suc, ◌<◌, ◌≤◌, List, ◌++◌, length, take, refl, sym, subst, arith}
-use Rattle.std.specs.List.{Contains}
-use Rattle.act_rules.specs.declared.event.Event.{Event}
-use Rattle.act_rules.specs.History.{History, opening}
-use Rattle.act_rules.specs.Laws.{history}
-use Rattle.act_rules.proofs.Steps.{after_all-append}
-use Rattle.act_orders.specs.declared.told.End.{End}
-use Rattle.act_orders.specs.declared.told.End.TheVariants.{Live, Dead, Retired}
-use Rattle.act_orders.specs.declared.told.Happening.{Happening}
-use Rattle.act_orders.specs.declared.told.Happening.TheVariants.{Submitted, Ran, Answered}
-use Rattle.act_orders.specs.declared.told.Outcome.TheVariants.{Open}
-use Rattle.act_orders.specs.declared.told.Told.{Told}
-use Rattle.act_orders.specs.Order.{call_of, Happened, IsInOrderBy}
-use Rattle.act_orders.specs.Causes.{IsWhole}
-use Rattle.act_order_plays.specs.Plays.{Fits, LeavesTold, IsPlayOf, casts_of}
+use Rattle.act_order_plays.proofs.Common.{◌≡◌, ◌≢◌, ℕ, zero, suc, ◌<◌, ◌≤◌, List, ◌++◌, length, take, refl, sym, subst, arith, Contains, Event, History}
+use Rattle.act_order_plays.proofs.Common.{opening, history, after_all-append, End, Live, Dead, Retired, Happening, Submitted, Ran, Answered, Open, Told}
+use Rattle.act_order_plays.proofs.Common.{call_of, Happened, IsInOrderBy, IsWhole, Fits, LeavesTold, IsPlayOf, casts_of}
 use Rattle.act_order_plays.proofs.Lists.{has_of, contains_of}
 use Rattle.act_order_plays.proofs.Fronts.{get_taken}
 use Rattle.act_order_plays.proofs.Premises.{Premises, premises}

@@ -1,14 +1,7 @@
 -- What is known of a history that is whole and fits the rules.
-use Rattle.std.proofs.Common.{List, ◌≡◌, ℕ, ◌<◌, ◌≤◌, length, Some, slice_get, subst}
-use Rattle.std.specs.List.{Contains}
-use Rattle.std.proofs.lemmas.Option.{slice_get_within, get_or_from_slice_get}
-use Rattle.act_orders.specs.declared.told.Happening.{Happening}
+use Rattle.act_order_plays.proofs.Common.{List, ◌≡◌, ℕ, ◌<◌, ◌≤◌, length, Some, slice_get, subst, Contains, slice_get_within, get_or_from_slice_get, Happening}
+use Rattle.act_order_plays.proofs.Common.{Run, Told, call_of, actor_of, SameCaller, IsInOrderBy, run_of, IsWhole, future_of, Fits}
 use Rattle.act_orders.specs.declared.told.Outcome.TheVariants.{Answered}
-use Rattle.act_orders.specs.declared.told.Run.{Run}
-use Rattle.act_orders.specs.declared.told.Told.{Told}
-use Rattle.act_orders.specs.Order.{call_of, actor_of, SameCaller, IsInOrderBy}
-use Rattle.act_orders.specs.Causes.{run_of, IsWhole}
-use Rattle.act_order_plays.specs.Plays.{future_of, Fits}
 
 -- callers rise along the calls, and actors along the runs; a call takes few answers, of earlier calls of its caller, and
 -- none that failed where it is answered itself; a caller has few calls; an actor may be called by someone

@@ -1,22 +1,10 @@
 -- An actor that retires: each of its callers releases its handle, and the note of it is brought.
-use Rattle.std.proofs.Common.{◌≡◌, ℕ, zero, suc, ◌<◌, ◌==◌, ◌&&◌, ◌⊎◌, inl, inr, Bool, true, false, cond, List, [], ◌∷◌, ◌++◌, length, Option, Some, None, slice_get, refl, sym, ap, subst, ◌∙◌, arith}
-use Rattle.std.specs.Prelude.{is_some}
-use Rattle.std.specs.List.{list_all}
-use Rattle.std.proofs.lemmas.Bool.{eq-eqb, ne_eqb, and_from, and_parts}
-use Rattle.std.proofs.lemmas.Bool.Decides.{eqb_tells}
-use Rattle.std.proofs.lemmas.List.Folds.{list_any-append}
-use Rattle.act_rules.specs.declared.event.Event.TheVariants.{Release, Deliver, Retire}
-use Rattle.act_rules.specs.declared.history.Letter.{Letter}
+use Rattle.act_order_plays.proofs.Common.{◌≡◌, ℕ, zero, suc, ◌<◌, ◌==◌, ◌&&◌, ◌⊎◌, inl, inr, Bool, true, false, cond, List, [], ◌∷◌, ◌++◌, length, Option, Some}
+use Rattle.act_order_plays.proofs.Common.{None, slice_get, refl, sym, ap, subst, ◌∙◌, arith, is_some, list_all, eq-eqb, ne_eqb, and_from, and_parts, eqb_tells}
+use Rattle.act_order_plays.proofs.Common.{list_any-append, Release, Deliver, Retire, Letter, calls_to, copies_held, ActorSpec, History, contains, callers_in}
+use Rattle.act_order_plays.proofs.Common.{cast_of, is_caller, calls_of, count_pairs, copies_of, ran_count, is_letter, has_letter, is_done, is_drained, is_ended}
+use Rattle.act_order_plays.proofs.Common.{refusal_of, add_event, and_also, slice_get_last, contains_more, times-push, Dead, Retired, Told, actor_of}
 use Rattle.act_rules.specs.declared.history.Letter.TheVariants.{Note as NoteLetter}
-use Rattle.act_rules.specs.Submissions.{calls_to, copies_held}
-use Rattle.act_rules.specs.History.{ActorSpec, History, contains, callers_in, cast_of, is_caller, calls_of, count_pairs, copies_of, ran_count, is_letter, has_letter, is_done, is_drained, is_ended}
-use Rattle.act_rules.specs.Rules.{refusal_of, add_event, and_also}
-use Rattle.act_rules.proofs.Lists.{slice_get_last}
-use Rattle.act_rules.proofs.Ended.{contains_more}
-use Rattle.act_rules.proofs.Retired.{times-push}
-use Rattle.act_orders.specs.declared.told.End.TheVariants.{Dead, Retired}
-use Rattle.act_orders.specs.declared.told.Told.{Told}
-use Rattle.act_orders.specs.Order.{actor_of}
 use Rattle.act_order_plays.proofs.Lists.{Has, has_last}
 use Rattle.act_order_plays.proofs.Casts.{list_any_has, contains_has, cast_of_is, names_is, is_caller_is}
 use Rattle.act_order_plays.proofs.Stands.{Leads, leads_now, leads_by, leads_then}

@@ -1,28 +1,15 @@
 -- A run: the call is sent, brought to its actor and run, and its answer is collected where it is taken.
-use Rattle.std.proofs.Common.{◌≡◌, ℕ, suc, ◌<◌, ◌==◌, ◌&&◌, ◌⊎◌, inl, inr, Bool, true, false, cond, List, [], ◌∷◌, ◌++◌, length, map, Option, Some, None, slice_get, refl, sym, ap, subst, ◌∙◌}
-use Rattle.std.specs.Prelude.{option_map}
-use Rattle.std.proofs.lemmas.Bool.{eq-eqb, and_from}
-use Rattle.std.proofs.lemmas.List.{append-nil}
+use Rattle.act_order_plays.proofs.Common.{◌≡◌, ℕ, suc, ◌<◌, ◌==◌, ◌&&◌, ◌⊎◌, inl, inr, Bool, true, false, cond, List, [], ◌∷◌, ◌++◌, length, map, Option, Some}
+use Rattle.act_order_plays.proofs.Common.{None, slice_get, refl, sym, ap, subst, ◌∙◌, option_map, eq-eqb, and_from, append-nil, Letter, RunItem, Submission}
+use Rattle.act_order_plays.proofs.Common.{calls_to, number_of, History, cast_of, names, is_caller, calls_of, runs_of, kept_of, ran_count, is_letter, has_letter}
+use Rattle.act_order_plays.proofs.Common.{is_ended, run_item, next_item, refusal_of, add_event, and_also, after_run, call_letter, slice_get_last, added_grows}
+use Rattle.act_order_plays.proofs.Common.{after_run_grows, calls_to-number, IsSound, sound_step, Happening, Outcome, Failed, Died, Open, Told, call_of}
+use Rattle.act_order_plays.proofs.Common.{actor_of, RunsInTurn, kept_for, future_of}
 use Rattle.act_rules.specs.declared.event.Event.TheVariants.{Send, Deliver, Run as RunNext, Collect}
-use Rattle.act_rules.specs.declared.history.Letter.{Letter}
 use Rattle.act_rules.specs.declared.history.Letter.TheVariants.{Call as CallLetter}
 use Rattle.act_rules.specs.declared.history.Post.TheVariants.{Reply as ReplyPost}
-use Rattle.act_rules.specs.declared.history.RunItem.{RunItem}
-use Rattle.act_rules.specs.declared.history.Submission.{Submission}
-use Rattle.act_rules.specs.Submissions.{calls_to, number_of}
-use Rattle.act_rules.specs.History.{History, cast_of, names, is_caller, calls_of, runs_of, kept_of, ran_count, is_letter, has_letter, is_ended, run_item, next_item}
-use Rattle.act_rules.specs.Rules.{refusal_of, add_event, and_also, after_run, call_letter}
-use Rattle.act_rules.proofs.Lists.{slice_get_last}
-use Rattle.act_rules.proofs.Growth.{added_grows, after_run_grows}
-use Rattle.act_rules.proofs.Letters.{calls_to-number}
-use Rattle.act_rules.proofs.Sound.{IsSound, sound_step}
-use Rattle.act_orders.specs.declared.told.Happening.{Happening}
 use Rattle.act_orders.specs.declared.told.Happening.TheVariants.{Submitted, Ran, Answered as HasBeenTold}
-use Rattle.act_orders.specs.declared.told.Outcome.{Outcome}
-use Rattle.act_orders.specs.declared.told.Outcome.TheVariants.{Answered, Failed, Died, Open}
-use Rattle.act_orders.specs.declared.told.Told.{Told}
-use Rattle.act_orders.specs.Order.{call_of, actor_of, RunsInTurn}
-use Rattle.act_order_plays.specs.Plays.{kept_for, future_of}
+use Rattle.act_orders.specs.declared.told.Outcome.TheVariants.{Answered}
 use Rattle.act_order_plays.proofs.Premises.{Premises}
 use Rattle.act_order_plays.proofs.Lists.{Has, has_more, has_last, has_pushed}
 use Rattle.act_order_plays.proofs.Fronts.{submits, rans, is_to, rans_of}

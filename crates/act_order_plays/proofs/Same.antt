@@ -1,14 +1,7 @@
 -- What is kept depends on the casts, the submissions, the runs and what was collected, alone.
-use Rattle.std.proofs.Common.{◌≡◌, ℕ, List, [], ◌∷◌, Option, Some, None, slice_get, refl, sym, ap, ◌∙◌}
-use Rattle.std.specs.Prelude.{filter_map}
-use Rattle.std.specs.List.{cons_option}
-use Rattle.act_rules.specs.declared.history.Post.{Post}
+use Rattle.act_order_plays.proofs.Common.{◌≡◌, ℕ, List, [], ◌∷◌, Option, Some, None, slice_get, refl, sym, ap, ◌∙◌, filter_map, cons_option, Post, Submission}
+use Rattle.act_order_plays.proofs.Common.{Answer, kept_at, History, calls_of, kept_of, under, answer_in, kept_by, kept_at_is}
 use Rattle.act_rules.specs.declared.history.Post.TheVariants.{Reply as ReplyPost, Death as DeathPost}
-use Rattle.act_rules.specs.declared.history.Submission.{Submission}
-use Rattle.act_rules.specs.RunList.{Answer}
-use Rattle.act_rules.specs.Submissions.{kept_at}
-use Rattle.act_rules.specs.History.{History, calls_of, kept_of, under, answer_in}
-use Rattle.act_rules.proofs.Kept.{kept_by, kept_at_is}
 
 pub record SameLists (h g : History) : Type 0 where
   pub casts : g.casts ≡ h.casts

@@ -1,26 +1,13 @@
 -- What a run needs: the call is sent with its answers, and its actor lives.
-use Rattle.std.proofs.Common.{◌≡◌, ◌≢◌, ℕ, zero, suc, ◌<◌, inl, inr, Bool, true, false, List, [], ◌∷◌, length, map, Option, Some, None, Ok, refl, sym, ap, subst, ◌∙◌}
-use Rattle.std.specs.Prelude.{is_some}
-use Rattle.std.specs.List.{list_all}
-use Rattle.std.proofs.lemmas.Bool.{false_from_ne_true}
-use Rattle.act_types.specs.declared.call.Arg.TheVariants.{Fut}
-use Rattle.act_types.specs.declared.call.Settled.{Settled}
+use Rattle.act_order_plays.proofs.Common.{◌≡◌, ◌≢◌, ℕ, zero, suc, ◌<◌, inl, inr, Bool, true, false, List, [], ◌∷◌, length, map, Option, Some, None, Ok, refl}
+use Rattle.act_order_plays.proofs.Common.{sym, ap, subst, ◌∙◌, is_some, list_all, false_from_ne_true, Fut, Settled, Value, Send, Submission, Answer, with_value}
+use Rattle.act_order_plays.proofs.Common.{values_of, has_terminated, kept_at, is_known, settle, settled_future, send_refusal, History, contains, runs_of}
+use Rattle.act_order_plays.proofs.Common.{kept_of, is_ended, refusal_of, was_sent, Happening, Outcome, Failed, Died, Open, Told, call_of, actor_of, RunsInTurn}
+use Rattle.act_order_plays.proofs.Common.{RunsBefore, kept_for, args_of, future_of}
 use Rattle.act_types.specs.declared.call.Settled.TheVariants.{Good as GoodArg}
-use Rattle.act_types.specs.declared.call.Value.{Value}
 use Rattle.act_types.specs.declared.call.Value.TheVariants.{Unit as Nothing}
-use Rattle.act_rules.specs.declared.event.Event.TheVariants.{Send}
-use Rattle.act_rules.specs.declared.history.Submission.{Submission}
-use Rattle.act_rules.specs.RunList.{Answer, with_value, values_of, has_terminated}
-use Rattle.act_rules.specs.Submissions.{kept_at, is_known, settle, settled_future, send_refusal}
-use Rattle.act_rules.specs.History.{History, contains, runs_of, kept_of, is_ended}
-use Rattle.act_rules.specs.Rules.{refusal_of, was_sent}
-use Rattle.act_orders.specs.declared.told.Happening.{Happening}
 use Rattle.act_orders.specs.declared.told.Happening.TheVariants.{Submitted, Ran, Answered as HasBeenTold}
-use Rattle.act_orders.specs.declared.told.Outcome.{Outcome}
-use Rattle.act_orders.specs.declared.told.Outcome.TheVariants.{Answered, Failed, Died, Open}
-use Rattle.act_orders.specs.declared.told.Told.{Told}
-use Rattle.act_orders.specs.Order.{call_of, actor_of, RunsInTurn, RunsBefore}
-use Rattle.act_order_plays.specs.Plays.{kept_for, args_of, future_of}
+use Rattle.act_orders.specs.declared.told.Outcome.TheVariants.{Answered}
 use Rattle.act_order_plays.proofs.Premises.{Premises}
 use Rattle.act_order_plays.proofs.Lists.{Has, contains_of}
 use Rattle.act_order_plays.proofs.Fronts.{rans_of, run_at}

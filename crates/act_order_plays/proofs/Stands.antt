@@ -1,28 +1,12 @@
 -- How a play stands after what happened so far.
-use Rattle.std.proofs.Common.{◌≡◌, ℕ, ◌==◌, Bool, true, false, cond, List, [], ◌∷◌, ◌++◌, map, filter, Option, Some, None, Err, slice_get, refl, sym, ap, subst, ◌∙◌}
-use Rattle.std.specs.List.{AllByRecursion}
-use Rattle.act_types.specs.declared.call.Fault.TheVariants.{ActorDied}
-use Rattle.act_rules.specs.declared.event.Event.{Event}
-use Rattle.act_rules.specs.declared.history.Post.{Post}
+use Rattle.act_order_plays.proofs.Common.{◌≡◌, ℕ, ◌==◌, Bool, true, false, cond, List, [], ◌∷◌, ◌++◌, map, filter, Option, Some, None, Err, slice_get, refl}
+use Rattle.act_order_plays.proofs.Common.{sym, ap, subst, ◌∙◌, AllByRecursion, ActorDied, Event, Post, RunItem, Submission, WorldRefusal, kept_at, History}
+use Rattle.act_order_plays.proofs.Common.{contains, under, calls_of, runs_of, kept_of, refusal_of, add_event, after, after_by, after_all, after_all-append}
+use Rattle.act_order_plays.proofs.Common.{Grows, PostsAreSound, kept_stays, IsSound, Happening, Outcome, Failed, Died, Open, Told, call_of, kept_for, casts_of}
+use Rattle.act_order_plays.proofs.Common.{args_of, future_of}
 use Rattle.act_rules.specs.declared.history.Post.TheVariants.{Reply as ReplyPost, Death as DeathPost}
-use Rattle.act_rules.specs.declared.history.RunItem.{RunItem}
-use Rattle.act_rules.specs.declared.history.Submission.{Submission}
-use Rattle.act_rules.specs.declared.outcome.WorldRefusal.{WorldRefusal}
-use Rattle.act_rules.specs.Submissions.{kept_at}
-use Rattle.act_rules.specs.History.{History, contains, under, calls_of, runs_of, kept_of}
-use Rattle.act_rules.specs.Rules.{refusal_of, add_event, after, after_by, after_all}
-use Rattle.act_rules.proofs.Steps.{after_all-append}
-use Rattle.act_rules.proofs.Growth.{Grows}
-use Rattle.act_rules.proofs.Posts.{PostsAreSound}
-use Rattle.act_rules.proofs.Kept.{kept_stays}
-use Rattle.act_rules.proofs.Sound.{IsSound}
-use Rattle.act_orders.specs.declared.told.Happening.{Happening}
 use Rattle.act_orders.specs.declared.told.Happening.TheVariants.{Ran, Answered as Told_answer}
-use Rattle.act_orders.specs.declared.told.Outcome.{Outcome}
-use Rattle.act_orders.specs.declared.told.Outcome.TheVariants.{Answered, Failed, Died, Open}
-use Rattle.act_orders.specs.declared.told.Told.{Told}
-use Rattle.act_orders.specs.Order.{call_of}
-use Rattle.act_order_plays.specs.Plays.{kept_for, casts_of, args_of, future_of}
+use Rattle.act_orders.specs.declared.told.Outcome.TheVariants.{Answered}
 use Rattle.act_order_plays.proofs.Lists.{Has}
 use Rattle.act_order_plays.proofs.Fronts.{submits, rans, is_by, is_to, subs_of, rans_of}
 use Rattle.act_order_plays.proofs.Answering.{Suits, method_of, IsTaken, IsItem, AreItems}

@@ -1,23 +1,9 @@
 -- A submission.
-use Rattle.std.proofs.Common.{◌≡◌, ℕ, zero, suc, ◌<◌, ◌≤◌, Bool, true, List, [], ◌∷◌, ◌++◌, length, map, Option, Some, None, slice_get, refl, sym, ap, subst, ◌∙◌, arith}
-use Rattle.std.specs.List.{list_all}
-use Rattle.std.proofs.lemmas.Bool.{and_from, lt-ltb, le-leb}
-use Rattle.std.proofs.lemmas.List.{append-nil, map-append, length-map}
-use Rattle.std.proofs.lemmas.Option.{slice_get_within}
-use Rattle.act_types.specs.declared.call.Arg.{Arg}
-use Rattle.act_types.specs.declared.call.Arg.TheVariants.{Fut}
-use Rattle.act_rules.specs.declared.event.Event.TheVariants.{Submit}
-use Rattle.act_rules.specs.declared.history.Submission.{Submission}
-use Rattle.act_rules.specs.Submissions.{is_earlier, submit_refusal}
-use Rattle.act_rules.specs.History.{History, cast_of, names, calls_of, copies_of, limit_of}
-use Rattle.act_rules.specs.Rules.{refusal_of, add_event, submission_refusal}
-use Rattle.act_rules.proofs.Growth.{added_grows}
-use Rattle.act_rules.proofs.Sound.{sound_step}
-use Rattle.act_orders.specs.declared.told.Happening.{Happening}
-use Rattle.act_orders.specs.declared.told.Happening.TheVariants.{Submitted}
-use Rattle.act_orders.specs.declared.told.Told.{Told}
-use Rattle.act_orders.specs.Order.{call_of, actor_of}
-use Rattle.act_order_plays.specs.Plays.{args_of, future_of, calls_by}
+use Rattle.act_order_plays.proofs.Common.{◌≡◌, ℕ, zero, suc, ◌<◌, ◌≤◌, Bool, true, List, [], ◌∷◌, ◌++◌, length, map, Option, Some, None, slice_get, refl, sym}
+use Rattle.act_order_plays.proofs.Common.{ap, subst, ◌∙◌, arith, list_all, and_from, lt-ltb, le-leb, append-nil, map-append, length-map, slice_get_within, Arg}
+use Rattle.act_order_plays.proofs.Common.{Fut, Submit, Submission, is_earlier, submit_refusal, History, cast_of, names, calls_of, copies_of, limit_of}
+use Rattle.act_order_plays.proofs.Common.{refusal_of, add_event, submission_refusal, added_grows, sound_step, Happening, Submitted, Told, call_of, actor_of}
+use Rattle.act_order_plays.proofs.Common.{args_of, future_of, calls_by}
 use Rattle.act_order_plays.proofs.Premises.{Premises}
 use Rattle.act_order_plays.proofs.Lists.{Has, contains_of, front_ends}
 use Rattle.act_order_plays.proofs.Fronts.{submits, rans, subs_of, has_subs_of, subs_of_has, call_at, call_before, calls_differ}

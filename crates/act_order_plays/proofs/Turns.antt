@@ -1,30 +1,12 @@
 -- Run lists that are left are in turn, and how a call stands goes with its actor.
-use Rattle.std.proofs.Common.{◌≡◌, ℕ, zero, suc, ◌<◌, ◌==◌, Bool, true, false, cond, List, [], ◌∷◌, length, filter, take, Some, slice_get, refl, sym, ap, subst, ◌∙◌, arith}
-use Rattle.std.specs.Prelude.{option_map, Option}
-use Rattle.std.specs.List.{Contains}
-use Rattle.std.proofs.lemmas.Bool.{eqb-true, eq-eqb}
-use Rattle.std.proofs.lemmas.Option.{slice_get-map, slice_get_within}
-use Rattle.act_types.specs.declared.call.Arg.{Arg}
-use Rattle.act_rules.specs.declared.history.RunItem.{RunItem}
-use Rattle.act_rules.specs.declared.history.Submission.{Submission}
-use Rattle.act_rules.specs.RunList.{items_of}
-use Rattle.act_rules.specs.Submissions.{calls_to, number_of}
-use Rattle.act_rules.specs.History.{ActorSpec, History, calls_of, runs_of, cast_of, names, is_dead, is_retired}
-use Rattle.act_rules.proofs.Lists.{element, slice_get_front, IsPrefix-filter, All_at}
-use Rattle.act_rules.proofs.Letters.{calls_to-number}
-use Rattle.act_rules.proofs.AsSubmitted.{filter-slice_get}
+use Rattle.act_order_plays.proofs.Common.{◌≡◌, ℕ, zero, suc, ◌<◌, ◌==◌, Bool, true, false, cond, List, [], ◌∷◌, length, filter, take, Some, slice_get, refl}
+use Rattle.act_order_plays.proofs.Common.{sym, ap, subst, ◌∙◌, arith, option_map, Option, Contains, eqb-true, eq-eqb, slice_get-map, slice_get_within, Arg}
+use Rattle.act_order_plays.proofs.Common.{RunItem, Submission, items_of, calls_to, number_of, ActorSpec, History, calls_of, runs_of, cast_of, names, is_dead}
+use Rattle.act_order_plays.proofs.Common.{is_retired, element, slice_get_front, IsPrefix-filter, All_at, calls_to-number, filter-slice_get, IsSound, deaths_are}
+use Rattle.act_order_plays.proofs.Common.{IsNamed, Retires, ran_all, End, Live, Dead, Retired, Outcome, Run, Told, call_of, actor_of, calls_run, SameCaller}
+use Rattle.act_order_plays.proofs.Common.{SameWay, RunsInTurn, EndsRight, IsWhole, casts_of, IsKeptFor, EndsAs, LeavesTold, kept_for, runs_by, future_of}
 use Rattle.act_rules.proofs.Unique.{map-slice_get, rank as rank_in, same_place, held_call, one_place}
-use Rattle.act_rules.proofs.Sound.{IsSound, deaths_are}
-use Rattle.act_rules.proofs.RanAll.{IsNamed, Retires, ran_all}
-use Rattle.act_orders.specs.declared.told.End.{End}
-use Rattle.act_orders.specs.declared.told.End.TheVariants.{Live, Dead, Retired}
-use Rattle.act_orders.specs.declared.told.Outcome.{Outcome}
 use Rattle.act_orders.specs.declared.told.Outcome.TheVariants as out
-use Rattle.act_orders.specs.declared.told.Run.{Run}
-use Rattle.act_orders.specs.declared.told.Told.{Told}
-use Rattle.act_orders.specs.Order.{call_of, actor_of, calls_run, SameCaller, SameWay, RunsInTurn, EndsRight}
-use Rattle.act_orders.specs.Causes.{IsWhole}
-use Rattle.act_order_plays.specs.Plays.{casts_of, IsKeptFor, EndsAs, LeavesTold, kept_for, runs_by, future_of}
 use Rattle.act_order_plays.proofs.Lists.{contains_of, below, below_at}
 use Rattle.act_order_plays.proofs.Fronts.{is_by, is_run_of, IsRunAt, get_taken, take_front, rank, run_ranks, run_before, ran_earlier, runs_earlier}
 use Rattle.act_order_plays.proofs.Casts.{has_contains, cast_of_is}

@@ -1,15 +1,8 @@
 -- What shows that a history isn't in order contradicts that it is.
-use Rattle.std.proofs.Common.{◌≡◌, ℕ, zero, suc, ◌+◌, ◌-◌, ◌<◌, ◌≤◌, List, length, sym, ap, ◌∙◌, arith, Some, slice_get, option_map}
-use Rattle.std.proofs.lemmas.Option.{slice_get_within, slice_get-map}
-use Rattle.act_orders.specs.declared.fault.Fault.{Fault}
-use Rattle.act_orders.specs.declared.fault.Fault.TheVariants.{Strays, Again, Skips, NoRole, Alive, LeftOut, Spoiled, Lacks, NoAnswer, Circle}
-use Rattle.act_orders.specs.declared.told.Happening.{Happening}
-use Rattle.act_orders.specs.declared.told.Outcome.{Outcome}
+use Rattle.act_orders.proofs.Common.{◌≡◌, ℕ, zero, suc, ◌+◌, ◌-◌, ◌<◌, ◌≤◌, List, length, sym, ap, ◌∙◌, arith, Some, slice_get, option_map, slice_get_within}
+use Rattle.act_orders.proofs.Common.{slice_get-map, Fault, Strays, Again, Skips, NoRole, Alive, LeftOut, Spoiled, Lacks, NoAnswer, Circle, Happening, Outcome}
+use Rattle.act_orders.proofs.Common.{Run, Told, call_of, calls_run, IsOrder, IsInOrderBy, IsCircle, IsFault, HasFailed}
 use Rattle.act_orders.specs.declared.told.Outcome.TheVariants as out
-use Rattle.act_orders.specs.declared.told.Run.{Run}
-use Rattle.act_orders.specs.declared.told.Told.{Told}
-use Rattle.act_orders.specs.Order.{call_of, calls_run, IsOrder, IsInOrderBy}
-use Rattle.act_orders.specs.Faults.{IsCircle, IsFault, HasFailed}
 use Rattle.act_orders.proofs.Lists.{found, has_at, found_before, has_before, at_below}
 
 -- the call of the run at a place

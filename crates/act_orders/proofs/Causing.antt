@@ -1,18 +1,11 @@
 -- The slots have each cause of what happens, and nothing else.
-use Rattle.std.proofs.Common.{◌≡◌, ◌≢◌, ℕ, zero, suc, ◌+◌, ◌-◌, ◌*◌, ◌^◌, ◌<◌, ◌≤◌, ◌⊎◌, inl, inr, List, [], ◌∷◌, length, map, get_or, refl, sym, ap, subst, ◌∙◌, arith, Option, Some, None, slice_get, option_map, cond, eqb, eq-eqb}
-use Rattle.std.specs.List.{Contains}
-use Rattle.std.proofs.lemmas.Bool.{eqb-true}
-use Rattle.std.proofs.lemmas.List.{length-map}
-use Rattle.std.proofs.lemmas.Option.{slice_get_within, slice_get-get_or, get_or_from_slice_get, slice_get-map, slice_get_past, cond_some, same_Some}
-use Rattle.act_orders.specs.declared.told.Happening.{Happening}
-use Rattle.act_orders.specs.declared.told.Happening.TheVariants.{Submitted, Ran, Answered}
-use Rattle.act_orders.specs.declared.told.Outcome.{Outcome}
+use Rattle.act_orders.proofs.Common.{◌≡◌, ◌≢◌, ℕ, zero, suc, ◌+◌, ◌-◌, ◌*◌, ◌^◌, ◌<◌, ◌≤◌, ◌⊎◌, inl, inr, List, [], ◌∷◌, length, map, get_or, refl, sym, ap}
+use Rattle.act_orders.proofs.Common.{subst, ◌∙◌, arith, Option, Some, None, slice_get, option_map, cond, eqb, eq-eqb, Contains, eqb-true, length-map}
+use Rattle.act_orders.proofs.Common.{slice_get_within, slice_get-get_or, get_or_from_slice_get, slice_get-map, slice_get_past, cond_some, same_Some, Happening}
+use Rattle.act_orders.proofs.Common.{Submitted, Ran, Answered, Outcome, Run, Told, call_of, calls_run, Happened, IsCause, RunsBefore, RunsInTurn, SameCaller}
+use Rattle.act_orders.proofs.Common.{Needs, IsWhole, HasPlaces, IsPlace, place_of, run_of, number_of, run_before, call_before, first_cause, second_cause}
+use Rattle.act_orders.proofs.Common.{run_answered, last_call, taken_by, slots, graph_of, call_in}
 use Rattle.act_orders.specs.declared.told.Outcome.TheVariants as out
-use Rattle.act_orders.specs.declared.told.Run.{Run}
-use Rattle.act_orders.specs.declared.told.Told.{Told}
-use Rattle.act_orders.specs.Order.{call_of, calls_run, Happened, IsCause, RunsBefore, RunsInTurn, SameCaller}
-use Rattle.act_orders.specs.Search.{Needs}
-use Rattle.act_orders.specs.Causes.{IsWhole, HasPlaces, IsPlace, place_of, run_of, number_of, run_before, call_before, first_cause, second_cause, run_answered, last_call, taken_by, slots, graph_of, call_in}
 use Rattle.act_orders.proofs.Lists.{found, has_at, has_before, same_or_not}
 use Rattle.act_orders.proofs.Breaking.{call_at}
 use Rattle.act_orders.proofs.Lasting.{is_last, last_found}

@@ -1,21 +1,10 @@
 -- What was added to the faults, and what holds where nothing was.
-use Rattle.std.proofs.Common.{◌≡◌, ◌≢◌, ℕ, zero, suc, ◌+◌, ◌<◌, ◌≤◌, ◌⊎◌, inl, inr, List, [], ◌∷◌, ◌++◌, length, take, get_or, refl, sym, ap, subst, ◌∙◌, arith, Option, Some, None, Result, Ok, Err, IsTrue, is_some, true, false, Bool}
-use Rattle.std.specs.List.{Contains, All}
-use Rattle.std.specs.Option.{MatchOption, option_to_list}
-use Rattle.std.specs.Result.{MatchResult, is_ok}
-use Rattle.std.proofs.lemmas.List.{append-nil, length-append}
-use Rattle.std.proofs.lemmas.List.Elements.{All-push, Contains-get_or}
-use Rattle.std.proofs.lemmas.Option.{slice_get_within, get_or_from_slice_get}
-use Rattle.act_orders.specs.declared.fault.Fault.{Fault}
-use Rattle.act_orders.specs.declared.told.Happening.TheVariants.{Ran, Answered}
-use Rattle.act_orders.specs.declared.told.End.TheVariants.{Dead}
-use Rattle.act_orders.specs.declared.told.Outcome.{Outcome}
-use Rattle.act_orders.specs.declared.told.Outcome.TheVariants.{Died, Open}
+use Rattle.act_orders.proofs.Common.{◌≡◌, ◌≢◌, ℕ, zero, suc, ◌+◌, ◌<◌, ◌≤◌, ◌⊎◌, inl, inr, List, [], ◌∷◌, ◌++◌, length, take, get_or, refl, sym, ap, subst, ◌∙◌}
+use Rattle.act_orders.proofs.Common.{arith, Option, Some, None, Result, Ok, Err, IsTrue, is_some, true, false, Bool, Contains, All, MatchOption, option_to_list}
+use Rattle.act_orders.proofs.Common.{MatchResult, is_ok, append-nil, length-append, All-push, Contains-get_or, slice_get_within, get_or_from_slice_get, Fault}
+use Rattle.act_orders.proofs.Common.{Ran, Answered, Dead, Outcome, Died, Open, Told, call_of, actor_of, calls_run, Happened, HasPlaces, IsPlace, place_of}
+use Rattle.act_orders.proofs.Common.{IsFault, Finds, Come, Runs, HasFailed, TakesGood, CallHolds}
 use Rattle.act_orders.specs.declared.told.Outcome.TheVariants as out
-use Rattle.act_orders.specs.declared.told.Told.{Told}
-use Rattle.act_orders.specs.Order.{call_of, actor_of, calls_run, Happened}
-use Rattle.act_orders.specs.Causes.{HasPlaces, IsPlace, place_of}
-use Rattle.act_orders.specs.Faults.{IsFault, Finds, Come, Runs, HasFailed, TakesGood, CallHolds}
 use Rattle.act_orders.proofs.Lists.{found, found_before, has_at, has_before, same_or_not}
 use Rattle.act_orders.proofs.Breaking.{call_at}
 use Rattle.act_orders.proofs.Running.{placed_at}

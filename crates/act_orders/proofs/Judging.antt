@@ -1,13 +1,6 @@
 -- An order of the nodes is one of the history.
-use Rattle.std.proofs.Common.{ℕ, ◌+◌, ◌<◌, ◌≤◌, List, length, sym, subst, arith, Option, inl, inr}
-use Rattle.std.specs.List.{Contains}
-use Rattle.act_orders.specs.declared.told.Happening.{Happening}
-use Rattle.act_orders.specs.declared.told.Happening.TheVariants.{Submitted, Ran, Answered}
-use Rattle.act_orders.specs.declared.told.Told.{Told}
-use Rattle.act_orders.specs.Order.{call_of, calls_run, Happened, IsCause, IsInOrderBy, RunsInTurn}
-use Rattle.act_orders.specs.Search.{OrdersNodes}
-use Rattle.act_orders.specs.Causes.{IsWhole, HasPlaces, graph_of}
-use Rattle.act_orders.specs.Faults.{CallsHold}
+use Rattle.act_orders.proofs.Common.{ℕ, ◌+◌, ◌<◌, ◌≤◌, List, length, sym, subst, arith, Option, inl, inr, Contains, Happening, Submitted, Ran, Answered, Told}
+use Rattle.act_orders.proofs.Common.{call_of, calls_run, Happened, IsCause, IsInOrderBy, RunsInTurn, OrdersNodes, IsWhole, HasPlaces, graph_of, CallsHold}
 use Rattle.act_orders.proofs.Lists.{same_or_not, has_at}
 use Rattle.act_orders.proofs.Breaking.{call_at}
 use Rattle.act_orders.proofs.Causing.{ran_within, cause_needed, ran_before_answer}

@@ -1,12 +1,7 @@
 -- The last call that an actor ran.
-use Rattle.std.proofs.Common.{◌≡◌, ℕ, zero, suc, ◌+◌, ◌<◌, ◌≤◌, ◌⊎◌, inl, inr, List, [], ◌∷◌, length, refl, sym, ap, ◌∙◌, arith, Option, Some, None, slice_get, cond, eqb, eq-eqb}
-use Rattle.std.specs.Option.{option_or}
-use Rattle.std.proofs.lemmas.Bool.{eqb-true}
-use Rattle.std.proofs.lemmas.Option.{slice_get_within, get_or_from_slice_get, cond_some, same_Some}
-use Rattle.act_orders.specs.declared.told.Run.{Run}
-use Rattle.act_orders.specs.declared.told.Told.{Told}
-use Rattle.act_orders.specs.Order.{IsLastRun}
-use Rattle.act_orders.specs.Causes.{IsUpTo, run_of, last_call}
+use Rattle.act_orders.proofs.Common.{◌≡◌, ℕ, zero, suc, ◌+◌, ◌<◌, ◌≤◌, ◌⊎◌, inl, inr, List, [], ◌∷◌, length, refl, sym, ap, ◌∙◌, arith, Option, Some, None}
+use Rattle.act_orders.proofs.Common.{slice_get, cond, eqb, eq-eqb, option_or, eqb-true, slice_get_within, get_or_from_slice_get, cond_some, same_Some, Run}
+use Rattle.act_orders.proofs.Common.{Told, IsLastRun, IsUpTo, run_of, last_call}
 use Rattle.act_orders.proofs.Running.{run_at}
 
 -- below, or not

@@ -1,10 +1,7 @@
 -- Lists that grow at their end: places, and what is said of each item with those before it.
-use Rattle.std.proofs.Common.{◌≡◌, ◌≢◌, ℕ, zero, suc, ◌+◌, ◌<◌, ◌⊎◌, inl, inr, List, [], ◌∷◌, ◌++◌, length, take, drop, refl, sym, ap, subst, ◌∙◌, arith, Some, slice_get}
-use Rattle.std.proofs.lemmas.List.{take-append-le}
-use Rattle.std.proofs.lemmas.Option.{slice_get_within, slice_get-get_or, get_or_from_slice_get}
-use Rattle.std.proofs.Math.Seq.{take-append_seam}
-use Rattle.std.specs.List.{Contains}
-use Rattle.act_orders.specs.Search.{EachAfter}
+use Rattle.act_orders.proofs.Common.{◌≡◌, ◌≢◌, ℕ, zero, suc, ◌+◌, ◌<◌, ◌⊎◌, inl, inr, List, [], ◌∷◌, ◌++◌, length, take, drop, refl, sym, ap, subst, ◌∙◌, arith}
+use Rattle.act_orders.proofs.Common.{Some, slice_get, take-append-le, slice_get_within, slice_get-get_or, get_or_from_slice_get, take-append_seam, Contains}
+use Rattle.act_orders.proofs.Common.{EachAfter}
 
 -- two numbers are one, or not
 pub same_or_not : (m n : ℕ) → (m ≡ n) ⊎ (m ≢ n)

@@ -1,18 +1,8 @@
 -- What a search does next, and the circle that it may meet.
-use Rattle.std.proofs.Common.{◌≡◌, ℕ, ◌+◌, ◌-◌, ◌<◌, inl, inr, List, [], ◌∷◌, ◌++◌, length, drop, sym, ap, subst, ◌∙◌, arith, Option, Some, None, slice_get}
-use Rattle.std.specs.List.{Contains}
-use Rattle.std.proofs.lemmas.List.{length-append, length-drop}
-use Rattle.std.proofs.lemmas.List.Elements.{Contains-push_cases}
-use Rattle.std.proofs.lemmas.Option.{slice_get_within, same_Some}
-use Rattle.act_orders.specs.declared.search.Next.{Next}
-use Rattle.act_orders.specs.declared.search.Next.TheVariants.{Finish, Pass, Enter, Close}
-use Rattle.act_orders.specs.declared.told.Happening.{Happening}
-use Rattle.act_orders.specs.declared.told.Told.{Told}
-use Rattle.act_orders.specs.Order.{Happened, IsCause}
-use Rattle.act_orders.specs.Search.{Graph, Needs, Standing}
-use Rattle.act_orders.specs.Causes.{IsWhole, HasPlaces, graph_of}
-use Rattle.act_orders.specs.Faults.{IsCircle}
-use Rattle.act_orders.specs.Nexts.{IsAtCause, IsNext}
+use Rattle.act_orders.proofs.Common.{◌≡◌, ℕ, ◌+◌, ◌-◌, ◌<◌, inl, inr, List, [], ◌∷◌, ◌++◌, length, drop, sym, ap, subst, ◌∙◌, arith, Option, Some, None}
+use Rattle.act_orders.proofs.Common.{slice_get, Contains, length-append, length-drop, Contains-push_cases, slice_get_within, same_Some, Next, Finish, Pass}
+use Rattle.act_orders.proofs.Common.{Enter, Close, Happening, Told, Happened, IsCause, Graph, Needs, Standing, IsWhole, HasPlaces, graph_of, IsCircle}
+use Rattle.act_orders.proofs.Common.{IsAtCause, IsNext}
 use Rattle.act_orders.proofs.Lists.{found, has_at, get_pushed, get_kept, get_added, get_dropped}
 use Rattle.act_orders.proofs.Causing.{needs_cause}
 

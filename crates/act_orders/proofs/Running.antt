@@ -1,18 +1,10 @@
 -- Runs: where calls ran, and whether each is its caller's next.
-use Rattle.std.proofs.Common.{◌≡◌, ◌≢◌, ℕ, zero, suc, ◌+◌, ◌<◌, ◌≤◌, ◌⊎◌, inl, inr, List, [], ◌∷◌, ◌++◌, length, map, take, get_or, refl, sym, ap, subst, ◌∙◌, arith, Option, Some, None, slice_get, replicate}
-use Rattle.std.proofs.Math.ListN.{set}
-use Rattle.std.specs.List.{Contains, All}
-use Rattle.std.specs.Option.{MatchOption, option_to_list}
-use Rattle.std.proofs.Math.Seq.{get_or-append_seam}
-use Rattle.std.proofs.lemmas.List.Elements.{All-push}
-use Rattle.act_orders.specs.declared.fault.Fault.{Fault}
-use Rattle.act_orders.specs.Faults.{IsFault}
-use Rattle.std.proofs.lemmas.List.{take-map, get_or-set_same, get_or-set_other, length-set, get_or-replicate, length-replicate, get_or_append_left, append-nil, length-append}
-use Rattle.std.proofs.lemmas.Option.{slice_get-get_or}
-use Rattle.act_orders.specs.declared.told.Run.{Run}
-use Rattle.act_orders.specs.declared.told.Told.{Told}
-use Rattle.act_orders.specs.Order.{call_of, calls_run, SameWay, IsNext}
-use Rattle.act_orders.specs.Causes.{IsPlace, IsBefore, IsLast, HasBefore, HasPlaces, TurnTo, place_of, run_of}
+use Rattle.act_orders.proofs.Common.{◌≡◌, ◌≢◌, ℕ, zero, suc, ◌+◌, ◌<◌, ◌≤◌, ◌⊎◌, inl, inr, List, [], ◌∷◌, ◌++◌, length, map, take, get_or, refl, sym, ap, subst}
+use Rattle.act_orders.proofs.Common.{◌∙◌, arith, Option, Some, None, slice_get, replicate, set, Contains, All, MatchOption, option_to_list, get_or-append_seam}
+use Rattle.act_orders.proofs.Common.{All-push, Fault, IsFault, take-map, get_or-set_same, get_or-set_other, length-set, get_or-replicate, length-replicate}
+use Rattle.act_orders.proofs.Common.{get_or_append_left, append-nil, length-append, slice_get-get_or, Run, Told, call_of, calls_run, SameWay, IsPlace, IsBefore}
+use Rattle.act_orders.proofs.Common.{IsLast, HasBefore, HasPlaces, TurnTo, place_of, run_of}
+use Rattle.act_orders.specs.Order.{IsNext}
 use Rattle.act_orders.proofs.Lists.{same_or_not, get_taken, get_in_taken, found_before, has_before}
 use Rattle.act_orders.proofs.Breaking.{call_at}
 

@@ -1,11 +1,7 @@
 -- The steps of a search for an order.
-use Rattle.std.proofs.Common.{◌≡◌, ◌≢◌, ℕ, ◌+◌, ◌<◌, ◌≤◌, ◌⊎◌, inl, inr, List, [], ◌∷◌, ◌++◌, length, get_or, sym, ap, subst, ◌∙◌, arith, Some, slice_get}
-use Rattle.std.proofs.Math.ListN.{set}
-use Rattle.std.specs.List.{Contains}
-use Rattle.std.proofs.lemmas.List.{get_or-set_same, get_or-set_other, length-set, length-append}
-use Rattle.std.proofs.lemmas.List.Elements.{Contains-append_left, Contains-push, Contains-push_cases}
-use Rattle.std.proofs.lemmas.Option.{slice_get_within}
-use Rattle.act_orders.specs.Search.{Graph, mark, Needs, MayFollow, Fresh, Standing}
+use Rattle.act_orders.proofs.Common.{◌≡◌, ◌≢◌, ℕ, ◌+◌, ◌<◌, ◌≤◌, ◌⊎◌, inl, inr, List, [], ◌∷◌, ◌++◌, length, get_or, sym, ap, subst, ◌∙◌, arith, Some}
+use Rattle.act_orders.proofs.Common.{slice_get, set, Contains, get_or-set_same, get_or-set_other, length-set, length-append, Contains-append_left}
+use Rattle.act_orders.proofs.Common.{Contains-push, Contains-push_cases, slice_get_within, Graph, mark, Needs, MayFollow, Fresh, Standing}
 use Rattle.act_orders.proofs.Lists.{same_or_not, get_pushed, get_kept, each_after_pushed, each_after_front, fresh_last}
 
 -- no two nodes have one number

@@ -1,11 +1,7 @@
 -- What a step of the search does to all that it has before it.
-use Rattle.std.proofs.Common.{◌≡◌, ℕ, suc, ◌+◌, ◌-◌, ◌<◌, ◌≤◌, inl, inr, List, [], ◌∷◌, ◌++◌, length, get_or, take, refl, sym, ap, subst, ◌∙◌, arith, Some, slice_get}
-use Rattle.std.proofs.Math.ListN.{set}
-use Rattle.std.specs.List.{Contains}
-use Rattle.std.proofs.lemmas.List.Sums.{sum_by-set}
-use Rattle.std.proofs.lemmas.List.Elements.{Contains-append_left}
-use Rattle.std.proofs.lemmas.Option.{same_Some}
-use Rattle.act_orders.specs.Search.{Graph, mark, Needs, Standing, GoesOn, Steps, AtRest, OrdersNodes, left}
+use Rattle.act_orders.proofs.Common.{◌≡◌, ℕ, suc, ◌+◌, ◌-◌, ◌<◌, ◌≤◌, inl, inr, List, [], ◌∷◌, ◌++◌, length, get_or, take, refl, sym, ap, subst, ◌∙◌, arith}
+use Rattle.act_orders.proofs.Common.{Some, slice_get, set, Contains, sum_by-set, Contains-append_left, same_Some, Graph, mark, Needs, Standing, GoesOn, Steps}
+use Rattle.act_orders.proofs.Common.{AtRest, OrdersNodes, left}
 use Rattle.act_orders.proofs.Lists.{same_or_not, has_at}
 use Rattle.act_orders.proofs.Standing.{Apart, marked, entered, passed_by, finished_by}
 

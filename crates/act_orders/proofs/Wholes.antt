@@ -1,15 +1,8 @@
 -- What a history needs to be whole, as tests tell it.
-use Rattle.std.proofs.Common.{◌≡◌, ℕ, zero, suc, ◌+◌, ◌<◌, ◌≤◌, List, length, get_or, eqb, Bool, true, false, refl, sym, ◌∙◌, arith, Some, IsTrue}
-use Rattle.std.specs.List.{IsAllAdjacentAnswer}
-use Rattle.std.specs.List.Sorted.{IsNonDecreasingBy}
-use Rattle.std.specs.Ordering.{nat_cmp, is_le, is_some_and}
-use Rattle.std.proofs.lemmas.Bool.Decides.{nat_tests}
-use Rattle.std.proofs.lemmas.Bool.{false≢true}
-use Rattle.std.proofs.lemmas.List.Sorted.{IsNonDecreasingBy-from_all_adjacent, non_decreasing_from_is_sorted}
-use Rattle.std.proofs.lemmas.Map.Keys.{le_from_is_le}
-use Rattle.act_orders.specs.declared.told.Told.{Told}
-use Rattle.act_orders.specs.Causes.{IsWhole, Rises}
-use Rattle.act_orders.specs.Whole.{NumbersFit, Rising}
+use Rattle.act_orders.proofs.Common.{◌≡◌, ℕ, zero, suc, ◌+◌, ◌<◌, ◌≤◌, List, length, get_or, eqb, Bool, true, false, refl, sym, ◌∙◌, arith, Some, IsTrue}
+use Rattle.act_orders.proofs.Common.{IsAllAdjacentAnswer, IsNonDecreasingBy, nat_cmp, is_le, is_some_and, nat_tests, false≢true}
+use Rattle.act_orders.proofs.Common.{IsNonDecreasingBy-from_all_adjacent, non_decreasing_from_is_sorted, le_from_is_le, Told, IsWhole, Rises, NumbersFit}
+use Rattle.act_orders.proofs.Common.{Rising}
 
 pub some_items : (n : ℕ) → eqb n 0 ≡ false → 0 < n
 some_items zero e = absurd (false≢true (sym e))

@@ -1,6 +1,6 @@
 -- What the steps of a kind keep, of every actor of a world and of a joined run.
-use Rattle.std.proofs.Common.{◌≡◌, ℕ, List, [], ◌∷◌, Option, Some, None, refl, ap, sym, ◌∙◌, subst, find}
-use Rattle.std.specs.Prelude.{◌==◌, option_map, slice_get, All, unwrap_or}
+use Rattle.std.proofs.Common.{◌≡◌, ℕ, List, [], ◌∷◌, Option, Some, None, refl, ap, sym, ◌∙◌, find}
+use Rattle.std.specs.Prelude.{◌==◌, option_map, unwrap_or}
 use Rattle.std.proofs.lemmas.Bool.{eqb-true}
 use Rattle.act_types.specs.KindState.{KindState, OwnAt}
 use Rattle.act_types.specs.Own.{Ask, StepOf, behaves}
@@ -8,8 +8,8 @@ use Rattle.act_rules.specs.declared.event.Event.{Event}
 use Rattle.act_rules.specs.declared.history.RunItem.{RunItem}
 use Rattle.act_rules.specs.declared.script.Step.{Step}
 use Rattle.act_rules.specs.RunList.{Answer, state_after}
-use Rattle.act_rules.specs.OwnRuns.{told_in, IsKept, Left}
-use Rattle.act_rules.specs.History.{ActorSpec, History, opening, opening_of, cast_of}
+use Rattle.act_rules.specs.OwnRuns.{IsKept, Left}
+use Rattle.act_rules.specs.History.{ActorSpec, History, opening, cast_of}
 use Rattle.act_rules.specs.Rules.{refusal_of, after, after_by, after_all}
 use Rattle.act_rules.specs.declared.outcome.WorldRefusal.{WorldRefusal}
 use Rattle.act_rules.specs.Laws.{history}
@@ -17,11 +17,11 @@ use Rattle.act_rules.proofs.Growth.{added_grows}
 use Rattle.act_rules.proofs.Finding.{find-tells}
 use Rattle.act_rules.proofs.OwnRuns.{holds_in_each_run}
 use Rattle.act_owner.specs.Owner.{OwnerView}
-use Rattle.act_world.specs.View.{SlotView, Runs, Died, Ended, Vacant, WorldView}
+use Rattle.act_world.specs.View.{SlotView, Runs, Died, Ended, Vacant}
 use Rattle.act_world.specs.Refines.{IsStage}
 use Rattle.act_serve.specs.Served.{EndView, Killed, Retired, Starved, end_id, IfRetired}
 use Rattle.act_executor.specs.Joined.{IsJoined, RanAll, end_of}
-use Rattle.act_own.specs.Kept.{Keeps, SlotKeeps, EndKeeps, OpensAt, KeptInEachWorld, KeptInEachRun}
+use Rattle.act_own.specs.Kept.{Keeps, SlotKeeps, EndKeeps, OpensAt}
 
 -- ---- the casts stay
 

@@ -1,22 +1,9 @@
 -- Answers: what a first answer and a death leave in the futures.
-use Rattle.std.proofs.Common.{◌≡◌, ℕ, zero, suc, ◌+◌, ◌==◌, ◌&&◌, ◌||◌, Bool, true, false, not, cond, if◌then◌else◌, List, [], ◌∷◌, ◌++◌, length, map, drop, get_or, count_by, nat_lt, Option, Some, None, is_some, Err, refl, sym, ◌∙◌, ap, arith}
-use Rattle.std.specs.Prelude.{slice_get, slice_set, zip, nat_eq}
-use Rattle.std.specs.List.{list_all, list_any}
-use Rattle.std.proofs.lemmas.Bool.{ne_eqb, lt-ltb}
-use Rattle.std.proofs.lemmas.List.{map-set}
-use Rattle.std.proofs.lemmas.List.Sums.{sum_by-cons}
-use Rattle.act_types.specs.declared.call.Fault.TheVariants.{ActorDied}
-use Rattle.act_rules.specs.declared.history.Submission.{Submission}
-use Rattle.act_rules.specs.RunList.{Answer}
-use Rattle.act_rules.specs.Submissions.{kept_at}
-use Rattle.act_rules.proofs.Lists.{slice_get_last}
-use Rattle.act_handles.specs.declared.handles.Handle.{Handle}
-use Rattle.act_replies.specs.declared.table.Row.{Row}
+use Rattle.act_owner.proofs.Common.{◌≡◌, ℕ, zero, suc, ◌+◌, ◌==◌, ◌&&◌, ◌||◌, Bool, true, false, not, cond, if◌then◌else◌, List, [], ◌∷◌, ◌++◌, length, map}
+use Rattle.act_owner.proofs.Common.{drop, get_or, count_by, nat_lt, Option, Some, None, is_some, Err, refl, sym, ◌∙◌, ap, arith, slice_get, slice_set, zip}
+use Rattle.act_owner.proofs.Common.{nat_eq, list_all, list_any, ne_eqb, lt-ltb, map-set, sum_by-cons, ActorDied, Submission, Answer, kept_at, slice_get_last}
+use Rattle.act_owner.proofs.Common.{Handle, Row, Call, Reply, copies_in, First, Late, Stray, Died}
 use Rattle.act_replies.specs.Table.{is_open, row_waits_for as row_waits_for, unanswered_row, row_with_answer, after_keep, after_keep_in, row_after_death, rows_after_death as rows_after_death}
-use Rattle.act_owner.specs.declared.owner.Call.{Call}
-use Rattle.act_types.specs.declared.call.Reply.{Reply}
-use Rattle.act_handles.specs.Handles.{copies_in}
-use Rattle.act_owner.specs.declared.owner.Collected.TheVariants.{First, Late, Stray, Died}
 use Rattle.act_owner.specs.Owner.{OwnerView, is_of_call, with_kept_answer as owner_with_answer, after_reply_that, after_reply, with_death, with_sent, collected_death, owner_after_death, submission_of, answers_of, answered_row, call_waits_for, answer_after_death, KnowsAnswers, IsOwner}
 use Rattle.act_resolver.specs.Resolver.{Entered, with_told, with_mark as with_sent_entered}
 use Rattle.act_owner.proofs.Calls.{set_last}

@@ -1,25 +1,12 @@
 -- Handles and calls: what a copy, a number and a new call leave.
-use Rattle.std.proofs.Common.{◌≡◌, ℕ, zero, suc, ◌+◌, ◌-◌, ◌<◌, ◌≤◌, ◌==◌, Bool, true, false, List, [], ◌∷◌, ◌++◌, length, map, filter, Option, Some, None, is_some, Result, Ok, Err, OnOk, OnErr, inl, inr, refl, sym, ◌∙◌, ap, arith}
-use Rattle.std.specs.Prelude.{slice_get, slice_set, option_map, nat_lt}
-use Rattle.std.proofs.lemmas.List.{map-append, length-append, length-map, take_all, take-append-le}
-use Rattle.std.proofs.lemmas.List.Elements.{filter-append}
-use Rattle.std.proofs.lemmas.List.Sums.{sum_by-cons}
-use Rattle.std.proofs.lemmas.Option.{slice_get_past}
-use Rattle.std.proofs.lemmas.Bool.Decides.{eqb_tells, leb_tells}
-use Rattle.act_types.specs.declared.call.Method.{Method}
-use Rattle.act_types.specs.declared.call.Arg.{Arg}
-use Rattle.act_rules.specs.declared.history.Submission.{Submission}
-use Rattle.act_rules.specs.declared.outcome.HandleRefusal.{HandleRefusal}
-use Rattle.act_rules.specs.declared.outcome.HandleRefusal.TheVariants.{NoActor, NoHandle, TooManyCalls}
-use Rattle.act_rules.specs.Submissions.{needs, number_of, copies_held}
-use Rattle.act_rules.proofs.Lists.{slice_get_last}
-use Rattle.act_handles.specs.declared.handles.Handle.{Handle}
-use Rattle.act_handles.specs.Handles.{change_handle, copies_in, given_in, given_of_all, number_answer, or_else, new_handle, with_copy, with_number, without_copy}
-use Rattle.act_handles.proofs.Lookups.{given-with_copy, given-without_copy, given-with_number, given-with_number-other, given-opened, given_of_all-opened}
-use Rattle.act_replies.specs.declared.table.Row.{Row}
-use Rattle.act_resolver.specs.Resolver.{Entered}
-use Rattle.act_owner.specs.declared.owner.Call.{Call}
-use Rattle.act_owner.specs.Owner.{call_at, numbered_call, submission_of, futures_of_args, answer_of_new_call, answered_row, entered_call, IsOwner}
+use Rattle.act_owner.proofs.Common.{◌≡◌, ℕ, zero, suc, ◌+◌, ◌-◌, ◌<◌, ◌≤◌, ◌==◌, Bool, true, false, List, [], ◌∷◌, ◌++◌, length, map, filter, Option, Some}
+use Rattle.act_owner.proofs.Common.{None, is_some, Result, Ok, Err, OnOk, OnErr, inl, inr, refl, sym, ◌∙◌, ap, arith, slice_get, slice_set, option_map, nat_lt}
+use Rattle.act_owner.proofs.Common.{map-append, length-append, length-map, take_all, take-append-le, filter-append, sum_by-cons, slice_get_past, eqb_tells}
+use Rattle.act_owner.proofs.Common.{leb_tells, Method, Arg, Submission, HandleRefusal, NoActor, NoHandle, TooManyCalls, needs, number_of, copies_held}
+use Rattle.act_owner.proofs.Common.{slice_get_last, Handle, change_handle, copies_in, given_in, given_of_all, number_answer, or_else, new_handle, with_copy}
+use Rattle.act_owner.proofs.Common.{with_number, without_copy, given-with_copy, given-without_copy, given-with_number, given-with_number-other, given-opened}
+use Rattle.act_owner.proofs.Common.{given_of_all-opened, Row, Entered, Call, call_at, numbered_call, submission_of, futures_of_args, answer_of_new_call}
+use Rattle.act_owner.proofs.Common.{answered_row, entered_call, IsOwner}
 
 -- a change that keeps the numbers given keeps their sum
 given_of_all-changed : (a : ℕ) (change : Handle → Handle) → ((handle : Handle) → (change handle).given ≡ handle.given) → (handles : List Handle) → given_of_all (change_handle a change handles) ≡ given_of_all handles

@@ -1,13 +1,6 @@
 -- Telling the resolver the futures that a death answers, one by one.
-use Rattle.std.proofs.Common.{◌≡◌, ℕ, ◌<◌, Bool, true, List, length, map, is_some, refl, sym, ◌∙◌, ap, arith}
-use Rattle.std.specs.Prelude.{slice_set}
-use Rattle.std.proofs.lemmas.List.{length-map, map-set}
-use Rattle.act_rules.specs.RunList.{Answer}
-use Rattle.act_replies.specs.declared.table.Row.{Row}
-use Rattle.act_replies.specs.Table.{waits_at, row_with_answer, after_keep}
-use Rattle.act_replies.proofs.Deaths.{waiting_row}
-use Rattle.act_resolver.specs.Resolver.{Entered, with_told}
-use Rattle.act_owner.specs.Owner.{KnowsAnswers}
+use Rattle.act_owner.proofs.Common.{◌≡◌, ℕ, ◌<◌, Bool, true, List, length, map, is_some, refl, sym, ◌∙◌, ap, arith, slice_set, length-map, map-set, Answer, Row}
+use Rattle.act_owner.proofs.Common.{waits_at, row_with_answer, after_keep, waiting_row, Entered, with_told, KnowsAnswers}
 use Rattle.act_owner.proofs.Waiting.{read_set, read_stays}
 
 -- a future that waits was entered

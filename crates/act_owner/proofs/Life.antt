@@ -1,25 +1,10 @@
 -- What the changes of a caller leave: its calls, their numbers, and the answers that it keeps.
-use Rattle.std.proofs.Common.{◌≡◌, ℕ, zero, suc, ◌<◌, ◌==◌, ◌&&◌, Bool, true, false, if◌then◌else◌, List, [], ◌∷◌, ◌++◌, length, map, Option, Some, None, is_some, Err, inl, inr, refl, ◌∙◌, ap, arith}
-use Rattle.std.specs.Prelude.{slice_get, slice_set, option_map, zip}
-use Rattle.std.specs.List.{list_all}
-use Rattle.std.proofs.lemmas.List.{length-append, length-set}
-use Rattle.std.proofs.lemmas.Option.{slice_get_past}
-use Rattle.std.proofs.lemmas.Bool.Decides.{leb_tells}
-use Rattle.std.proofs.lemmas.Bool.{and_parts}
-use Rattle.act_types.specs.declared.call.Fault.TheVariants.{ActorDied}
-use Rattle.act_types.specs.declared.call.Method.{Method}
-use Rattle.act_types.specs.declared.call.Arg.{Arg}
-use Rattle.act_types.specs.declared.call.Arg.TheVariants.{Plain, Fut}
-use Rattle.act_types.specs.declared.call.Settled.{Settled}
-use Rattle.act_types.specs.declared.call.Reply.{Reply}
-use Rattle.act_types.specs.declared.call.Notice.TheVariants.{Answered, Death}
-use Rattle.act_rules.specs.declared.history.Submission.{Submission}
-use Rattle.act_rules.specs.RunList.{Answer}
-use Rattle.act_rules.specs.Submissions.{number_of, kept_at, settle, settled_future, is_known}
-use Rattle.act_handles.specs.Handles.{copies_in}
-use Rattle.act_owner.specs.declared.owner.Collected.TheVariants.{First, Late, Stray}
-use Rattle.act_owner.specs.Owner.{OwnerView, with_submission, with_death, after_reply_that, is_of_call, is_known_dead, answer_of_new_call, answer_after_death, is_known_call, packet_for, packet_at}
-use Rattle.act_owner.specs.Life.{Change, Copied, Released, Submitted, Sent, Noticed, after_change, after_changes, is_known_at}
+use Rattle.act_owner.proofs.Common.{◌≡◌, ℕ, zero, suc, ◌<◌, ◌==◌, ◌&&◌, Bool, true, false, if◌then◌else◌, List, [], ◌∷◌, ◌++◌, length, map, Option, Some, None}
+use Rattle.act_owner.proofs.Common.{is_some, Err, inl, inr, refl, ◌∙◌, ap, arith, slice_get, slice_set, option_map, zip, list_all, length-append, length-set}
+use Rattle.act_owner.proofs.Common.{slice_get_past, leb_tells, and_parts, ActorDied, Method, Arg, Plain, Fut, Settled, Reply, Answered, Death, Submission}
+use Rattle.act_owner.proofs.Common.{Answer, number_of, kept_at, settle, settled_future, is_known, copies_in, First, Late, Stray, OwnerView, with_submission}
+use Rattle.act_owner.proofs.Common.{with_death, after_reply_that, is_of_call, is_known_dead, answer_of_new_call, answer_after_death, is_known_call, packet_for}
+use Rattle.act_owner.proofs.Common.{packet_at, Change, Copied, Released, Submitted, Sent, Noticed, after_change, after_changes, is_known_at}
 use Rattle.act_owner.proofs.Calls.{get_before, number_of-more}
 
 -- what was there stays: each call with its number, and each answer

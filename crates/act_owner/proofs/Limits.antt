@@ -1,8 +1,6 @@
 -- Lists of actors with their limits.
-use Rattle.std.proofs.Common.{◌≡◌, ◌≢◌, ℕ, List, length, Option, Some, None, Bool, sym, ap, ◌∙◌, get_or, find, position, map, AllPairs, arith}
-use Rattle.std.specs.Prelude.{option_and_then}
-use Rattle.std.proofs.lemmas.List.{get_or-map, length-map}
-use Rattle.act_rules.proofs.Finding.{find-Some, find-None}
+use Rattle.act_owner.proofs.Common.{◌≡◌, ◌≢◌, ℕ, List, length, Option, Some, None, Bool, sym, ap, ◌∙◌, get_or, find, position, map, AllPairs, arith}
+use Rattle.act_owner.proofs.Common.{option_and_then, get_or-map, length-map, find-Some, find-None}
 
 abbrev pub Limit : Type 0
 Limit = ℕ × Option ℕ

@@ -1,24 +1,11 @@
 -- How many calls wait for an answer while a caller changes.
-use Rattle.std.proofs.Common.{◌≡◌, ℕ, zero, suc, ◌+◌, ◌≤◌, ◌==◌, ◌&&◌, Bool, true, false, not, cond, List, [], ◌∷◌, ◌++◌, length, map, count_by, nat_lt, Option, Some, None, is_some, Err, refl, sym, ◌∙◌, ap, subst, arith}
-use Rattle.std.specs.Prelude.{slice_set, zip}
-use Rattle.std.proofs.lemmas.Bool.{eqb-true, ltb-true}
-use Rattle.std.proofs.lemmas.List.Sums.{sum_by-cons}
-use Rattle.act_types.specs.declared.call.Fault.TheVariants.{ActorDied}
-use Rattle.act_types.specs.declared.call.Method.{Method}
-use Rattle.act_types.specs.declared.call.Arg.{Arg}
-use Rattle.act_types.specs.declared.call.Reply.{Reply}
-use Rattle.act_types.specs.declared.call.Notice.TheVariants.{Answered, Death}
-use Rattle.act_rules.specs.declared.history.Submission.{Submission}
-use Rattle.act_rules.specs.declared.outcome.SubmitRefusal.{SubmitRefusal}
-use Rattle.act_rules.specs.declared.outcome.SubmitRefusal.TheVariants.{PendingLimit}
-use Rattle.act_rules.specs.RunList.{Answer}
-use Rattle.act_rules.specs.Submissions.{needs, submit_refusal, limit_refusal}
-use Rattle.act_rules.proofs.Lists.{option_or-none_second}
-use Rattle.act_handles.specs.Handles.{copies_in}
-use Rattle.act_owner.specs.declared.owner.Collected.{Collected}
-use Rattle.act_owner.specs.declared.owner.Collected.TheVariants.{First, Late, Stray, Died}
-use Rattle.act_owner.specs.Owner.{OwnerView, owner_limit, pending, refusal_to_submit, with_submission, with_death, after_reply_that, collected_reply, answer_of_new_call, is_known_dead, call_waits_for, answer_after_death}
-use Rattle.act_owner.specs.Life.{Change, Copied, Released, Submitted, Sent, Noticed, after_change, after_changes, IsAccepted, AreAccepted}
+use Rattle.act_owner.proofs.Common.{◌≡◌, ℕ, zero, suc, ◌+◌, ◌≤◌, ◌==◌, ◌&&◌, Bool, true, false, not, cond, List, [], ◌∷◌, ◌++◌, length, map, count_by, nat_lt}
+use Rattle.act_owner.proofs.Common.{Option, Some, None, is_some, Err, refl, sym, ◌∙◌, ap, subst, arith, slice_set, zip, eqb-true, ltb-true, sum_by-cons}
+use Rattle.act_owner.proofs.Common.{ActorDied, Method, Arg, Reply, Answered, Death, Submission, SubmitRefusal, PendingLimit, Answer, needs, submit_refusal}
+use Rattle.act_owner.proofs.Common.{limit_refusal, option_or-none_second, copies_in, Collected, First, Late, Stray, Died, OwnerView, owner_limit, pending}
+use Rattle.act_owner.proofs.Common.{refusal_to_submit, with_submission, with_death, after_reply_that, collected_reply, answer_of_new_call, is_known_dead}
+use Rattle.act_owner.proofs.Common.{call_waits_for, answer_after_death, Change, Copied, Released, Submitted, Sent, Noticed, after_change, after_changes}
+use Rattle.act_owner.proofs.Common.{IsAccepted, AreAccepted}
 use Rattle.act_owner.proofs.Life.{step}
 
 abbrev waiting : ℕ → List Submission → List (Option Answer) → ℕ

@@ -1,23 +1,11 @@
 -- Where what a caller keeps comes from.
-use Rattle.std.proofs.Common.{◌≡◌, ℕ, zero, suc, ◌+◌, ◌<◌, ◌==◌, ◌&&◌, ◌⊎◌, rules, Bool, true, false, if◌then◌else◌, not, List, [], ◌∷◌, ◌++◌, length, map, replicate, Option, Ok, Err, Some, None, is_some, inl, inr, refl, sym, ◌∙◌, ap, subst, Contains, append_assoc, append-nil, filter}
-use Rattle.std.specs.Prelude.{slice_get, slice_set, zip, unwrap_or}
-use Rattle.std.specs.List.{enumerate_from}
-use Rattle.std.proofs.lemmas.List.Elements.{Contains-append_left, Contains-push}
-use Rattle.std.proofs.lemmas.Bool.Decides.{eqb_tells}
-use Rattle.std.proofs.lemmas.Bool.{not-true}
-use Rattle.act_types.specs.declared.call.Fault.TheVariants.{ActorDied}
-use Rattle.act_types.specs.declared.call.Reply.{Reply}
-use Rattle.act_types.specs.declared.call.Notice.{Notice}
-use Rattle.act_types.specs.declared.call.Notice.TheVariants.{Answered, Death}
-use Rattle.act_rules.specs.declared.history.Submission.{Submission}
-use Rattle.act_rules.specs.RunList.{Answer}
-use Rattle.act_rules.specs.Submissions.{kept_at, calls_to}
-use Rattle.act_rules.proofs.Lists.{slice_get_last}
-use Rattle.act_handles.specs.Handles.{copies_in, given_in}
-use Rattle.act_owner.specs.declared.owner.Collected.TheVariants.{First, Late, Stray}
-use Rattle.act_owner.specs.Owner.{OwnerView, submission_of, opened_under, with_death, after_reply_that, is_of_call, is_sent, is_known_dead, is_to, is_death, answer_of_new_call, answer_after_death}
-use Rattle.act_owner.specs.declared.owner.Call.{Call}
-use Rattle.act_owner.specs.Life.{Change, Copied, Released, Submitted, Sent, Noticed, after_change, after_changes, notices_in, IsToldBy, Hears}
+use Rattle.act_owner.proofs.Common.{◌≡◌, ℕ, zero, suc, ◌+◌, ◌<◌, ◌==◌, ◌&&◌, ◌⊎◌, rules, Bool, true, false, if◌then◌else◌, not, List, [], ◌∷◌, ◌++◌, length}
+use Rattle.act_owner.proofs.Common.{map, replicate, Option, Ok, Err, Some, None, is_some, inl, inr, refl, sym, ◌∙◌, ap, subst, Contains, append_assoc}
+use Rattle.act_owner.proofs.Common.{append-nil, filter, slice_get, slice_set, zip, unwrap_or, enumerate_from, Contains-append_left, Contains-push, eqb_tells}
+use Rattle.act_owner.proofs.Common.{not-true, ActorDied, Reply, Notice, Answered, Death, Submission, Answer, kept_at, calls_to, slice_get_last, copies_in}
+use Rattle.act_owner.proofs.Common.{given_in, First, Late, Stray, OwnerView, submission_of, opened_under, with_death, after_reply_that, is_of_call, is_sent}
+use Rattle.act_owner.proofs.Common.{is_known_dead, is_to, is_death, answer_of_new_call, answer_after_death, Call, Change, Copied, Released, Submitted, Sent}
+use Rattle.act_owner.proofs.Common.{Noticed, after_change, after_changes, notices_in, IsToldBy, Hears}
 use Rattle.act_owner.proofs.Life.{Extends, step, found_below}
 
 -- ---- deaths

@@ -1,24 +1,11 @@
 -- What the resolver knows of a caller's calls: what each waits for, what was told, and which is ready.
-use Rattle.std.proofs.Common.{◌≡◌, ℕ, zero, suc, ◌<◌, ◌&&◌, Bool, true, false, not, cond, List, [], ◌∷◌, ◌++◌, length, map, Option, Some, None, is_some, inl, inr, refl, sym, ◌∙◌, ap, arith, subst}
-use Rattle.std.specs.Prelude.{if◌then◌else◌, slice_get, slice_set, find, unwrap_or, option_map, nat_lt, All}
-use Rattle.std.specs.List.{list_all, range_with_len}
-use Rattle.std.specs.Option.{option_map_or, option_and_then}
-use Rattle.std.proofs.lemmas.List.{length-map}
-use Rattle.std.proofs.lemmas.Option.{slice_get-map}
-use Rattle.std.proofs.lemmas.Bool.Decides.{leb_tells}
-use Rattle.std.proofs.lemmas.Bool.{and_parts}
-use Rattle.act_types.specs.declared.call.Arg.{Arg}
-use Rattle.act_types.specs.declared.call.Arg.TheVariants.{Plain, Fut}
-use Rattle.act_rules.specs.RunList.{Answer}
+use Rattle.act_owner.proofs.Common.{◌≡◌, ℕ, zero, suc, ◌<◌, ◌&&◌, Bool, true, false, not, cond, List, [], ◌∷◌, ◌++◌, length, map, Option, Some, None, is_some}
+use Rattle.act_owner.proofs.Common.{inl, inr, refl, sym, ◌∙◌, ap, arith, subst, if◌then◌else◌, slice_get, slice_set, find, unwrap_or, option_map, nat_lt, All}
+use Rattle.act_owner.proofs.Common.{list_all, range_with_len, option_map_or, length-map, slice_get-map, leb_tells, and_parts, Arg, Plain, Fut, Answer}
+use Rattle.act_owner.proofs.Common.{slice_get_last, Handle, Row, Entered, changed_at, new_call, with_told, is_answered, is_marked_sent, is_told, is_next_ready}
+use Rattle.act_owner.proofs.Common.{least_ready, Call, Submission, settle}
+use Rattle.std.specs.Option.{option_and_then}
 use Rattle.act_rules.specs.Submissions.{kept_at, is_earlier, is_known as is_known_arg}
-use Rattle.act_rules.proofs.Lists.{slice_get_last}
-use Rattle.act_handles.specs.declared.handles.Handle.{Handle}
-use Rattle.act_replies.specs.declared.table.Row.{Row}
-use Rattle.act_resolver.specs.Resolver.{Entered, changed_at, new_call, with_told, is_answered, is_marked_sent, is_told, is_next_ready, least_ready}
-use Rattle.act_owner.specs.declared.owner.Call.{Call}
-use Rattle.act_types.specs.declared.call.Packet.{Packet}
-use Rattle.act_rules.specs.declared.history.Submission.{Submission}
-use Rattle.act_rules.specs.Submissions.{settle}
 use Rattle.act_owner.specs.Owner.{call_at, numbered_call, packet_at, packet_for, OwnerView, submission_of, answers_of, futures_of_args, entered_call, KnowsAnswers, IsOwner, is_known_call, is_sent as owner_is_sent, is_ready as owner_is_ready, first_ready as owner_first_ready}
 use Rattle.act_owner.proofs.Calls.{set_last}
 

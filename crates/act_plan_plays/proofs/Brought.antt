@@ -1,25 +1,12 @@
 -- Each letter that was sent has arrived: what keeps it so.
-use Rattle.std.proofs.Common.{◌≡◌, ℕ, ◌-◌, Bool, true, false, cond, List, [], ◌∷◌, ◌++◌, length, Option, Some, None, inl, inr, ◌⊎◌, refl, ap, sym, ◌∙◌, subst}
-use Rattle.std.specs.Prelude.{◌||◌, not, slice_get, option_map}
-use Rattle.std.proofs.lemmas.List.Folds.{list_any-append}
-use Rattle.act_rules.specs.declared.event.Event.{Event}
+use Rattle.act_plan_plays.proofs.Common.{◌≡◌, ℕ, ◌-◌, Bool, true, false, cond, List, [], ◌∷◌, ◌++◌, length, Option, Some, None, inl, inr, ◌⊎◌, refl, ap, sym}
+use Rattle.act_plan_plays.proofs.Common.{◌∙◌, subst, ◌||◌, not, slice_get, option_map, list_any-append, Event, Letter, Submission, Did, Mail, Copies}
+use Rattle.act_plan_plays.proofs.Common.{WorldRefusal, ActorEnded, NoCaller, Sending, needs, calls_to, copies_held, send_refusal, History, is_letter}
+use Rattle.act_plan_plays.proofs.Common.{has_letter, is_ended, is_caller, calls_of, copies_of, kept_of, runs_of, refusal_of, did, add_event, after_by, after}
+use Rattle.act_plan_plays.proofs.Common.{and_also, letter_actor, deliver_refusal, call_letter, was_sent, is_last, slice_get_last, added_grows, ended_stays}
+use Rattle.act_plan_plays.proofs.Common.{letter_is, has_front, has_last, IsBrought, after_mail, after_post}
 use Rattle.act_rules.specs.declared.event.Event.TheVariants as event
-use Rattle.act_rules.specs.declared.history.Letter.{Letter}
 use Rattle.act_rules.specs.declared.history.Letter.TheVariants.{Note as NoteLetter}
-use Rattle.act_rules.specs.declared.history.Submission.{Submission}
-use Rattle.act_rules.specs.declared.outcome.Did.{Did}
-use Rattle.act_rules.specs.declared.outcome.Did.TheVariants.{Mail, Copies}
-use Rattle.act_rules.specs.declared.outcome.WorldRefusal.{WorldRefusal}
-use Rattle.act_rules.specs.declared.outcome.WorldRefusal.TheVariants.{ActorEnded, NoCaller, Sending}
-use Rattle.act_rules.specs.Submissions.{needs, calls_to, copies_held, send_refusal}
-use Rattle.act_rules.specs.History.{History, is_letter, has_letter, is_ended, is_caller, calls_of, copies_of, kept_of, runs_of}
-use Rattle.act_rules.specs.Rules.{refusal_of, did, add_event, after_by, after, and_also, letter_actor, deliver_refusal, call_letter, was_sent, is_last}
-use Rattle.act_rules.proofs.Lists.{slice_get_last}
-use Rattle.act_rules.proofs.Growth.{added_grows}
-use Rattle.act_rules.proofs.Ended.{ended_stays}
-use Rattle.act_rules.proofs.Letters.{letter_is}
-use Rattle.act_early.proofs.Notes.{has_front, has_last}
-use Rattle.act_plan_plays.specs.Parts.{IsBrought, after_mail, after_post}
 
 -- who lives after an event lived before
 pub lived : (a : ℕ) (h : History) (other : Event) → refusal_of h other ≡ None → is_ended a (add_event h other) ≡ false → is_ended a h ≡ false

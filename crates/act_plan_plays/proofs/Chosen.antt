@@ -1,28 +1,11 @@
 -- Each choice that may be made stands among those that are found.
-use Rattle.std.proofs.Common.{◌≡◌, ℕ, Bool, true, false, cond, List, [], ◌∷◌, Option, Some, None, All, refl, ap, sym, ◌∙◌, Contains}
-use Rattle.std.specs.Prelude.{◌==◌, ◌||◌, find, filter, slice_get, is_some, option_map, map}
-use Rattle.std.specs.Option.{option_map_or}
-use Rattle.std.specs.List.{list_any}
-use Rattle.act_types.specs.declared.call.Packet.{Packet}
+use Rattle.act_plan_plays.proofs.Common.{◌≡◌, ℕ, Bool, true, false, cond, List, [], ◌∷◌, Option, Some, None, All, refl, ap, sym, ◌∙◌, Contains, ◌==◌, ◌||◌}
+use Rattle.act_plan_plays.proofs.Common.{find, filter, slice_get, is_some, option_map, map, option_map_or, list_any, Packet, RunItem, Step, ActorSpec, History}
+use Rattle.act_plan_plays.proofs.Common.{contains, names, cast_of, actors_naming, is_ended, is_dead, is_retired, next_item, refusal_of, run_needs, item_of}
+use Rattle.act_plan_plays.proofs.Common.{CallerSetup, SlotView, Runs, Died, Ended, Vacant, WorldView, stage_of_slot, is_live_slot, has_next_in_slot, Refines}
+use Rattle.act_plan_plays.proofs.Common.{IsStage, next_is, item_is, At, world, take_needs, or_second, Choice, Run, Parts, Stands, HoldPlans, shows_live}
+use Rattle.act_plan_plays.proofs.Common.{shows_next, AllRuns}
 use Rattle.act_rules.specs.declared.event.Event.TheVariants as event
-use Rattle.act_rules.specs.declared.history.RunItem.{RunItem}
-use Rattle.act_rules.specs.declared.script.Step.{Step}
-use Rattle.act_rules.specs.History.{ActorSpec, History, contains, names, cast_of, actors_naming, is_ended, is_dead, is_retired, next_item}
-use Rattle.act_rules.specs.Rules.{refusal_of}
-use Rattle.act_rules.proofs.Ended.{run_needs}
-use Rattle.act_actor.specs.Actor.{item_of}
-use Rattle.act_plans.specs.declared.rising.CallerSetup.{CallerSetup}
-use Rattle.act_world.specs.View.{SlotView, Runs, Died, Ended, Vacant, WorldView, stage_of_slot}
-use Rattle.act_world.specs.Slots.{is_live_slot, has_next_in_slot}
-use Rattle.act_world.specs.Refines.{Refines, IsStage}
-use Rattle.act_world.proofs.NextCall.{next_is, item_is}
-use Rattle.act_early.specs.Plays.{At}
-use Rattle.act_early.proofs.Worlds.{world, take_needs, or_second}
-use Rattle.act_plan_plays.specs.declared.choice.Choice.{Choice}
-use Rattle.act_plan_plays.specs.declared.choice.Choice.TheVariants.{Run}
-use Rattle.act_plan_plays.specs.Parts.{Parts, Stands}
-use Rattle.act_plan_plays.specs.Play.{HoldPlans}
-use Rattle.act_plan_plays.specs.Moves.{shows_live, shows_next, AllRuns}
 use Rattle.act_plan_plays.proofs.Done.{named_listed}
 use Rattle.act_plan_plays.proofs.Seen.{cast_some}
 use Rattle.act_plan_plays.proofs.Quiet.{part_of}

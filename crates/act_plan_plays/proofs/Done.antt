@@ -1,27 +1,11 @@
 -- Nothing is left of a caller that is no choice.
-use Rattle.std.proofs.Common.{◌≡◌, ℕ, zero, suc, Bool, true, false, cond, List, [], ◌∷◌, length, Option, Some, None, refl, ap, sym, ◌∙◌, subst, Contains, arith}
-use Rattle.std.specs.Prelude.{◌==◌, ◌&&◌, ◌||◌, not, nat_lt, map, filter, find, slice_get, is_some}
-use Rattle.std.specs.List.{list_all, list_any, range_with_len}
-use Rattle.std.proofs.lemmas.Bool.{and_parts, eqb-true}
-use Rattle.std.proofs.lemmas.Bool.Decides.{nat_tests}
-use Rattle.std.proofs.lemmas.Option.{slice_get_within}
-use Rattle.act_rules.specs.declared.script.Step.{Step}
-use Rattle.act_rules.specs.declared.script.Step.TheVariants.{Kill}
-use Rattle.act_rules.specs.declared.history.Post.{Post}
+use Rattle.act_plan_plays.proofs.Common.{◌≡◌, ℕ, zero, suc, Bool, true, false, cond, List, [], ◌∷◌, length, Option, Some, None, refl, ap, sym, ◌∙◌, subst}
+use Rattle.act_plan_plays.proofs.Common.{Contains, arith, ◌==◌, ◌&&◌, ◌||◌, not, nat_lt, map, filter, find, slice_get, is_some, list_all, list_any}
+use Rattle.act_plan_plays.proofs.Common.{range_with_len, and_parts, eqb-true, nat_tests, slice_get_within, Step, Kill, Post, Submission, Answer, copies_held}
+use Rattle.act_plan_plays.proofs.Common.{kept_at, is_known, ActorSpec, History, contains, names, cast_of, actors_naming, copies_of, has_letter, call_letter}
+use Rattle.act_plan_plays.proofs.Common.{was_sent, copies_in, OwnerView, is_known_call, is_sent, is_ready, first_ready, is_known_dead, Refines, is_death_to}
+use Rattle.act_plan_plays.proofs.Common.{IsHere, At, next_step, world, Parts, Stands, held, may_take, shows_dead, is_left_out, HasNoStep, IsDone}
 use Rattle.act_rules.specs.declared.history.Post.TheVariants.{Reply as ReplyPost, Death as DeathPost}
-use Rattle.act_rules.specs.declared.history.Submission.{Submission}
-use Rattle.act_rules.specs.RunList.{Answer}
-use Rattle.act_rules.specs.Submissions.{copies_held, kept_at, is_known}
-use Rattle.act_rules.specs.History.{ActorSpec, History, contains, names, cast_of, actors_naming, copies_of, has_letter}
-use Rattle.act_rules.specs.Rules.{call_letter, was_sent}
-use Rattle.act_handles.specs.Handles.{copies_in}
-use Rattle.act_owner.specs.Owner.{OwnerView, is_known_call, is_sent, is_ready, first_ready, is_known_dead}
-use Rattle.act_world.specs.Refines.{Refines, is_death_to}
-use Rattle.act_world.proofs.OneCaller.{IsHere}
-use Rattle.act_early.specs.Plays.{At, next_step}
-use Rattle.act_early.proofs.Worlds.{world}
-use Rattle.act_plan_plays.specs.Parts.{Parts, Stands}
-use Rattle.act_plan_plays.specs.Moves.{held, may_take, shows_dead, is_left_out, HasNoStep, IsDone}
 use Rattle.act_plan_plays.proofs.Loops.{none_passes, in_range}
 use Rattle.act_plan_plays.proofs.Seen.{live_shown, cast_some, refuses}
 

@@ -1,27 +1,9 @@
 -- Whether each caller is through.
-use Rattle.std.proofs.Common.{◌≡◌, ℕ, zero, suc, ◌<◌, Bool, true, false, List, [], ◌∷◌, length, Option, Some, None, All, refl, ap, sym, ◌∙◌, subst, arith}
-use Rattle.std.specs.Prelude.{slice_get, is_some}
-use Rattle.std.specs.List.{list_all, list_any, enumerate_from}
-use Rattle.std.proofs.lemmas.Option.{slice_get_within}
-use Rattle.std.proofs.lemmas.List.{length-map}
-use Rattle.std.proofs.lemmas.List.FromFn.{length-enumerate_from}
-use Rattle.act_rules.specs.declared.event.Event.{Event}
-use Rattle.act_rules.specs.declared.script.Step.{Step}
-use Rattle.act_rules.specs.RunList.{Answer}
-use Rattle.act_rules.specs.Submissions.{kept_at}
-use Rattle.act_rules.specs.History.{ActorSpec, History, contains, is_caller, calls_of, kept_of, first_answer}
-use Rattle.act_rules.proofs.Lists.{element}
-use Rattle.act_rules.proofs.RanAll.{Retires, world_retires}
-use Rattle.act_owner.specs.Owner.{OwnerView}
-use Rattle.act_plans.specs.declared.rising.CallerSetup.{CallerSetup}
-use Rattle.act_world.specs.View.{WorldView}
-use Rattle.act_world.proofs.OneCaller.{IsHere}
-use Rattle.act_early.specs.Plays.{At, steps_of}
-use Rattle.act_early.proofs.Worlds.{world}
-use Rattle.act_early.proofs.Replies.{named_call}
-use Rattle.act_early.proofs.Listed.{named_caller}
-use Rattle.act_plan_plays.specs.Parts.{Parts, IsBehind, Stands}
-use Rattle.act_plan_plays.specs.Play.{HoldPlans, HasAnswers, IsThrough, AllThrough}
+use Rattle.act_plan_plays.proofs.Common.{◌≡◌, ℕ, zero, suc, ◌<◌, Bool, true, false, List, [], ◌∷◌, length, Option, Some, None, All, refl, ap, sym, ◌∙◌, subst}
+use Rattle.act_plan_plays.proofs.Common.{arith, slice_get, is_some, list_all, list_any, enumerate_from, slice_get_within, length-map, length-enumerate_from}
+use Rattle.act_plan_plays.proofs.Common.{Event, Step, Answer, kept_at, ActorSpec, History, contains, is_caller, calls_of, kept_of, first_answer, element}
+use Rattle.act_plan_plays.proofs.Common.{Retires, world_retires, OwnerView, CallerSetup, WorldView, IsHere, At, steps_of, world, named_call, named_caller}
+use Rattle.act_plan_plays.proofs.Common.{Parts, IsBehind, Stands, HoldPlans, HasAnswers, IsThrough, AllThrough}
 use Rattle.act_plan_plays.proofs.Quiet.{part_of}
 use Rattle.act_plan_plays.proofs.Moving.{next_is}
 

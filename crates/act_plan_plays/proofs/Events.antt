@@ -1,20 +1,9 @@
 -- One event, and one letter that it tells.
-use Rattle.std.proofs.Common.{◌≡◌, ℕ, true, false, List, [], ◌∷◌, ◌++◌, Option, Some, None, Ok, Err, IsOk, All, refl, ap, sym, ◌∙◌, subst}
-use Rattle.std.specs.Prelude.{is_ok}
-use Rattle.std.proofs.lemmas.List.Elements.{All-append, All-cons, All-nil}
-use Rattle.act_rules.specs.declared.event.Event.{Event}
-use Rattle.act_rules.specs.declared.event.Event.TheVariants.{Deliver}
-use Rattle.act_rules.specs.declared.outcome.Did.{Did}
+use Rattle.act_plan_plays.proofs.Common.{◌≡◌, ℕ, true, false, List, [], ◌∷◌, ◌++◌, Option, Some, None, Ok, Err, IsOk, All, refl, ap, sym, ◌∙◌, subst, is_ok}
+use Rattle.act_plan_plays.proofs.Common.{All-append, All-cons, All-nil, Event, Deliver, Did, WorldRefusal, ActorSpec, History, opening, history, Outcome}
+use Rattle.act_plan_plays.proofs.Common.{refusal_of, did, add_event, outcome_by, after_by, outcome_of, after, outcomes, after_all-append, outcomes-append}
+use Rattle.act_plan_plays.proofs.Common.{WorldView, Refines, IsReachedBy, IsBehind, after_mail, after_post}
 use Rattle.act_rules.specs.declared.outcome.Did.TheVariants as did_so
-use Rattle.act_rules.specs.declared.outcome.WorldRefusal.{WorldRefusal}
-use Rattle.act_rules.specs.History.{ActorSpec, History, opening}
-use Rattle.act_rules.specs.Laws.{history}
-use Rattle.act_rules.specs.Rules.{Outcome, refusal_of, did, add_event, outcome_by, after_by, outcome_of, after, outcomes}
-use Rattle.act_rules.proofs.Steps.{after_all-append, outcomes-append}
-use Rattle.act_world.specs.View.{WorldView}
-use Rattle.act_world.specs.Refines.{Refines}
-use Rattle.act_world.specs.IsReachedBy.{IsReachedBy}
-use Rattle.act_plan_plays.specs.Parts.{IsBehind, after_mail, after_post}
 
 -- ---- what is told of an event
 

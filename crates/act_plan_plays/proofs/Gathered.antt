@@ -1,13 +1,7 @@
 -- What is gathered of those that pass a test.
-use Rattle.std.proofs.Common.{◌≡◌, ℕ, ◌+◌, ◌<◌, ◌≤◌, Bool, true, false, List, [], ◌∷◌, ◌++◌, length, take, get_or, ap, sym, ◌∙◌, subst, Contains, arith}
-use Rattle.std.specs.Prelude.{◌==◌, ◌||◌}
-use Rattle.std.proofs.lemmas.Bool.{eqb-true}
-use Rattle.std.proofs.lemmas.List.{take_more, take_all}
-use Rattle.std.proofs.lemmas.List.Elements.{Contains-append_left, Contains-append_right}
-use Rattle.act_rules.specs.Consistent.{IsPrefix}
-use Rattle.act_rules.specs.History.{contains}
-use Rattle.act_rules.proofs.Lists.{front_trans}
-use Rattle.act_early.proofs.Worlds.{contains_push, either_of}
+use Rattle.act_plan_plays.proofs.Common.{◌≡◌, ℕ, ◌+◌, ◌<◌, ◌≤◌, Bool, true, false, List, [], ◌∷◌, ◌++◌, length, take, get_or, ap, sym, ◌∙◌, subst, Contains}
+use Rattle.act_plan_plays.proofs.Common.{arith, ◌==◌, ◌||◌, eqb-true, take_more, take_all, Contains-append_left, Contains-append_right, IsPrefix, contains}
+use Rattle.act_plan_plays.proofs.Common.{front_trans, contains_push, either_of}
 
 -- each of these that passes was made
 abbrev pub HasMade : {X : Type 0} → (ℕ → Bool) → (ℕ → X) → List ℕ → List X → Type 0

@@ -1,16 +1,8 @@
 -- Loops over a list: what holds of all so far.
-use Rattle.std.proofs.Common.{◌≡◌, ℕ, zero, suc, ◌+◌, ◌<◌, ◌≤◌, inl, inr, ◌⊎◌, arith, Bool, true, false, if◌then◌else◌, List, [], ◌∷◌, ◌++◌, length, take, get_or, Option, Some, None, All, refl, ap, sym, ◌∙◌, subst}
-use Rattle.std.specs.Prelude.{◌==◌, ◌||◌, find, is_some, Result, Ok}
-use Rattle.std.proofs.lemmas.Bool.{eqb-true, eq-eqb, cases_lt}
-use Rattle.std.proofs.lemmas.List.{take_more, take_all}
-use Rattle.std.proofs.lemmas.List.Elements.{All-push}
-use Rattle.std.proofs.lemmas.List.Folds.{find-append}
-use Rattle.std.specs.Option.{option_or}
-use Rattle.std.specs.List.{range_with_len}
-use Rattle.act_rules.specs.History.{contains}
-use Rattle.act_rules.proofs.Lists.{range_push}
-use Rattle.act_rules.proofs.Ended.{contains_more}
-use Rattle.act_early.proofs.Worlds.{contains_push, or_second}
+use Rattle.act_plan_plays.proofs.Common.{◌≡◌, ℕ, zero, suc, ◌+◌, ◌<◌, ◌≤◌, inl, inr, ◌⊎◌, arith, Bool, true, false, if◌then◌else◌, List, [], ◌∷◌, ◌++◌, length}
+use Rattle.act_plan_plays.proofs.Common.{take, get_or, Option, Some, None, All, refl, ap, sym, ◌∙◌, subst, ◌==◌, ◌||◌, find, is_some, Result, Ok, eqb-true}
+use Rattle.act_plan_plays.proofs.Common.{eq-eqb, cases_lt, take_more, take_all, All-push, find-append, option_or, range_with_len, contains, range_push}
+use Rattle.act_plan_plays.proofs.Common.{contains_more, contains_push, or_second}
 
 -- none so far is found
 pub none_more : {X : Type 0} (p : X → Bool) (xs : List X) (i : ℕ) (x : X) → i < length xs → x ≡ get_or xs i x → p x ≡ false → find p (take i xs) ≡ None → find p (take (i + 1) xs) ≡ None

@@ -1,29 +1,15 @@
 -- What is done without a choice: where the play stands then.
-use Rattle.std.proofs.Common.{◌≡◌, ◌≢◌, ℕ, ◌+◌, ◌<◌, ◌≤◌, Bool, true, false, cond, List, [], ◌∷◌, ◌++◌, length, Option, Some, None, refl, ap, sym, ◌∙◌, subst, arith, get_or}
-use Rattle.std.specs.Prelude.{◌==◌, ◌||◌, nat_lt, slice_get, slice_set}
-use Rattle.std.proofs.lemmas.Bool.{eqb-true, eq-eqb, ltb-true}
-use Rattle.std.proofs.lemmas.Option.{slice_get_past, slice_get-get_or, get_or_from_slice_get}
-use Rattle.act_rules.specs.declared.event.Event.{Event}
+use Rattle.act_plan_plays.proofs.Common.{◌≡◌, ◌≢◌, ℕ, ◌+◌, ◌<◌, ◌≤◌, Bool, true, false, cond, List, [], ◌∷◌, ◌++◌, length, Option, Some, None, refl, ap, sym}
+use Rattle.act_plan_plays.proofs.Common.{◌∙◌, subst, arith, get_or, ◌==◌, ◌||◌, nat_lt, slice_get, slice_set, eqb-true, eq-eqb, ltb-true, slice_get_past}
+use Rattle.act_plan_plays.proofs.Common.{slice_get-get_or, get_or_from_slice_get, Event, Did, WorldRefusal, Step, Submit, Copy, Release, Kill, Await}
+use Rattle.act_plan_plays.proofs.Common.{occurrences, ActorSpec, History, contains, names, cast_of, is_dead, refusal_of, did, add_event, after_by, after}
+use Rattle.act_plan_plays.proofs.Common.{slice_get_last, WorldView, get_set-same, get_set-other, contains_push, At, steps_of, next_step, MayTake, taken}
+use Rattle.act_plan_plays.proofs.Common.{skipped, with_event, IsPlay, Closes, Happens, HaveSameChoices, occurrences-push, Quiesces, quiesces_same}
+use Rattle.act_plan_plays.proofs.Common.{quiesces_trans, quiet_quiesces, step_quiesces, skip_quiesces, death_quiesces, Parts, IsBehind, HasSteps, HasAsked}
+use Rattle.act_plan_plays.proofs.Common.{IsBrought, Stands, after_mail, after_post, after_move, HasDone}
 use Rattle.act_rules.specs.declared.event.Event.TheVariants as event
-use Rattle.act_rules.specs.declared.outcome.Did.{Did}
 use Rattle.act_rules.specs.declared.outcome.Did.TheVariants as did_so
-use Rattle.act_rules.specs.declared.outcome.WorldRefusal.{WorldRefusal}
 use Rattle.act_rules.specs.declared.history.Post.TheVariants.{Death as DeathPost}
-use Rattle.act_rules.specs.declared.script.Step.{Step}
-use Rattle.act_rules.specs.declared.script.Step.TheVariants.{Submit, Copy, Release, Kill, Await}
-use Rattle.act_rules.specs.Plans.{occurrences}
-use Rattle.act_rules.specs.History.{ActorSpec, History, contains, names, cast_of, is_dead}
-use Rattle.act_rules.specs.Rules.{refusal_of, did, add_event, after_by, after}
-use Rattle.act_rules.proofs.Lists.{slice_get_last}
-use Rattle.act_world.specs.View.{WorldView}
-use Rattle.act_world.proofs.Lists.{get_set-same, get_set-other}
-use Rattle.act_early.proofs.Worlds.{contains_push}
-use Rattle.act_early.specs.Plays.{At, steps_of, next_step, MayTake, taken, skipped, with_event, IsPlay, Closes, Happens}
-use Rattle.act_early.specs.Fronts.{HaveSameChoices}
-use Rattle.act_early.proofs.Counting.{occurrences-push}
-use Rattle.act_early.proofs.Quiesces.{Quiesces, quiesces_same, quiesces_trans, quiet_quiesces, step_quiesces, skip_quiesces, death_quiesces}
-use Rattle.act_plan_plays.specs.Parts.{Parts, IsBehind, HasSteps, HasAsked, IsBrought, Stands, after_mail, after_post, after_move}
-use Rattle.act_plan_plays.specs.Moves.{HasDone}
 use Rattle.act_plan_plays.proofs.Brought.{brought_kept, brought_release, brought_send}
 
 -- where the play comes to

@@ -1,24 +1,8 @@
 -- A play as it is opened, and as contracts see it.
-use Rattle.std.proofs.Common.{◌≡◌, ℕ, zero, suc, ◌<◌, Bool, true, false, List, [], ◌∷◌, Some, refl, ap, sym, ◌∙◌, subst, arith, replicate}
-use Rattle.std.specs.Prelude.{◌||◌, map, slice_get, IsOk}
-use Rattle.std.proofs.lemmas.Bool.{eq-eqb}
-use Rattle.std.proofs.lemmas.List.Elements.{All-nil}
-use Rattle.act_rules.specs.declared.outcome.Did.{Did}
-use Rattle.act_rules.specs.declared.outcome.WorldRefusal.{WorldRefusal}
-use Rattle.act_rules.specs.declared.event.Event.{Event}
-use Rattle.act_rules.specs.declared.script.Step.{Step}
-use Rattle.act_rules.specs.declared.history.RunItem.{RunItem}
-use Rattle.act_rules.specs.History.{ActorSpec, History, contains, runs_of}
-use Rattle.act_world.specs.View.{WorldView}
-use Rattle.act_world.specs.IsReachedBy.{IsReachedBy}
-use Rattle.act_early.specs.Plays.{At, opened, Opens}
-use Rattle.act_early.specs.Early.{is_heard}
-use Rattle.act_early.specs.Fronts.{HaveSameChoices}
-use Rattle.act_plan_plays.specs.Parts.{Parts, Stands}
-use Rattle.act_types.specs.KindState.{KindState}
-use Rattle.act_world.specs.declared.slot.Slot.{Slot}
-use Rattle.act_plan_plays.specs.View.{PlanPlayOf}
-use Rattle.act_plan_plays.specs.Play.{PlanPlayView, play_view, HoldPlans, StandsAt}
+use Rattle.act_plan_plays.proofs.Common.{◌≡◌, ℕ, zero, suc, ◌<◌, Bool, true, false, List, [], ◌∷◌, Some, refl, ap, sym, ◌∙◌, subst, arith, replicate, ◌||◌, map}
+use Rattle.act_plan_plays.proofs.Common.{slice_get, IsOk, eq-eqb, All-nil, Did, WorldRefusal, Event, Step, RunItem, ActorSpec, History, contains, runs_of}
+use Rattle.act_plan_plays.proofs.Common.{WorldView, IsReachedBy, At, opened, Opens, is_heard, HaveSameChoices, Parts, Stands, KindState, Slot, PlanPlayOf}
+use Rattle.act_plan_plays.proofs.Common.{PlanPlayView, play_view, HoldPlans, StandsAt}
 
 zeros : (n c : ℕ) → c < n → slice_get {X = ℕ} (replicate n 0) c ≡ Some 0
 zeros zero c below = absurd (omega arith)

@@ -1,22 +1,8 @@
 -- The parts that are prepared hold the plans.
-use Rattle.std.proofs.Common.{◌≡◌, ℕ, zero, suc, Bool, true, false, if◌then◌else◌, List, [], ◌∷◌, map, Some, All, refl, sym, ◌∙◌, ap, subst, arith, Contains}
-use Rattle.std.specs.Prelude.{◌==◌, ◌||◌, find, filter}
-use Rattle.std.specs.List.{list_any}
-use Rattle.std.specs.Global.{Vec}
-use Rattle.std.proofs.lemmas.Bool.{eqb-true}
-use Rattle.act_types.specs.KindState.{KindState}
-use Rattle.act_rules.specs.declared.script.Step.{Step}
-use Rattle.act_rules.specs.History.{ActorSpec, contains}
-use Rattle.act_rules.specs.Report.{one_to}
-use Rattle.act_rules.proofs.Lists.{list_any-map}
-use Rattle.act_actor.specs.declared.cast.Cast.{Cast}
-use Rattle.act_actor.specs.Casts.{actor_spec}
-use Rattle.act_plans.specs.declared.rising.CallerSetup.{CallerSetup}
-use Rattle.act_plans.specs.Setups.{PlansFit}
-use Rattle.act_plans.specs.Prepared.{setup_view, setup_of, callers_named_by, HasNumbers, plan_in, steps_given}
-use Rattle.act_plans.proofs.ActorSpecs.{setups_view, plans_are, actors_are, plan_of_view}
-use Rattle.act_plan_plays.specs.Play.{HoldPlans}
-use Rattle.act_plan_plays.specs.Prepared.{plans_given}
+use Rattle.act_plan_plays.proofs.Common.{◌≡◌, ℕ, zero, suc, Bool, true, false, if◌then◌else◌, List, [], ◌∷◌, map, Some, All, refl, sym, ◌∙◌, ap, subst, arith}
+use Rattle.act_plan_plays.proofs.Common.{Contains, ◌==◌, ◌||◌, find, filter, list_any, Vec, eqb-true, KindState, Step, ActorSpec, contains, one_to}
+use Rattle.act_plan_plays.proofs.Common.{list_any-map, Cast, actor_spec, CallerSetup, PlansFit, setup_view, setup_of, callers_named_by, HasNumbers, plan_in}
+use Rattle.act_plan_plays.proofs.Common.{steps_given, setups_view, plans_are, actors_are, plan_of_view, HoldPlans, plans_given}
 
 -- ---- the numbers of callers
 

@@ -1,24 +1,9 @@
 -- Nothing is left of any caller: the play is quiescent.
-use Rattle.std.proofs.Common.{◌≡◌, ℕ, ◌<◌, Bool, true, false, List, [], length, Some, None, All, refl, ap, sym, ◌∙◌, subst, Contains, get_or, arith}
-use Rattle.std.specs.Prelude.{map, slice_get}
-use Rattle.std.specs.List.{list_any}
-use Rattle.std.proofs.lemmas.List.{length-map, get_or-map}
-use Rattle.std.proofs.lemmas.Option.{get_or_from_slice_get}
-use Rattle.act_rules.proofs.Lists.{element}
+use Rattle.act_plan_plays.proofs.Common.{◌≡◌, ℕ, ◌<◌, Bool, true, false, List, [], length, Some, None, All, refl, ap, sym, ◌∙◌, subst, Contains, get_or, arith}
+use Rattle.act_plan_plays.proofs.Common.{map, slice_get, list_any, length-map, get_or-map, get_or_from_slice_get, element, Step, calls_to, ActorSpec, History}
+use Rattle.act_plan_plays.proofs.Common.{contains, names, cast_of, is_caller, calls_of, CallerSetup, At, steps_of, next_step, IsQuiescent, IsWorld, world}
+use Rattle.act_plan_plays.proofs.Common.{named_call, named_caller, notes_sent, Parts, Stands, HoldPlans, IsDone}
 use Rattle.act_rules.specs.declared.history.Letter.TheVariants.{Note as NoteLetter}
-use Rattle.act_rules.specs.declared.script.Step.{Step}
-use Rattle.act_rules.specs.Submissions.{calls_to}
-use Rattle.act_rules.specs.History.{ActorSpec, History, contains, names, cast_of, is_caller, calls_of}
-use Rattle.act_plans.specs.declared.rising.CallerSetup.{CallerSetup}
-use Rattle.act_early.specs.Plays.{At, steps_of, next_step}
-use Rattle.act_early.specs.Early.{IsQuiescent}
-use Rattle.act_early.proofs.Worlds.{IsWorld, world}
-use Rattle.act_early.proofs.Replies.{named_call}
-use Rattle.act_early.proofs.Listed.{named_caller}
-use Rattle.act_early.proofs.Notes.{notes_sent}
-use Rattle.act_plan_plays.specs.Parts.{Parts, Stands}
-use Rattle.act_plan_plays.specs.Play.{HoldPlans}
-use Rattle.act_plan_plays.specs.Moves.{IsDone}
 
 -- ---- what holds of each part holds of each caller that has one
 

@@ -1,22 +1,9 @@
 -- Actors that retire at the end of a play.
-use Rattle.std.proofs.Common.{◌≡◌, ℕ, ◌+◌, ◌≤◌, Bool, true, false, List, [], ◌∷◌, ◌++◌, Option, Some, None, refl, ap, sym, ◌∙◌, subst, leb, arith}
-use Rattle.std.specs.Prelude.{◌==◌, ◌||◌, slice_get, is_some}
-use Rattle.std.specs.Option.{option_map_or}
-use Rattle.std.proofs.lemmas.Bool.{eq-eqb, leb-true, leb-false}
-use Rattle.act_rules.specs.declared.event.Event.{Event}
-use Rattle.act_rules.specs.declared.event.Event.TheVariants.{Retire}
-use Rattle.act_rules.specs.declared.script.Step.{Step}
-use Rattle.act_rules.specs.History.{ActorSpec, History, contains, cast_of, runs_of, is_dead, is_retired, is_ended}
-use Rattle.act_rules.specs.Rules.{refusal_of, add_event}
-use Rattle.act_rules.proofs.Ended.{ended_stays}
-use Rattle.act_world.specs.View.{SlotView, Runs, Died, Ended, Vacant, WorldView, stage_of_slot}
-use Rattle.act_world.specs.Slots.{is_live_slot}
-use Rattle.act_world.specs.Refines.{Refines, IsStage}
-use Rattle.act_early.specs.Plays.{At, with_event, Happens}
-use Rattle.act_early.proofs.Worlds.{contains_push, or_second}
-use Rattle.act_plan_plays.specs.Parts.{Parts, IsBehind, Stands}
-use Rattle.act_plan_plays.specs.Moves.{shows_live}
-use Rattle.act_plan_plays.specs.Retired.{AllOver, GoesOnRetired, IsRetiredFrom}
+use Rattle.act_plan_plays.proofs.Common.{◌≡◌, ℕ, ◌+◌, ◌≤◌, Bool, true, false, List, [], ◌∷◌, ◌++◌, Option, Some, None, refl, ap, sym, ◌∙◌, subst, leb, arith}
+use Rattle.act_plan_plays.proofs.Common.{◌==◌, ◌||◌, slice_get, is_some, option_map_or, eq-eqb, leb-true, leb-false, Event, Retire, Step, ActorSpec, History}
+use Rattle.act_plan_plays.proofs.Common.{contains, cast_of, runs_of, is_dead, is_retired, is_ended, refusal_of, add_event, ended_stays, SlotView, Runs, Died}
+use Rattle.act_plan_plays.proofs.Common.{Ended, Vacant, WorldView, stage_of_slot, is_live_slot, Refines, IsStage, At, with_event, Happens, contains_push}
+use Rattle.act_plan_plays.proofs.Common.{or_second, Parts, IsBehind, Stands, shows_live, AllOver, GoesOnRetired, IsRetiredFrom}
 
 pub begins : (casts : List ActorSpec) (plans : ℕ → List Step) (at : At) (parts : Parts) → Stands casts plans at parts → IsRetiredFrom casts plans at at parts.world parts.events
 begins casts plans at parts s = record {

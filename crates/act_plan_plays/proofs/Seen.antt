@@ -1,30 +1,11 @@
 -- What a caller and the world show, and what the history says of it.
-use Rattle.std.proofs.Common.{◌≡◌, ℕ, Bool, true, false, List, [], Option, Some, None, refl, ap, sym, ◌∙◌}
-use Rattle.std.specs.Prelude.{◌==◌, ◌&&◌, not, nat_lt, slice_get, is_some, is_none, option_map}
-use Rattle.std.specs.Option.{option_map_or}
-use Rattle.std.specs.List.{list_any}
-use Rattle.std.proofs.lemmas.Bool.{and_parts, and_from}
-use Rattle.act_rules.specs.declared.script.Step.{Step}
-use Rattle.act_rules.specs.declared.script.Step.TheVariants.{Submit, Copy, Release, Kill, Await}
-use Rattle.act_rules.specs.declared.outcome.HandleRefusal.TheVariants.{NoActor, NoHandle, TooManyCopies}
-use Rattle.act_rules.specs.declared.outcome.SubmitRefusal.{SubmitRefusal}
+use Rattle.act_plan_plays.proofs.Common.{◌≡◌, ℕ, Bool, true, false, List, [], Option, Some, None, refl, ap, sym, ◌∙◌, ◌==◌, ◌&&◌, not, nat_lt, slice_get}
+use Rattle.act_plan_plays.proofs.Common.{is_some, is_none, option_map, option_map_or, list_any, and_parts, and_from, Step, Submit, Copy, Release, Kill, Await}
+use Rattle.act_plan_plays.proofs.Common.{NoActor, NoHandle, TooManyCopies, SubmitRefusal, Answer, needs, copies_held, handle_refusal, copy_refusal, kept_at}
+use Rattle.act_plan_plays.proofs.Common.{ActorSpec, History, names, cast_of, is_caller, copies_of, is_dead, option_map-none, needs-none, copies_named}
+use Rattle.act_plan_plays.proofs.Common.{copies_in, OwnerView, refusal_to_submit, SlotView, Runs, Died, Ended, Vacant, WorldView, stage_of_slot, is_dead_slot}
+use Rattle.act_plan_plays.proofs.Common.{Refines, IsOwnerOf, IsStage, IsHere, submission_refused, MayTake, not_dead, held, may_take, shows_dead, is_left_out}
 use Rattle.act_rules.specs.declared.outcome.WorldRefusal.TheVariants.{NoCaller, Handle, Submit as SubmitRefused}
-use Rattle.act_rules.specs.RunList.{Answer}
-use Rattle.act_rules.specs.Submissions.{needs, copies_held, handle_refusal, copy_refusal, kept_at}
-use Rattle.act_rules.specs.History.{ActorSpec, History, names, cast_of, is_caller, copies_of, is_dead}
-use Rattle.act_rules.proofs.Lists.{option_map-none}
-use Rattle.act_rules.proofs.Ended.{needs-none}
-use Rattle.act_rules.proofs.RanAll.{copies_named}
-use Rattle.act_handles.specs.Handles.{copies_in}
-use Rattle.act_owner.specs.Owner.{OwnerView, refusal_to_submit}
-use Rattle.act_world.specs.View.{SlotView, Runs, Died, Ended, Vacant, WorldView, stage_of_slot}
-use Rattle.act_world.specs.Slots.{is_dead_slot}
-use Rattle.act_world.specs.Refines.{Refines, IsOwnerOf, IsStage}
-use Rattle.act_world.proofs.OneCaller.{IsHere}
-use Rattle.act_world.proofs.Submitting.{submission_refused}
-use Rattle.act_early.specs.Plays.{MayTake}
-use Rattle.act_early.proofs.Worlds.{not_dead}
-use Rattle.act_plan_plays.specs.Moves.{held, may_take, shows_dead, is_left_out}
 
 -- ---- whether an actor is dead
 

@@ -1,21 +1,10 @@
 -- The prepared casts and parts, told of the actor specifications and the plans of a run.
-use Rattle.std.proofs.Common.{◌≡◌, ℕ, ◌==◌, Bool, true, false, if◌then◌else◌, List, [], ◌∷◌, map, Option, Some, None, refl, sym, ◌∙◌, ap, All}
-use Rattle.std.specs.Prelude.{find, filter, filter_map, slice_get, option_map}
-use Rattle.std.specs.List.{list_any, cons_option}
-use Rattle.std.specs.Global.{Vec}
-use Rattle.std.proofs.lemmas.Simd.{map-map}
-use Rattle.std.proofs.lemmas.List.Elements.{All-weaker, filter_agree}
-use Rattle.act_types.specs.KindState.{KindState}
-use Rattle.act_rules.specs.declared.script.Step.{Step}
+use Rattle.act_plans.proofs.Common.{◌≡◌, ℕ, ◌==◌, Bool, true, false, if◌then◌else◌, List, [], ◌∷◌, map, Option, Some, None, refl, sym, ◌∙◌, ap, All, find}
+use Rattle.act_plans.proofs.Common.{filter, filter_map, slice_get, option_map, list_any, cons_option, Vec, map-map, All-weaker, filter_agree, KindState, Step}
+use Rattle.act_plans.proofs.Common.{first_bad, one_to, find-map, list_any-map, Cast, actor_spec, actors_that_name, limits_that_name, actors_naming-actor_spec}
+use Rattle.act_plans.proofs.Common.{CallerSetup, Role, setup_view, setup_of, plan_in, steps_given, bad_of_setup, HasNumbers}
 use Rattle.act_rules.specs.History.{ActorSpec, contains, actors_naming as naming_view}
-use Rattle.act_rules.specs.Plans.{first_bad}
-use Rattle.act_rules.specs.Report.{one_to}
-use Rattle.act_rules.proofs.Lists.{find-map, list_any-map}
-use Rattle.act_actor.specs.declared.cast.Cast.{Cast}
-use Rattle.act_actor.specs.Casts.{actor_spec, actors_that_name, limits_that_name}
-use Rattle.act_actor.proofs.ActorSpecs.{actors_naming-actor_spec}
-use Rattle.act_plans.specs.declared.rising.CallerSetup.{CallerSetup}
-use Rattle.act_plans.specs.Prepared.{Role, setup_view, setup_of, plan_in, steps_given, bad_of_setup, by_rising_actor, callers_named_by, HasNumbers}
+use Rattle.act_plans.specs.Prepared.{by_rising_actor, callers_named_by}
 use Rattle.act_plans.specs.Runs.{limits_naming as limits_view, callers_of_casts, actors_of_casts, cast_at, steps_of_plan, plan_of, bad_step_of, first_bad_plan}
 use Rattle.act_plans.proofs.Keys.{each_first}
 use Rattle.act_plans.proofs.Matching.{actors_rising, found_rising, callers_are, roles_are}

@@ -1,16 +1,8 @@
 -- Elements that are searched by a key, and those found for keys one after another.
-use Rattle.std.proofs.Common.{◌≡◌, ◌≢◌, ℕ, suc, ◌<◌, ◌==◌, Bool, true, false, ◌&&◌, ◌||◌, if◌then◌else◌, List, [], ◌∷◌, length, map, get_or, Option, Some, None, refl, sym, ◌∙◌, ap, subst, arith, eq-eqb, inl, inr, All, AllPairs}
-use Rattle.std.specs.Prelude.{find, filter, filter_map}
-use Rattle.std.specs.List.{list_any, cons_option, position_or_len}
-use Rattle.std.proofs.lemmas.Bool.{ne_eqb, eqb-true}
-use Rattle.std.proofs.lemmas.Bool.Decides.{eqb_tells}
-use Rattle.std.proofs.lemmas.List.{length-map, get_or-map}
-use Rattle.std.proofs.lemmas.List.Elements.{All-nil, All-cons}
-use Rattle.std.proofs.lemmas.List.Folds.{find_at, list_any_at, list_any_none}
-use Rattle.std.proofs.lemmas.List.Sums.{passes_at_first}
-use Rattle.std.proofs.lemmas.Option.{slice_get_within, get_or_from_slice_get}
-use Rattle.std.proofs.Math.Bool.{or-false}
-use Rattle.act_rules.specs.History.{contains}
+use Rattle.act_plans.proofs.Common.{◌≡◌, ◌≢◌, ℕ, suc, ◌<◌, ◌==◌, Bool, true, false, ◌&&◌, ◌||◌, if◌then◌else◌, List, [], ◌∷◌, length, map, get_or, Option, Some}
+use Rattle.act_plans.proofs.Common.{None, refl, sym, ◌∙◌, ap, subst, arith, eq-eqb, inl, inr, All, AllPairs, find, filter, filter_map, list_any, cons_option}
+use Rattle.act_plans.proofs.Common.{position_or_len, ne_eqb, eqb-true, eqb_tells, length-map, get_or-map, All-nil, All-cons, find_at, list_any_at}
+use Rattle.act_plans.proofs.Common.{list_any_none, passes_at_first, slice_get_within, get_or_from_slice_get, or-false, contains}
 
 -- ---- pairs
 

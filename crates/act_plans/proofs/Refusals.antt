@@ -1,24 +1,11 @@
 -- What a draft knows of a step, and the first step of a plan that is refused.
-use Rattle.std.proofs.Common.{◌≡◌, ℕ, ◌+◌, ◌-◌, ◌≤◌, ◌<◌, Bool, true, false, not, if◌then◌else◌, nat_lt, nat_le, List, [], ◌∷◌, length, map, drop, get_or, Option, Some, None, is_some, Result, Ok, Err, refl, sym, ◌∙◌, ap, arith, length-append}
-use Rattle.std.specs.Prelude.{OnOk}
-use Rattle.std.specs.Result.{is_ok, is_err}
-use Rattle.std.specs.List.{list_all, fold}
-use Rattle.std.proofs.lemmas.Bool.{le-leb}
-use Rattle.std.proofs.lemmas.List.{drop_more}
-use Rattle.act_types.specs.declared.call.Method.{Method}
-use Rattle.act_types.specs.declared.call.Arg.{Arg}
-use Rattle.act_rules.specs.declared.outcome.HandleRefusal.{HandleRefusal}
-use Rattle.act_rules.specs.declared.script.Step.{Step}
-use Rattle.act_rules.specs.declared.script.Step.TheVariants.{Submit, Copy, Release}
-use Rattle.act_rules.specs.Plans.{Progress, nothing_done, holds, do_step, is_refused, first_bad, first_bad_from}
-use Rattle.act_rules.specs.Submissions.{copies_held, copy_refusal, handle_refusal, submit_refusal, is_earlier}
-use Rattle.act_rules.proofs.Ended.{needs-none}
-use Rattle.act_handles.specs.declared.handles.Handle.{Handle}
-use Rattle.act_handles.specs.Handles.{is_of, change_handle, new_handle, copies_in, given_of_all, with_copy, with_number, without_copy, number_refusal, or_else, copy_answer, number_answer, release_answer}
-use Rattle.act_handles.proofs.Lookups.{copies-opened, given_of_all-opened, copies-with_number}
-use Rattle.act_handles.proofs.Copies.{release_copies, copy_copies}
-use Rattle.act_plans.specs.declared.plan_checker.PlanChecker.{PlanChecker}
-use Rattle.act_plans.specs.PlanChecks.{IsAfter, ChecksStep}
+use Rattle.act_plans.proofs.Common.{◌≡◌, ℕ, ◌+◌, ◌-◌, ◌≤◌, ◌<◌, Bool, true, false, not, if◌then◌else◌, nat_lt, nat_le, List, [], ◌∷◌, length, map, drop, get_or}
+use Rattle.act_plans.proofs.Common.{Option, Some, None, is_some, Result, Ok, Err, refl, sym, ◌∙◌, ap, arith, length-append, OnOk, is_ok, is_err, list_all, fold}
+use Rattle.act_plans.proofs.Common.{le-leb, drop_more, Method, Arg, HandleRefusal, Step, Submit, Copy, Release, Progress, nothing_done, holds, do_step}
+use Rattle.act_plans.proofs.Common.{is_refused, first_bad, first_bad_from, copies_held, copy_refusal, handle_refusal, submit_refusal, is_earlier, needs-none}
+use Rattle.act_plans.proofs.Common.{Handle, is_of, change_handle, new_handle, copies_in, given_of_all, with_copy, with_number, without_copy, number_refusal}
+use Rattle.act_plans.proofs.Common.{or_else, copy_answer, number_answer, release_answer, copies-opened, given_of_all-opened, copies-with_number, release_copies}
+use Rattle.act_plans.proofs.Common.{copy_copies, PlanChecker, IsAfter, ChecksStep}
 
 -- ---- what was not refused
 

@@ -9,7 +9,6 @@ use Rattle.act_rules.specs.declared.script.Wrong.{Wrong}
 use Rattle.act_rules.specs.Grammar.{Script}
 use Rattle.act_console.specs.declared.fault.ConsoleFault.TheVariants as faults
 use Rattle.act_console.specs.Input.{IsWholeInput}
-use Rattle.act_console.specs.Output.{AppendsPrefix}
 use Rattle.act_console.specs.Threads.{spelled_threads}
 use Rattle.act_record.specs.declared.answer.Answer.{Answer}
 use Rattle.act_record.specs.declared.answer.Answer.TheVariants as answers

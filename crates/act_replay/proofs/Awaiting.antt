@@ -1,35 +1,13 @@
 -- No play of its plans leaves the circle of awaits.
-use Rattle.std.proofs.Common.{◌≡◌, ℕ, ◌==◌, Bool, true, false, cond, List, [], ◌∷◌, ◌++◌, Some, None, inl, inr, refl, sym, ap, ◌∙◌, subst, arith, append-nil, append_assoc}
-use Rattle.std.specs.Prelude.{Option, map, ◌⊎◌, slice_get, is_some}
-use Rattle.std.specs.List.{AllByRecursion}
-use Rattle.std.proofs.lemmas.List.Elements.{recursion_from_All}
-use Rattle.act_types.specs.declared.call.Method.TheVariants.{Push}
-use Rattle.act_types.specs.declared.call.Method.{Method}
-use Rattle.act_types.specs.declared.call.Arg.{Arg}
-use Rattle.act_rules.specs.declared.event.Event.{Event}
-use Rattle.act_rules.specs.declared.event.Event.TheVariants.{Submit, Copy, Release, Send, Deliver, Run, Collect, AskKill, TakeKill, Tell, Retire}
-use Rattle.act_rules.specs.declared.outcome.WorldRefusal.{WorldRefusal}
-use Rattle.act_rules.specs.declared.history.RunItem.{RunItem}
-use Rattle.act_rules.specs.declared.history.Submission.{Submission}
-use Rattle.act_rules.specs.declared.script.Step.{Step}
+use Rattle.act_replay.proofs.Common.{◌≡◌, ℕ, ◌==◌, Bool, true, false, cond, List, [], ◌∷◌, ◌++◌, Some, None, inl, inr, refl, sym, ap, ◌∙◌, subst, arith}
+use Rattle.act_replay.proofs.Common.{append-nil, append_assoc, Option, map, ◌⊎◌, slice_get, is_some, AllByRecursion, recursion_from_All, Push, Method, Arg}
+use Rattle.act_replay.proofs.Common.{Event, Submit, Copy, Release, Send, Deliver, Run, Collect, AskKill, TakeKill, Tell, Retire, WorldRefusal, RunItem}
+use Rattle.act_replay.proofs.Common.{Submission, Step, Answer, kept_at, IsPrefix, Consistent, History, opening, opening_of, calls_of, runs_of, kept_of, is_dead}
+use Rattle.act_replay.proofs.Common.{next_item, history, refusal_of, add_event, after, after_by, after_run, after_all, slice_get_front, after_all_keeps}
+use Rattle.act_replay.proofs.Common.{after_all-append, under-push, dead_stays, held_submission, IsSound, world_sound, consistent, is_death, is_death-only}
+use Rattle.act_replay.proofs.Common.{IsOwnerIn, IsEndIn, step_of, IsMeanwhile, DoesPlanIn, circle_casts, five_arg, circle_push, circle_ran, IsUnplanned}
+use Rattle.act_replay.proofs.Common.{await_plan, await_plans, await_calls, await_log, await_owner, await_owners, await_end, await_ends}
 use Rattle.act_rules.specs.declared.script.Step.TheVariants.{Submit as SubmitStep, Release as ReleaseStep, Await as AwaitStep}
-use Rattle.act_rules.specs.RunList.{Answer}
-use Rattle.act_rules.specs.Submissions.{kept_at}
-use Rattle.act_rules.specs.Consistent.{IsPrefix, Consistent}
-use Rattle.act_rules.specs.History.{History, opening, opening_of, calls_of, runs_of, kept_of, is_dead, next_item}
-use Rattle.act_rules.specs.Laws.{history}
-use Rattle.act_rules.specs.Rules.{refusal_of, add_event, after, after_by, after_run, after_all}
-use Rattle.act_rules.proofs.Lists.{slice_get_front}
-use Rattle.act_rules.proofs.Steps.{after_all_keeps, after_all-append}
-use Rattle.act_rules.proofs.Ended.{under-push, dead_stays}
-use Rattle.act_rules.proofs.Unique.{held_submission}
-use Rattle.act_rules.proofs.Sound.{IsSound, world_sound, consistent}
-use Rattle.act_owner.specs.Owner.{is_death}
-use Rattle.act_owner.proofs.Told.{is_death-only}
-use Rattle.act_executor.specs.Plays.{IsOwnerIn, IsEndIn}
-use Rattle.act_executor.specs.PlanPlays.{step_of, IsMeanwhile, DoesPlanIn}
-use Rattle.act_replay.specs.Circle.{circle_casts, five_arg, circle_push, circle_ran}
-use Rattle.act_replay.specs.AwaitCircle.{IsUnplanned, await_plan, await_plans, await_calls, await_log, await_owner, await_owners, await_end, await_ends}
 use Rattle.act_replay.proofs.Unplayed.{is_after}
 
 -- ---- what a caller submitted by its await

@@ -1,13 +1,7 @@
 -- Calls that are the same one by one.
-use Rattle.std.proofs.Common.{◌≡◌, ℕ, ◌+◌, ◌<◌, ◌≤◌, List, length, take, get_or, Option, Some, None, option_map, ◌⊎◌, inl, inr, refl, ap, sym, ◌∙◌, subst, arith}
-use Rattle.std.specs.Prelude.{slice_get}
-use Rattle.std.proofs.lemmas.List.{take_more_same}
-use Rattle.std.proofs.lemmas.Option.{slice_get_cases, get_or_from_slice_get}
-use Rattle.act_rules.specs.declared.history.Submission.{Submission}
-use Rattle.act_rules.specs.RunList.{Answer}
-use Rattle.act_rules.specs.Submissions.{kept_at}
-use Rattle.act_owner.specs.declared.owner.Call.{Call}
-use Rattle.act_owner.specs.Owner.{OwnerView, numbered_call, call_at}
+use Rattle.act_replay.proofs.Common.{◌≡◌, ℕ, ◌+◌, ◌<◌, ◌≤◌, List, length, take, get_or, Option, Some, None, option_map, ◌⊎◌, inl, inr, refl, ap, sym, ◌∙◌}
+use Rattle.act_replay.proofs.Common.{subst, arith, slice_get, take_more_same, slice_get_cases, get_or_from_slice_get, Submission, Answer, kept_at, Call}
+use Rattle.act_replay.proofs.Common.{OwnerView, numbered_call, call_at}
 
 -- the first calls are the same, and so are their answers
 pub record AreSameBelow (n : ℕ) (one other : OwnerView) : Type 0 where

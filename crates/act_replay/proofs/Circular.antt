@@ -1,24 +1,12 @@
 -- The circle is joined, and no list of events leaves it.
-use Rattle.std.proofs.Common.{◌≡◌, ◌≢◌, ℕ, zero, suc, ◌<◌, ◌==◌, cond, true, false, List, [], ◌∷◌, ◌++◌, length, Some, refl, sym, ap, ◌∙◌, subst, arith, ne_eqb}
-use Rattle.std.specs.Prelude.{slice_get, map, is_some, Ok, Err, Option, None, pos}
-use Rattle.std.specs.List.{AllByRecursion, enumerate_from}
-use Rattle.act_types.specs.KindState.{KindState}
-use Rattle.act_types.specs.declared.call.Fault.TheVariants.{ActorDied}
-use Rattle.act_types.specs.declared.call.Value.TheVariants.{Int}
-use Rattle.act_rules.specs.declared.history.RunItem.{RunItem}
-use Rattle.act_rules.specs.declared.history.Submission.{Submission}
-use Rattle.act_rules.specs.RunList.{Answer, items_of, has_terminated, NothingFollowsAnEnd}
-use Rattle.act_rules.specs.Submissions.{kept_at, calls_to}
-use Rattle.act_rules.specs.Consistent.{IsPrefix, IsAsSubmitted, IsAnswerOfRun}
-use Rattle.act_rules.specs.History.{History, opening, opening_of, actors_naming}
-use Rattle.act_rules.specs.Laws.{history}
-use Rattle.act_rules.specs.Plans.{planned, kills_to}
-use Rattle.act_rules.proofs.Lists.{All-two}
-use Rattle.act_owner.specs.Owner.{OwnerView}
-use Rattle.act_serve.specs.Served.{EndView, IfRetired}
-use Rattle.act_plans.specs.Runs.{limits_naming, plan_of, steps_of_plan}
-use Rattle.act_executor.specs.Joined.{calls_in, kept_in, log_in, killed_in, is_starved, calls_of_owner, kept_of_owner, log_of_end, is_killed_end, RanAll, IsJoined}
-use Rattle.act_replay.specs.Circle.{HasAllOf, IsUnplayed, IsNoPlay, circle_cast, circle_casts, five_arg, first_future, circle_plan, circle_plans, circle_push, circle_ran, circle_log, owner, circle_owners, circle_end, circle_ends}
+use Rattle.act_replay.proofs.Common.{◌≡◌, ◌≢◌, ℕ, zero, suc, ◌<◌, ◌==◌, cond, true, false, List, [], ◌∷◌, ◌++◌, length, Some, refl, sym, ap, ◌∙◌, subst, arith}
+use Rattle.act_replay.proofs.Common.{ne_eqb, slice_get, map, is_some, Ok, Err, Option, None, pos, AllByRecursion, enumerate_from, KindState, ActorDied, Int}
+use Rattle.act_replay.proofs.Common.{RunItem, Submission, Answer, items_of, has_terminated, NothingFollowsAnEnd, kept_at, calls_to, IsPrefix, IsAsSubmitted}
+use Rattle.act_replay.proofs.Common.{IsAnswerOfRun, History, opening, opening_of, actors_naming, history, planned, kills_to, All-two, OwnerView, EndView}
+use Rattle.act_replay.proofs.Common.{IfRetired, limits_naming, plan_of, steps_of_plan, calls_in, kept_in, log_in, killed_in, is_starved, calls_of_owner}
+use Rattle.act_replay.proofs.Common.{kept_of_owner, log_of_end, is_killed_end, RanAll, IsJoined, HasAllOf, IsUnplayed, IsNoPlay, circle_cast, circle_casts}
+use Rattle.act_replay.proofs.Common.{five_arg, first_future, circle_plan, circle_plans, circle_push, circle_ran, circle_log, owner, circle_owners, circle_end}
+use Rattle.act_replay.proofs.Common.{circle_ends}
 use Rattle.act_replay.proofs.Unplayed.{IsCircle, unplayed}
 
 abbrev answer : ℕ → Answer

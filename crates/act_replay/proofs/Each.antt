@@ -1,8 +1,6 @@
 -- What a loop knows that asks the same of each item of a list.
-use Rattle.std.proofs.Common.{◌≡◌, ◌↔◌, ℕ, ◌+◌, ◌<◌, ◌≤◌, Bool, true, false, List, length, map, take, get_or, refl, sym, ◌∙◌, subst, true≢false, arith}
-use Rattle.std.specs.Prelude.{All, IsTrue}
-use Rattle.std.proofs.lemmas.List.{take_all, get_or-map, length-map}
-use Rattle.std.proofs.lemmas.List.Elements.{All-more, All-get_or, All-map}
+use Rattle.act_replay.proofs.Common.{◌≡◌, ◌↔◌, ℕ, ◌+◌, ◌<◌, ◌≤◌, Bool, true, false, List, length, map, take, get_or, refl, sym, ◌∙◌, subst, true≢false, arith}
+use Rattle.act_replay.proofs.Common.{All, IsTrue, take_all, get_or-map, length-map, All-more, All-get_or, All-map}
 
 module _ {X : Type 0} (P : X → Type 0) (xs : List X) where
   -- it holds of one item more

@@ -1,20 +1,8 @@
 -- What a world that stands after events says of their history.
-use Rattle.std.proofs.Common.{◌≡◌, ◌↔◌, ℕ, Bool, true, false, List, [], ◌++◌, Option, Some, None, ap, sym, ◌∙◌, subst, true≢false}
-use Rattle.std.specs.Prelude.{All, IsOk, IsTrue, is_some}
-use Rattle.std.proofs.lemmas.Bool.{or_parts}
-use Rattle.act_rules.specs.declared.event.Event.{Event}
-use Rattle.act_rules.specs.History.{ActorSpec, History, opening, cast_of, is_caller, calls_of, kept_of, is_dead, is_retired}
-use Rattle.act_rules.specs.Laws.{history}
-use Rattle.act_rules.specs.Rules.{Outcome, outcomes}
-use Rattle.act_rules.specs.Submissions.{kept_at}
-use Rattle.act_rules.specs.RunList.{Answer}
-use Rattle.act_owner.specs.Owner.{OwnerView}
-use Rattle.act_serve.specs.Served.{EndView, Killed, Retired, Starved, end_id}
-use Rattle.act_world.specs.View.{SlotView, Runs, Died, Ended, Vacant, WorldView}
-use Rattle.act_world.specs.Refines.{IsOwnerAt, IsStage}
-use Rattle.act_world.specs.IsReachedBy.{IsReachedBy, HasPlayed}
-use Rattle.act_executor.specs.Plays.{IsOwnerIn, IsEndIn, IsPlayOf}
-use Rattle.act_replay.specs.Play.{AreSame, IsSameEnd}
+use Rattle.act_replay.proofs.Common.{◌≡◌, ◌↔◌, ℕ, Bool, true, false, List, [], ◌++◌, Option, Some, None, ap, sym, ◌∙◌, subst, true≢false, All, IsOk, IsTrue}
+use Rattle.act_replay.proofs.Common.{is_some, or_parts, Event, ActorSpec, History, opening, cast_of, is_caller, calls_of, kept_of, is_dead, is_retired, history}
+use Rattle.act_replay.proofs.Common.{Outcome, outcomes, kept_at, Answer, OwnerView, EndView, Killed, Retired, Starved, end_id, SlotView, Runs, Died, Ended}
+use Rattle.act_replay.proofs.Common.{Vacant, WorldView, IsOwnerAt, IsStage, IsReachedBy, HasPlayed, IsOwnerIn, IsEndIn, IsPlayOf, AreSame, IsSameEnd}
 
 -- ---- one caller
 

@@ -1,14 +1,6 @@
 -- Casts with the same roles as others that fit.
-use Rattle.std.proofs.Common.{◌≡◌, ◌≢◌, ◌<◌, List, [], ◌∷◌, length, map, get_or, sym, subst, arith}
-use Rattle.std.specs.Prelude.{All, AllPairs}
-use Rattle.std.proofs.lemmas.List.{get_or-map, length-map}
-use Rattle.std.proofs.lemmas.List.Elements.{All-map}
-use Rattle.act_types.specs.KindState.{KindState}
-use Rattle.act_rules.specs.History.{ActorSpec}
-use Rattle.act_rules.specs.Submissions.{IsLimit}
-use Rattle.act_actor.specs.declared.cast.Cast.{Cast}
-use Rattle.act_actor.specs.Cast.{CallersDiffer, IsFitting}
-use Rattle.act_actor.specs.Casts.{actor_spec}
+use Rattle.act_replay.proofs.Common.{◌≡◌, ◌≢◌, ◌<◌, List, [], ◌∷◌, length, map, get_or, sym, subst, arith, All, AllPairs, get_or-map, length-map, All-map}
+use Rattle.act_replay.proofs.Common.{KindState, ActorSpec, IsLimit, Cast, CallersDiffer, IsFitting, actor_spec}
 
 -- ---- what holds of all items, or of each two, and of what is seen of them
 

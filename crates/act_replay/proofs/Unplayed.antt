@@ -1,28 +1,11 @@
 -- No list of events leaves the circle: what runs first needs an answer that nothing gave.
-use Rattle.std.proofs.Common.{◌≡◌, ℕ, ◌==◌, Bool, true, false, cond, List, [], ◌∷◌, ◌++◌, Some, None, refl, sym, ap, subst, ◌∙◌, arith}
-use Rattle.std.specs.Prelude.{Option, slice_get, map, pos, Ok, Err}
-use Rattle.std.specs.List.{AllByRecursion}
-use Rattle.std.proofs.lemmas.Bool.{eqb-true}
-use Rattle.act_types.specs.declared.call.Value.{Value}
-use Rattle.act_types.specs.declared.call.Value.TheVariants.{Int}
-use Rattle.act_types.specs.declared.call.Settled.TheVariants.{Good}
-use Rattle.act_rules.specs.declared.event.Event.{Event}
-use Rattle.act_rules.specs.declared.event.Event.TheVariants.{Submit, Copy, Release, Send, Deliver, Run, Collect, AskKill, TakeKill, Tell, Retire}
-use Rattle.act_rules.specs.declared.outcome.WorldRefusal.{WorldRefusal}
-use Rattle.act_rules.specs.declared.history.RunItem.{RunItem}
-use Rattle.act_rules.specs.declared.history.Submission.{Submission}
-use Rattle.act_rules.specs.RunList.{Answer}
-use Rattle.act_rules.specs.Submissions.{kept_at, settle, settled_future}
-use Rattle.act_rules.specs.Consistent.{IsPrefix, IsAsSubmitted, IsAnswerOfRun, Consistent}
-use Rattle.act_rules.specs.History.{ActorSpec, History, opening, opening_of, calls_of, runs_of, kept_of, is_dead, next_item}
-use Rattle.act_rules.specs.Rules.{refusal_of, add_event, after_by, after_run, after_all}
-use Rattle.act_rules.proofs.Lists.{whole_front, slice_get_front, front_trans}
-use Rattle.act_rules.proofs.Growth.{added_grows, runs_grow, calls_grow}
-use Rattle.act_rules.proofs.Steps.{IsKept, after_all_keeps}
-use Rattle.act_rules.proofs.Ended.{under-push}
-use Rattle.act_rules.proofs.Unique.{held_submission}
-use Rattle.act_rules.proofs.Sound.{IsSound, sound_step, world_sound, consistent}
-use Rattle.act_replay.specs.Circle.{five_arg, first_future, circle_push, circle_calls, circle_ran, circle_log}
+use Rattle.act_replay.proofs.Common.{◌≡◌, ℕ, ◌==◌, Bool, true, false, cond, List, [], ◌∷◌, ◌++◌, Some, None, refl, sym, ap, subst, ◌∙◌, arith, Option}
+use Rattle.act_replay.proofs.Common.{slice_get, map, pos, Ok, Err, AllByRecursion, eqb-true, Value, Int, Good, Event, Submit, Copy, Release, Send, Deliver, Run}
+use Rattle.act_replay.proofs.Common.{Collect, AskKill, TakeKill, Tell, Retire, WorldRefusal, RunItem, Submission, Answer, kept_at, settle, settled_future}
+use Rattle.act_replay.proofs.Common.{IsPrefix, IsAsSubmitted, IsAnswerOfRun, Consistent, ActorSpec, History, opening, opening_of, calls_of, runs_of, kept_of}
+use Rattle.act_replay.proofs.Common.{is_dead, next_item, refusal_of, add_event, after_by, after_run, after_all, whole_front, slice_get_front, front_trans}
+use Rattle.act_replay.proofs.Common.{added_grows, runs_grow, calls_grow, IsKept, after_all_keeps, under-push, held_submission, IsSound, sound_step, world_sound}
+use Rattle.act_replay.proofs.Common.{consistent, five_arg, first_future, circle_push, circle_calls, circle_ran, circle_log}
 
 -- ---- run lists and calls only grow
 

@@ -1,11 +1,7 @@
 -- The links stay right as a future enters, and as one waits no more.
-use Rattle.std.proofs.Common.{◌≡◌, ◌≢◌, ℕ, ◌<◌, ◌≤◌, ◌⊎◌, List, [], ◌∷◌, ◌++◌, length, Option, Some, None, inl, inr, refl, sym, ◌∙◌, ap, subst, arith}
-use Rattle.std.specs.Prelude.{slice_set}
-use Rattle.std.proofs.lemmas.Bool.{cases_lt, cases_order}
-use Rattle.std.proofs.lemmas.List.{get_or-set_same, get_or-set_other, length-set, length-append}
-use Rattle.std.proofs.Math.ListN.{get_or-append, get_or-eq_default}
-use Rattle.std.proofs.Math.Seq.{get_or-append_seam}
-use Rattle.act_replies.specs.Chains.{found_at, with_found, IsLastBelow, IsFirstAbove, IsChained}
+use Rattle.act_replies.proofs.Common.{◌≡◌, ◌≢◌, ℕ, ◌<◌, ◌≤◌, ◌⊎◌, List, [], ◌∷◌, ◌++◌, length, Option, Some, None, inl, inr, refl, sym, ◌∙◌, ap, subst, arith}
+use Rattle.act_replies.proofs.Common.{slice_set, cases_lt, cases_order, get_or-set_same, get_or-set_other, length-set, length-append, get_or-append}
+use Rattle.act_replies.proofs.Common.{get_or-eq_default, get_or-append_seam, found_at, with_found, IsLastBelow, IsFirstAbove, IsChained}
 
 -- ---- what stands in a list
 

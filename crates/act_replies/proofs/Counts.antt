@@ -1,12 +1,7 @@
 -- The counts of the futures that wait for each actor stay right as one enters, and as one waits no more.
-use Rattle.std.proofs.Common.{◌≡◌, ℕ, ◌+◌, ◌-◌, ◌<◌, ◌≤◌, ◌==◌, List, [], ◌∷◌, ◌++◌, length, get_or, count_by, cond, Option, Some, None, inl, inr, refl, sym, ◌∙◌, ap, arith}
-use Rattle.std.specs.Prelude.{slice_set}
-use Rattle.std.proofs.lemmas.Bool.{eq-eqb}
-use Rattle.std.proofs.lemmas.Bool.Decides.{eqb_tells}
-use Rattle.std.proofs.lemmas.List.{get_or-set_same, get_or-set_other}
-use Rattle.std.proofs.lemmas.List.Sums.{sum_by-set, sum_by_push}
-use Rattle.act_types.specs.declared.limits.TheConstants.{MAX_ACTORS}
-use Rattle.act_replies.specs.Chains.{found_at, is_for, IsCounted}
+use Rattle.act_replies.proofs.Common.{◌≡◌, ℕ, ◌+◌, ◌-◌, ◌<◌, ◌≤◌, ◌==◌, List, [], ◌∷◌, ◌++◌, length, get_or, count_by, cond, Option, Some, None, inl, inr, refl}
+use Rattle.act_replies.proofs.Common.{sym, ◌∙◌, ap, arith, slice_set, eq-eqb, eqb_tells, get_or-set_same, get_or-set_other, sum_by-set, sum_by_push, MAX_ACTORS}
+use Rattle.act_replies.proofs.Common.{found_at, is_for, IsCounted}
 use Rattle.act_replies.proofs.Chains.{within}
 
 -- how much a future counts for an actor

@@ -1,19 +1,10 @@
 -- A death answers the futures that wait for its actor, one by one.
-use Rattle.std.proofs.Common.{◌≡◌, ◌≢◌, ℕ, zero, suc, ◌+◌, ◌-◌, ◌<◌, ◌≤◌, ◌==◌, ◌&&◌, List, [], ◌∷◌, length, map, drop, get_or, count_by, Bool, true, false, cond, not, if◌then◌else◌, Option, Some, None, Result, Err, is_some, inl, inr, refl, sym, ◌∙◌, ap, arith}
-use Rattle.std.specs.Prelude.{slice_get, slice_set, IfSome, IfNone}
-use Rattle.std.specs.Option.{option_map_or}
-use Rattle.std.proofs.lemmas.Bool.Decides.{eqb_tells}
-use Rattle.std.proofs.lemmas.List.{length-map, length-set, map-set}
-use Rattle.std.proofs.lemmas.List.Sums.{sum_by-cons, sum_by-set}
-use Rattle.std.proofs.lemmas.Option.{slice_get_cases, slice_get-get_or}
-use Rattle.std.proofs.Math.Seq.{map-set_same}
-use Rattle.act_types.specs.declared.call.Value.{Value}
-use Rattle.act_types.specs.declared.call.Fault.{Fault}
-use Rattle.act_types.specs.declared.call.Fault.TheVariants.{ActorDied}
-use Rattle.act_replies.specs.declared.table.Kept.TheVariants.{First, Late}
-use Rattle.act_replies.specs.declared.table.Row.{Row}
-use Rattle.act_replies.specs.Chains.{found_at, IsLastBelow}
-use Rattle.act_replies.specs.Table.{is_open, row_waits_for, waits_at, row_with_answer, keep_result, keep_result_in, after_keep, after_keep_in, row_after_death, rows_after_death, waited_actor, IsTable, IsKnown}
+use Rattle.act_replies.proofs.Common.{◌≡◌, ◌≢◌, ℕ, zero, suc, ◌+◌, ◌-◌, ◌<◌, ◌≤◌, ◌==◌, ◌&&◌, List, [], ◌∷◌, length, map, drop, get_or, count_by, Bool, true}
+use Rattle.act_replies.proofs.Common.{false, cond, not, if◌then◌else◌, Option, Some, None, Result, Err, is_some, inl, inr, refl, sym, ◌∙◌, ap, arith, slice_get}
+use Rattle.act_replies.proofs.Common.{slice_set, IfSome, IfNone, option_map_or, eqb_tells, length-map, length-set, map-set, sum_by-cons, sum_by-set}
+use Rattle.act_replies.proofs.Common.{slice_get_cases, slice_get-get_or, map-set_same, Value, Fault, ActorDied, First, Late, Row, found_at, IsLastBelow}
+use Rattle.act_replies.proofs.Common.{is_open, row_waits_for, waits_at, row_with_answer, keep_result, keep_result_in, after_keep, after_keep_in}
+use Rattle.act_replies.proofs.Common.{row_after_death, rows_after_death, waited_actor, IsTable, IsKnown}
 
 -- a row that passed a test and passes it no more
 one_less : (p : Row → Bool) (k : ℕ) (rows : List Row) (row new : Row) → k < length rows → get_or rows k row ≡ row → p row ≡ true → p new ≡ false → count_by p (slice_set rows k new) + 1 ≡ count_by p rows

@@ -1,10 +1,8 @@
 -- What a change of the links does to the chains.
-use Rattle.std.proofs.Common.{◌≡◌, ◌≢◌, ℕ, ◌<◌, ◌≤◌, List, [], ◌∷◌, ◌++◌, length, map, take, drop, get_or, Bool, true, false, Option, Some, None, refl, sym, ◌∙◌, ap, subst, arith}
-use Rattle.std.specs.Prelude.{slice_set, IfSome, is_some, not}
-use Rattle.std.proofs.lemmas.List.{get_or-map, get_or_default, length-map, length-set, set-get_or, map-set, map-append, take_all, drop_all, append-nil}
-use Rattle.std.proofs.Math.Seq.{map-set_same}
-use Rattle.act_replies.specs.declared.table.Link.{Link}
-use Rattle.act_replies.specs.Chains.{found_at, with_found, IsLastBelow, IsFirstAbove, linked_actors, before_of, after_of, IsLinked}
+use Rattle.act_replies.proofs.Common.{◌≡◌, ◌≢◌, ℕ, ◌<◌, ◌≤◌, List, [], ◌∷◌, ◌++◌, length, map, take, drop, get_or, Bool, true, false, Option, Some, None, refl}
+use Rattle.act_replies.proofs.Common.{sym, ◌∙◌, ap, subst, arith, slice_set, IfSome, is_some, not, get_or-map, get_or_default, length-map, length-set}
+use Rattle.act_replies.proofs.Common.{set-get_or, map-set, map-append, take_all, drop_all, append-nil, map-set_same, Link, found_at, with_found, IsLastBelow}
+use Rattle.act_replies.proofs.Common.{IsFirstAbove, linked_actors, before_of, after_of, IsLinked}
 use Rattle.act_replies.proofs.Chains.{within, removed_last, removed_inner, pushed}
 
 -- a list of the same length, written over the whole of another

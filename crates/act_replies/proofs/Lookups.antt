@@ -1,16 +1,9 @@
 -- What is found after an entry, an answer and a death, for the crates above.
-use Rattle.std.proofs.Common.{◌≡◌, ◌≢◌, ℕ, zero, suc, List, [], ◌∷◌, ◌++◌, length, map, true, false, if◌then◌else◌, Option, Some, None, Result, Err, refl, sym, ◌∙◌, ap}
-use Rattle.std.specs.Prelude.{slice_set, slice_get, option_and_then}
-use Rattle.std.specs.Option.{option_map}
-use Rattle.std.proofs.lemmas.List.{map-set, length-map}
-use Rattle.std.proofs.lemmas.Option.{get_or_from_slice_get, slice_get-map}
-use Rattle.std.proofs.Math.Seq.{map-set_same}
-use Rattle.act_types.specs.declared.call.Value.{Value}
-use Rattle.act_types.specs.declared.call.Fault.{Fault}
-use Rattle.act_types.specs.declared.call.Fault.TheVariants.{ActorDied}
-use Rattle.act_replies.specs.declared.table.Kept.TheVariants.{First, Late}
-use Rattle.act_replies.specs.declared.table.Row.{Row}
-use Rattle.act_replies.specs.Table.{is_open, row_waits_for, row_with_answer, unanswered_row, answer_in_table, keep_result, keep_result_in, after_keep, after_keep_in, row_after_death, rows_after_death}
+use Rattle.act_replies.proofs.Common.{◌≡◌, ◌≢◌, ℕ, zero, suc, List, [], ◌∷◌, ◌++◌, length, map, true, false, if◌then◌else◌, Option, Some, None, Result, Err}
+use Rattle.act_replies.proofs.Common.{refl, sym, ◌∙◌, ap, slice_set, slice_get, option_and_then, option_map, map-set, length-map, get_or_from_slice_get}
+use Rattle.act_replies.proofs.Common.{slice_get-map, map-set_same, Value, Fault, ActorDied, First, Late, Row, is_open, row_waits_for, row_with_answer}
+use Rattle.act_replies.proofs.Common.{unanswered_row, answer_in_table, keep_result, keep_result_in, after_keep, after_keep_in, row_after_death}
+use Rattle.act_replies.proofs.Common.{rows_after_death}
 
 -- the actors and the answers, in the order of the futures
 abbrev pub actors_of : List Row → List ℕ

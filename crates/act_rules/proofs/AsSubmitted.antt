@@ -1,17 +1,9 @@
 -- Each call ran as it was submitted, with its arguments as the kept answers settle them.
-use Rattle.std.proofs.Common.{◌≡◌, ℕ, zero, suc, ◌+◌, Bool, true, false, cond, List, [], ◌∷◌, Some, None, refl, ap, sym, ◌∙◌, subst, arith}
-use Rattle.std.specs.Prelude.{Option, ◌==◌, filter, slice_get, option_map}
-use Rattle.std.specs.List.{AllByRecursion, list_all, enumerate_from}
-use Rattle.std.proofs.lemmas.Bool.{eqb-true}
-use Rattle.act_rules.specs.declared.history.RunItem.{RunItem}
-use Rattle.act_rules.specs.declared.event.Event.{Event}
-use Rattle.act_rules.specs.declared.event.Event.TheVariants.{Submit, Copy, Release, Send, Deliver, Run, Collect, AskKill, TakeKill, Tell, Retire}
-use Rattle.act_rules.specs.declared.history.Submission.{Submission}
-use Rattle.act_rules.specs.Submissions.{calls_to, is_known}
-use Rattle.act_rules.specs.Consistent.{IsAsSubmitted}
+use Rattle.act_rules.proofs.Common.{◌≡◌, ℕ, zero, suc, ◌+◌, Bool, true, false, cond, List, [], ◌∷◌, Some, None, refl, ap, sym, ◌∙◌, subst, arith, Option, ◌==◌}
+use Rattle.act_rules.proofs.Common.{filter, slice_get, option_map, AllByRecursion, list_all, enumerate_from, eqb-true, RunItem, Event, Submit, Copy, Release}
+use Rattle.act_rules.proofs.Common.{Send, Deliver, Run, Collect, AskKill, TakeKill, Tell, Retire, Submission, calls_to, is_known, IsAsSubmitted, History}
+use Rattle.act_rules.proofs.Common.{calls_of, kept_of, ran_count, next_item, add_event, after_run}
 use Rattle.act_rules.specs.declared.history.Letter.TheVariants.{Call as CallLetter}
-use Rattle.act_rules.specs.History.{History, calls_of, kept_of, ran_count, next_item}
-use Rattle.act_rules.specs.Rules.{add_event, after_run}
 use Rattle.act_rules.proofs.Lists.{slice_get_front, slice_get-enumerate_from, All_more, All_weaker}
 use Rattle.act_rules.proofs.Growth.{Grows, added_grows, after_run_grows, calls_grow}
 use Rattle.act_rules.proofs.Posts.{PostsAreSound}

@@ -1,19 +1,9 @@
 -- Nothing runs at an actor that has ended.
-use Rattle.std.proofs.Common.{◌≡◌, ℕ, Bool, true, false, cond, List, [], ◌∷◌, ◌++◌, Some, None, refl, sym, ◌∙◌, subst}
-use Rattle.std.specs.Prelude.{Option, ◌==◌, ◌||◌, not, map}
-use Rattle.std.proofs.lemmas.List.{map-append, append-nil}
-use Rattle.std.proofs.lemmas.List.Elements.{filter-append}
-use Rattle.std.proofs.lemmas.List.Folds.{list_any-append}
-use Rattle.std.proofs.lemmas.Bool.{eqb-true, not-true}
-use Rattle.act_rules.specs.declared.history.RunItem.{RunItem}
-use Rattle.act_rules.specs.declared.event.Event.{Event}
-use Rattle.act_rules.specs.declared.event.Event.TheVariants.{Submit, Copy, Release, Send, Deliver, Run, Collect, AskKill, TakeKill, Tell, Retire}
-use Rattle.act_rules.specs.declared.outcome.WorldRefusal.TheVariants.{NoCaller, Handle, ActorEnded}
-use Rattle.act_rules.specs.declared.outcome.HandleRefusal.TheVariants.{NoActor}
-use Rattle.act_rules.specs.RunList.{has_terminated, NothingFollowsAnEnd}
-use Rattle.act_rules.specs.Submissions.{needs}
-use Rattle.act_rules.specs.History.{History, contains, under, runs_of, is_dead, is_retired, is_ended, is_caller, names, cast_of, next_item}
-use Rattle.act_rules.specs.Rules.{refusal_of, add_event, after_run}
+use Rattle.act_rules.proofs.Common.{◌≡◌, ℕ, Bool, true, false, cond, List, [], ◌∷◌, ◌++◌, Some, None, refl, sym, ◌∙◌, subst, Option, ◌==◌, ◌||◌, not, map}
+use Rattle.act_rules.proofs.Common.{map-append, append-nil, filter-append, list_any-append, eqb-true, not-true, RunItem, Event, Submit, Copy, Release, Send}
+use Rattle.act_rules.proofs.Common.{Deliver, Run, Collect, AskKill, TakeKill, Tell, Retire, NoCaller, Handle, ActorEnded, NoActor, has_terminated}
+use Rattle.act_rules.proofs.Common.{NothingFollowsAnEnd, needs, History, contains, under, runs_of, is_dead, is_retired, is_ended, is_caller, names, cast_of}
+use Rattle.act_rules.proofs.Common.{next_item, refusal_of, add_event, after_run}
 use Rattle.act_rules.proofs.Growth.{added_grows}
 use Rattle.act_rules.proofs.Terminated.{nothing_follows-push}
 use Rattle.act_rules.proofs.Steps.{IsKept}

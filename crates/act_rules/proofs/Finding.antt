@@ -1,11 +1,6 @@
 -- Laws of the first item that passes a test.
-use Rattle.std.proofs.Common.{◌≡◌, ℕ, List, [], ◌∷◌, length, Option, Some, None, Bool, true, false, cond, nat_lt, refl, ◌∙◌, subst, get_or, find, position, All}
-use Rattle.std.specs.List.{position_or_len}
-use Rattle.std.proofs.lemmas.Bool.{ltb-false}
-use Rattle.std.proofs.lemmas.List.Elements.{All-head, All-tail}
-use Rattle.std.proofs.lemmas.List.Folds.{find_at}
-use Rattle.std.proofs.lemmas.List.Quantifiers.{position-Some}
-use Rattle.std.proofs.lemmas.Option.{slice_get-get_or, slice_get_past}
+use Rattle.act_rules.proofs.Common.{◌≡◌, ℕ, List, [], ◌∷◌, length, Option, Some, None, Bool, true, false, cond, nat_lt, refl, ◌∙◌, subst, get_or, find}
+use Rattle.act_rules.proofs.Common.{position, All, position_or_len, ltb-false, All-head, All-tail, find_at, position-Some, slice_get-get_or, slice_get_past}
 
 place_is : (b : Bool) (n i : ℕ) → cond b (Some n) None ≡ Some i → n ≡ i
 place_is true n i e = cc

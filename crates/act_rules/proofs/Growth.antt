@@ -1,14 +1,7 @@
 -- Each accepted event leaves every list of a history as it was, with something more at its end.
-use Rattle.std.proofs.Common.{◌≡◌, ℕ, List, [], ◌∷◌, Some, None, refl}
-use Rattle.std.specs.Prelude.{Option, ◌==◌}
-use Rattle.act_rules.specs.declared.history.RunItem.{RunItem}
-use Rattle.act_rules.specs.declared.event.Event.{Event}
-use Rattle.act_rules.specs.declared.event.Event.TheVariants.{Submit, Copy, Release, Send, Deliver, Run, Collect, AskKill, TakeKill, Tell, Retire}
-use Rattle.act_rules.specs.declared.history.Submission.{Submission}
-use Rattle.act_rules.specs.Submissions.{calls_to}
-use Rattle.act_rules.specs.History.{History, under, runs_of, calls_of, next_item}
-use Rattle.act_rules.specs.Rules.{add_event, and_also, after_run}
-use Rattle.act_rules.specs.Consistent.{IsPrefix}
+use Rattle.act_rules.proofs.Common.{◌≡◌, ℕ, List, [], ◌∷◌, Some, None, refl, Option, ◌==◌, RunItem, Event, Submit, Copy, Release, Send, Deliver, Run, Collect}
+use Rattle.act_rules.proofs.Common.{AskKill, TakeKill, Tell, Retire, Submission, calls_to, History, under, runs_of, calls_of, next_item, add_event, and_also}
+use Rattle.act_rules.proofs.Common.{after_run, IsPrefix}
 use Rattle.act_rules.proofs.Lists.{whole_front, more_front, IsPrefix-filter, IsPrefix-map, IsPrefix-enumerate}
 
 pub record Grows (h g : History) : Type 0 where

@@ -1,17 +1,9 @@
 -- No kind answers that the actor died.
-use Rattle.std.proofs.Common.{◌≡◌, ◌≢◌, ℕ, zero, suc, Bool, true, false, List, [], ◌∷◌, Some, None, refl, ap, sym, ◌∙◌}
-use Rattle.std.specs.Prelude.{Option, ℤ, Result, Ok, Err}
-use Rattle.act_types.specs.declared.call.Value.{Value}
-use Rattle.act_types.specs.declared.call.Value.TheVariants.{Int, Text}
-use Rattle.act_types.specs.declared.call.Fault.{Fault}
-use Rattle.act_types.specs.declared.call.Fault.TheVariants.{Dependency, ActorDied}
-use Rattle.act_types.specs.declared.call.Method.{Method}
-use Rattle.act_types.specs.declared.call.Method.TheVariants.{Add, Get, Put, Del, Size, Deposit, Withdraw, Balance, Push, Pop, At, Len, Terminate}
-use Rattle.act_rules.specs.declared.history.RunItem.{RunItem}
-use Rattle.act_types.specs.KindState.{KindState, CounterAt, TableOf, AccountAt, ItemsOf, OwnAt}
-use Rattle.act_types.specs.Own.{Ask, after_ask}
-use Rattle.act_rules.specs.Kinds.{Reply, need, look_up, counter_reply, table_reply, account_reply, list_reply, kind_fault, told_reply, reply_of}
-use Rattle.act_rules.specs.RunList.{Answer, values_of, step_of_reply, call_reply, step_of_call, after_item, answer_at}
+use Rattle.act_rules.proofs.Common.{◌≡◌, ◌≢◌, ℕ, zero, suc, Bool, true, false, List, [], ◌∷◌, Some, None, refl, ap, sym, ◌∙◌, Option, ℤ, Result, Ok, Err, Value}
+use Rattle.act_rules.proofs.Common.{Int, Text, Fault, Dependency, ActorDied, Method, Add, Get, Put, Del, Size, Deposit, Withdraw, Balance, Push, Pop, At, Len}
+use Rattle.act_rules.proofs.Common.{Terminate, RunItem, KindState, CounterAt, TableOf, AccountAt, ItemsOf, OwnAt, Ask, after_ask, Reply, need, look_up}
+use Rattle.act_rules.proofs.Common.{counter_reply, table_reply, account_reply, list_reply, kind_fault, told_reply, reply_of, Answer, values_of, step_of_reply}
+use Rattle.act_rules.proofs.Common.{call_reply, step_of_call, after_item, answer_at}
 
 -- a kind's fault
 abbrev pub is_own : Fault → Bool

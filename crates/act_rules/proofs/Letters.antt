@@ -1,19 +1,11 @@
 -- Each call letter names a call that stands, with arguments that are known.
-use Rattle.std.proofs.Common.{◌≡◌, ℕ, zero, suc, ◌+◌, Bool, true, false, cond, List, [], ◌∷◌, length, Some, None, refl, ap, sym, ◌∙◌, subst, arith}
-use Rattle.std.specs.Prelude.{Option, ◌==◌, ◌||◌, ◌&&◌, not, filter, slice_get, take, option_map, is_some}
-use Rattle.std.specs.List.{AllByRecursion, list_all, enumerate_from}
-use Rattle.std.proofs.lemmas.Bool.{eq-eqb, eqb-true, and_parts}
-use Rattle.act_rules.specs.declared.history.RunItem.{RunItem}
-use Rattle.act_rules.specs.declared.event.Event.{Event}
-use Rattle.act_rules.specs.declared.event.Event.TheVariants.{Submit, Copy, Release, Send, Deliver, Run, Collect, AskKill, TakeKill, Tell, Retire}
-use Rattle.act_rules.specs.declared.outcome.WorldRefusal.TheVariants.{NoCaller, Sending}
-use Rattle.act_rules.specs.declared.outcome.SendRefusal.TheVariants.{NotReady, Answered}
-use Rattle.act_rules.specs.declared.history.Submission.{Submission}
-use Rattle.act_rules.specs.Submissions.{calls_to, number_of, needs, is_known, kept_at, send_refusal}
-use Rattle.act_rules.specs.declared.history.Letter.{Letter}
+use Rattle.act_rules.proofs.Common.{◌≡◌, ℕ, zero, suc, ◌+◌, Bool, true, false, cond, List, [], ◌∷◌, length, Some, None, refl, ap, sym, ◌∙◌, subst, arith}
+use Rattle.act_rules.proofs.Common.{Option, ◌==◌, ◌||◌, ◌&&◌, not, filter, slice_get, take, option_map, is_some, AllByRecursion, list_all, enumerate_from}
+use Rattle.act_rules.proofs.Common.{eq-eqb, eqb-true, and_parts, RunItem, Event, Submit, Copy, Release, Send, Deliver, Run, Collect, AskKill, TakeKill, Tell}
+use Rattle.act_rules.proofs.Common.{Retire, NoCaller, Sending, NotReady, Answered, Submission, calls_to, number_of, needs, is_known, kept_at, send_refusal}
+use Rattle.act_rules.proofs.Common.{Letter, History, calls_of, kept_of, is_caller, is_letter, has_letter, next_item, refusal_of, add_event, and_also, after_run}
+use Rattle.act_rules.proofs.Common.{call_letter, was_sent, is_last}
 use Rattle.act_rules.specs.declared.history.Letter.TheVariants.{Call as CallLetter, Note as NoteLetter}
-use Rattle.act_rules.specs.History.{History, calls_of, kept_of, is_caller, is_letter, has_letter, next_item}
-use Rattle.act_rules.specs.Rules.{refusal_of, add_event, and_also, after_run, call_letter, was_sent, is_last}
 use Rattle.act_rules.proofs.Lists.{slice_get_front, slice_get-filter, slice_get-enumerate_from, All_more, All_weaker, All_at, option_map-none}
 use Rattle.act_rules.proofs.Growth.{Grows, added_grows, after_run_grows, calls_grow, calls_to_grow}
 use Rattle.act_rules.proofs.Ended.{needs-none}

@@ -1,21 +1,11 @@
 -- A caller's calls without an answer never are more than their actor's limit.
-use Rattle.std.proofs.Common.{◌≡◌, ℕ, ◌+◌, ◌<◌, ◌≤◌, Bool, true, false, cond, List, [], ◌∷◌, ◌++◌, length, Some, None, refl, ap, sym, ◌∙◌, subst, arith, length-append}
-use Rattle.std.specs.Prelude.{Option, ◌==◌, filter, option_map, is_none, nat_lt}
-use Rattle.std.proofs.lemmas.Bool.{eqb-true, ltb-true}
-use Rattle.std.proofs.lemmas.List.{append-nil}
-use Rattle.std.proofs.lemmas.List.Elements.{filter-append}
-use Rattle.act_types.specs.declared.call.Arg.{Arg}
-use Rattle.act_types.specs.declared.call.Method.{Method}
-use Rattle.act_rules.specs.declared.history.RunItem.{RunItem}
-use Rattle.act_rules.specs.declared.event.Event.{Event}
-use Rattle.act_rules.specs.declared.event.Event.TheVariants.{Submit, Copy, Release, Send, Deliver, Run, Collect, AskKill, TakeKill, Tell, Retire}
-use Rattle.act_rules.specs.declared.outcome.SubmitRefusal.TheVariants.{PendingLimit}
+use Rattle.act_rules.proofs.Common.{◌≡◌, ℕ, ◌+◌, ◌<◌, ◌≤◌, Bool, true, false, cond, List, [], ◌∷◌, ◌++◌, length, Some, None, refl, ap, sym, ◌∙◌, subst, arith}
+use Rattle.act_rules.proofs.Common.{length-append, Option, ◌==◌, filter, option_map, is_none, nat_lt, eqb-true, ltb-true, append-nil, filter-append, Arg}
+use Rattle.act_rules.proofs.Common.{Method, RunItem, Event, Submit, Copy, Release, Send, Deliver, Run, Collect, AskKill, TakeKill, Tell, Retire, PendingLimit}
+use Rattle.act_rules.proofs.Common.{Submission, Answer, calls_to, kept_at, submit_refusal, limit_refusal, ActorSpec, History, opening, under, is_caller}
+use Rattle.act_rules.proofs.Common.{calls_of, copies_of, limit_of, kept_of, next_item, unanswered, submission_refusal, refusal_of, add_event, after_run}
+use Rattle.act_rules.proofs.Common.{after_all}
 use Rattle.act_rules.specs.declared.outcome.WorldRefusal.TheVariants.{Submit as SubmitRefused, NoCaller}
-use Rattle.act_rules.specs.declared.history.Submission.{Submission}
-use Rattle.act_rules.specs.RunList.{Answer}
-use Rattle.act_rules.specs.Submissions.{calls_to, kept_at, submit_refusal, limit_refusal}
-use Rattle.act_rules.specs.History.{ActorSpec, History, opening, under, is_caller, calls_of, copies_of, limit_of, kept_of, next_item}
-use Rattle.act_rules.specs.Rules.{unanswered, submission_refusal, refusal_of, add_event, after_run, after_all}
 use Rattle.act_rules.proofs.Steps.{IsKept, after_all_keeps}
 use Rattle.act_rules.proofs.Ended.{needs-none, under-push}
 use Rattle.act_rules.proofs.Growth.{Grows, added_grows}

@@ -1,10 +1,7 @@
 -- A word without its first or its last byte.
-use Rattle.std.proofs.Common.{◌≡◌, ℕ, ◌+◌, ◌-◌, ◌<◌, ◌==◌, ◌&&◌, ◌++◌, nat_lt, List, [], ◌∷◌, length, slice_index, take, Ok, arith, sym, ap, ◌∙◌}
-use Rattle.std.proofs.lemmas.Bool.Decides.{nat_tests}
-use Rattle.std.proofs.lemmas.List.{length_push, take_more}
-use Rattle.std.proofs.Math.Seq.{get_or-append_seam, take-append_seam, take-length}
-use Rattle.std.proofs.lemmas.Bool.{and_parts}
-use Rattle.act_rules.specs.Words.{marked_at, closed_at}
+use Rattle.act_rules.proofs.Common.{◌≡◌, ℕ, ◌+◌, ◌-◌, ◌<◌, ◌==◌, ◌&&◌, ◌++◌, nat_lt, List, [], ◌∷◌, length, slice_index, take, Ok, arith, sym, ap, ◌∙◌}
+use Rattle.act_rules.proofs.Common.{nat_tests, length_push, take_more, get_or-append_seam, take-append_seam, take-length, and_parts, marked_at}
+use Rattle.act_rules.specs.Words.{closed_at}
 use Rattle.act_rules.proofs.Numbers.{chosen}
 
 -- what was marked begins with the mark

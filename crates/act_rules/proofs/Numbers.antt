@@ -1,15 +1,9 @@
 -- Each number has one spelling: the one that is printed of it.
-use Rattle.std.proofs.Common.{◌≡◌, ◌≢◌, ℕ, zero, suc, ◌^◌, ◌<◌, ◌&&◌, Bool, true, false, cond, nat_lt, List, [], ◌∷◌, length, slice_index, Ok, Err, ℤ, pos, neg_ℤ, decimal, inl, inr, arith, rules, refl, sym, ap, ◌∙◌}
-use Rattle.std.specs.Fmt.{signed_decimal}
-use Rattle.std.specs.List.{list_all}
-use Rattle.std.specs.Char.{is_ascii_digit}
-use Rattle.std.specs.Str.Parse.{digits_value}
-use Rattle.std.proofs.lemmas.Str.Parse.{IsNumeralModel, IsDigitsTest, numerals_by_value}
-use Rattle.std.proofs.lemmas.Fmt.{decimal-digits_value, digits_decimal, digits_value-decimal, first_decimal, decimal_digit, decimal_nonempty}
-use Rattle.std.proofs.lemmas.Bool.Decides.{nat_tests, eqb_tells}
-use Rattle.std.proofs.lemmas.Bool.{and_parts}
-use Rattle.act_rules.specs.declared.script.Wrong.TheVariants.{BadLine}
-use Rattle.act_rules.specs.Words.{is_numeral, number_at, is_integer, fits_int, int_value, int_at}
+use Rattle.act_rules.proofs.Common.{◌≡◌, ◌≢◌, ℕ, zero, suc, ◌^◌, ◌<◌, ◌&&◌, Bool, true, false, cond, nat_lt, List, [], ◌∷◌, length, slice_index, Ok, Err, ℤ}
+use Rattle.act_rules.proofs.Common.{pos, neg_ℤ, decimal, inl, inr, arith, rules, refl, sym, ap, ◌∙◌, signed_decimal, list_all, is_ascii_digit, digits_value}
+use Rattle.act_rules.proofs.Common.{IsNumeralModel, IsDigitsTest, numerals_by_value, decimal-digits_value, digits_decimal, digits_value-decimal, first_decimal}
+use Rattle.act_rules.proofs.Common.{decimal_digit, decimal_nonempty, nat_tests, eqb_tells, and_parts, BadLine, is_numeral, is_integer, fits_int, int_value}
+use Rattle.act_rules.specs.Words.{number_at, int_at}
 
 digits_test : IsDigitsTest (λ ds. list_all is_ascii_digit ds ≡ true)
 digits_test = search rules

@@ -1,20 +1,9 @@
 -- What an actor ran of a caller's calls is a prefix of the caller's calls to it, each as it was submitted.
-use Rattle.std.proofs.Common.{◌≡◌, ℕ, ◌+◌, Bool, true, false, cond, List, [], ◌∷◌, ◌++◌, length, Some, None, refl, ap, sym, ◌∙◌, subst, arith}
-use Rattle.std.specs.Prelude.{Option, ◌==◌, map, slice_get, option_map}
-use Rattle.std.specs.List.{enumerate_from}
-use Rattle.std.proofs.lemmas.Bool.{eqb-true}
-use Rattle.std.proofs.lemmas.List.{map-append, append-nil, length-map}
-use Rattle.std.proofs.lemmas.Option.{slice_get-map}
-use Rattle.act_rules.specs.declared.history.RunItem.{RunItem}
-use Rattle.act_rules.specs.declared.event.Event.{Event}
-use Rattle.act_rules.specs.declared.event.Event.TheVariants.{Submit, Copy, Release, Send, Deliver, Run, Collect, AskKill, TakeKill, Tell, Retire}
-use Rattle.act_rules.specs.RunList.{items_of}
-use Rattle.act_rules.specs.declared.history.Submission.{Submission}
-use Rattle.act_rules.specs.Submissions.{calls_to}
-use Rattle.act_rules.specs.Consistent.{IsPrefix}
+use Rattle.act_rules.proofs.Common.{◌≡◌, ℕ, ◌+◌, Bool, true, false, cond, List, [], ◌∷◌, ◌++◌, length, Some, None, refl, ap, sym, ◌∙◌, subst, arith, Option}
+use Rattle.act_rules.proofs.Common.{◌==◌, map, slice_get, option_map, enumerate_from, eqb-true, map-append, append-nil, length-map, slice_get-map, RunItem}
+use Rattle.act_rules.proofs.Common.{Event, Submit, Copy, Release, Send, Deliver, Run, Collect, AskKill, TakeKill, Tell, Retire, items_of, Submission, calls_to}
+use Rattle.act_rules.proofs.Common.{IsPrefix, History, under, runs_of, calls_of, kept_of, ran_count, has_letter, run_item, next_item, add_event, after_run}
 use Rattle.act_rules.specs.declared.history.Letter.TheVariants.{Call as CallLetter}
-use Rattle.act_rules.specs.History.{History, under, runs_of, calls_of, kept_of, ran_count, has_letter, run_item, next_item}
-use Rattle.act_rules.specs.Rules.{add_event, after_run}
 use Rattle.act_rules.proofs.Lists.{front_trans, front_next, slice_get-enumerate_from, IsPrefix-map, IsPrefix-enumerate}
 use Rattle.act_rules.proofs.Growth.{Grows, added_grows, calls_grow, calls_to_grow}
 use Rattle.act_rules.proofs.Ended.{under-push}

@@ -1,17 +1,9 @@
 -- Runs of a kind of one's own answer by its steps, and what each step keeps holds after each of them.
-use Rattle.std.proofs.Common.{◌≡◌, ℕ, List, [], ◌∷◌, ◌++◌, slice_get, refl, ap, sym, ◌∙◌, subst}
-use Rattle.std.specs.Prelude.{Result, Ok, Err}
-use Rattle.std.proofs.lemmas.List.{append_assoc, append-nil}
-use Rattle.act_types.specs.declared.call.Value.{Value}
-use Rattle.act_types.specs.declared.call.Fault.{Fault}
-use Rattle.act_types.specs.declared.call.Method.{Method}
-use Rattle.act_types.specs.declared.call.Method.TheVariants.{Terminate}
-use Rattle.act_types.specs.KindState.{KindState, OwnAt}
-use Rattle.act_types.specs.Own.{Ask, StepOf, next_state, step_answer, behaves}
-use Rattle.act_rules.specs.declared.history.RunItem.{RunItem}
-use Rattle.act_rules.specs.Kinds.{told_reply}
-use Rattle.act_rules.specs.RunList.{Answer, values_of, step_of_reply, call_reply, step_of_call, after_item, state_after, answers_from}
-use Rattle.act_rules.specs.OwnRuns.{kind_answer, own_call, own_asked, own_after_item, own_state_after, own_answers, RunsByItsSteps, ask_of, with_answer, told_in, IsKept, HoldsInEachRun}
+use Rattle.act_rules.proofs.Common.{◌≡◌, ℕ, List, [], ◌∷◌, ◌++◌, slice_get, refl, ap, sym, ◌∙◌, subst, Result, Ok, Err, append-nil, Value, Fault, Method}
+use Rattle.act_rules.proofs.Common.{Terminate, KindState, OwnAt, Ask, StepOf, next_state, step_answer, behaves, RunItem, told_reply, Answer, values_of}
+use Rattle.act_rules.proofs.Common.{step_of_reply, call_reply, step_of_call, after_item, state_after, answers_from, kind_answer, own_call, own_asked}
+use Rattle.act_rules.proofs.Common.{own_after_item, own_state_after, own_answers, RunsByItsSteps, ask_of, with_answer, told_in, IsKept, HoldsInEachRun}
+use Rattle.std.proofs.lemmas.List.{append_assoc}
 
 module _ {S : Type 0} (step : StepOf S) (written : S → List ℕ) where
   abbrev at : S → KindState

@@ -1,30 +1,18 @@
 -- What a plan submits is what a world takes of its events.
-use Rattle.std.proofs.Common.{◌≡◌, ◌≢◌, ℕ, suc, ◌<◌, Bool, true, false, cond, List, [], ◌∷◌, ◌++◌, length, Some, None, refl, sym, ap, subst, ◌∙◌, arith, append-nil}
-use Rattle.std.specs.Prelude.{Option, ◌==◌, ◌&&◌, ◌||◌, not, map, filter, find, is_some, option_map, option_and_then, nat_lt, nat_le, slice_get, slice_index_or, All, AllPairs}
-use Rattle.std.specs.Option.{option_or}
-use Rattle.std.specs.List.{list_all, list_any}
-use Rattle.std.proofs.lemmas.Bool.{eqb-true, eq-eqb}
-use Rattle.act_types.specs.declared.call.Arg.{Arg}
-use Rattle.act_types.specs.declared.call.Method.{Method}
-use Rattle.act_rules.specs.declared.history.RunItem.{RunItem}
-use Rattle.act_rules.specs.declared.event.Event.{Event}
-use Rattle.act_rules.specs.declared.event.Event.TheVariants.{Submit, Copy, Release, Send, Deliver, Run, Collect, AskKill, TakeKill, Tell, Retire}
-use Rattle.act_rules.specs.declared.outcome.WorldRefusal.{WorldRefusal}
+use Rattle.act_rules.proofs.Common.{◌≡◌, ◌≢◌, ℕ, suc, ◌<◌, Bool, true, false, cond, List, [], ◌∷◌, ◌++◌, length, Some, None, refl, sym, ap, subst, ◌∙◌, arith}
+use Rattle.act_rules.proofs.Common.{Option, ◌==◌, ◌&&◌, ◌||◌, not, map, filter, find, is_some, option_map, option_and_then, nat_lt, nat_le, slice_get}
+use Rattle.act_rules.proofs.Common.{slice_index_or, All, AllPairs, option_or, list_all, list_any, eqb-true, eq-eqb, Arg, Method, RunItem, Event, Submit, Copy}
+use Rattle.act_rules.proofs.Common.{Release, Send, Deliver, Run, Collect, AskKill, TakeKill, Tell, Retire, WorldRefusal, HandleRefusal, NoActor, SendRefusal}
+use Rattle.act_rules.proofs.Common.{SubmitRefusal, Letter, Role, Step, needs, copies_held, handle_refusal, copy_refusal, submit_refusal, limit_refusal}
+use Rattle.act_rules.proofs.Common.{send_refusal, is_earlier, ActorSpec, History, opening, contains, cast_of, names, actors_naming, is_caller, under}
+use Rattle.act_rules.proofs.Common.{count_pairs, copies_of, limit_of, calls_of, kept_of, is_dead, is_ended, is_drained, next_item, Progress, nothing_done}
+use Rattle.act_rules.proofs.Common.{occurrences, holds, is_refused, do_step, done_by, planned, events_of, is_limit, is_held_back, let_through, is_planned_by}
+use Rattle.act_rules.proofs.Common.{letter_actor, was_sent, deliver_refusal, unanswered, submission_refusal, refusal_of, add_event, after_by, after, after_run}
+use Rattle.act_rules.proofs.Common.{after_all, actor_spec_of, actors_of_roles}
+use Rattle.std.proofs.Common.{append-nil}
 use Rattle.act_rules.specs.declared.outcome.WorldRefusal.TheVariants.{Submit as SubmitRefused, Handle, Sending, NoCaller, NoReply, ActorEnded, NoKill, NotDead, NotDrained}
-use Rattle.act_rules.specs.declared.outcome.HandleRefusal.{HandleRefusal}
-use Rattle.act_rules.specs.declared.outcome.HandleRefusal.TheVariants.{NoActor}
-use Rattle.act_rules.specs.declared.outcome.SendRefusal.{SendRefusal}
-use Rattle.act_rules.specs.declared.outcome.SubmitRefusal.{SubmitRefusal}
 use Rattle.act_rules.specs.declared.outcome.SubmitRefusal.TheVariants.{NoActor as NoSuchActor, NoHandle as NoCopy, TooManyArgs, BadFuture, TooManyCalls, PendingLimit}
-use Rattle.act_rules.specs.declared.history.Letter.{Letter}
-use Rattle.act_rules.specs.declared.script.Role.{Role}
-use Rattle.act_rules.specs.declared.script.Step.{Step}
 use Rattle.act_rules.specs.declared.script.Step.TheVariants as step
-use Rattle.act_rules.specs.Submissions.{needs, copies_held, handle_refusal, copy_refusal, submit_refusal, limit_refusal, send_refusal, is_earlier}
-use Rattle.act_rules.specs.History.{ActorSpec, History, opening, contains, cast_of, names, actors_naming, is_caller, under, count_pairs, copies_of, limit_of, calls_of, kept_of, is_dead, is_ended, is_drained, next_item}
-use Rattle.act_rules.specs.Plans.{Progress, nothing_done, occurrences, holds, is_refused, do_step, done_by, planned, events_of, is_limit, is_held_back, let_through, is_planned_by}
-use Rattle.act_rules.specs.Rules.{letter_actor, was_sent, deliver_refusal, unanswered, submission_refusal, refusal_of, add_event, after_by, after, after_run, after_all}
-use Rattle.act_rules.specs.Scripts.{actor_spec_of, actors_of_roles}
 use Rattle.act_rules.proofs.Growth.{added_grows}
 use Rattle.act_rules.proofs.Steps.{after_keeps}
 use Rattle.act_rules.proofs.Ended.{under-push}

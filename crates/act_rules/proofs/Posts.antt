@@ -1,20 +1,10 @@
 -- Each post names a place of the run list that stands, or an actor that is dead.
-use Rattle.std.proofs.Common.{◌≡◌, ℕ, Bool, true, false, cond, List, [], ◌∷◌, ◌++◌, length, Some, None, refl, ap, sym}
-use Rattle.std.specs.Prelude.{Option, slice_get, option_map}
-use Rattle.std.specs.List.{AllByRecursion}
-use Rattle.std.proofs.lemmas.Bool.{eq-eqb}
-use Rattle.act_rules.specs.declared.history.RunItem.{RunItem}
-use Rattle.act_rules.specs.declared.event.Event.{Event}
-use Rattle.act_rules.specs.declared.event.Event.TheVariants.{Submit, Copy, Release, Send, Deliver, Run, Collect, AskKill, TakeKill, Tell, Retire}
-use Rattle.act_rules.specs.declared.outcome.WorldRefusal.TheVariants.{NoCaller, Handle, NotDead}
-use Rattle.act_rules.specs.declared.outcome.HandleRefusal.TheVariants.{NoActor}
-use Rattle.act_rules.specs.declared.history.Submission.{Submission}
-use Rattle.act_rules.specs.Submissions.{calls_to, needs}
+use Rattle.act_rules.proofs.Common.{◌≡◌, ℕ, Bool, true, false, cond, List, [], ◌∷◌, ◌++◌, length, Some, None, refl, ap, sym, Option, slice_get, option_map}
+use Rattle.act_rules.proofs.Common.{AllByRecursion, eq-eqb, RunItem, Event, Submit, Copy, Release, Send, Deliver, Run, Collect, AskKill, TakeKill, Tell, Retire}
+use Rattle.act_rules.proofs.Common.{NoCaller, Handle, NotDead, NoActor, Submission, calls_to, needs, Post, History, under, runs_of, calls_of, kept_of, cast_of}
+use Rattle.act_rules.proofs.Common.{names, is_caller, is_dead, has_letter, ran_count, run_item, next_item, refusal_of, add_event, and_also, after_run}
 use Rattle.act_rules.specs.declared.history.Letter.TheVariants.{Call as CallLetter}
-use Rattle.act_rules.specs.declared.history.Post.{Post}
 use Rattle.act_rules.specs.declared.history.Post.TheVariants.{Reply as ReplyPost, Death as DeathPost}
-use Rattle.act_rules.specs.History.{History, under, runs_of, calls_of, kept_of, cast_of, names, is_caller, is_dead, has_letter, ran_count, run_item, next_item}
-use Rattle.act_rules.specs.Rules.{refusal_of, add_event, and_also, after_run}
 use Rattle.act_rules.proofs.Lists.{slice_get_front, slice_get_last, All_more, All_weaker, All_at}
 use Rattle.act_rules.proofs.Growth.{added_grows, runs_grow}
 use Rattle.act_rules.proofs.Steps.{IsKept}

@@ -1,24 +1,12 @@
 -- A retired actor ran every call that was submitted to it, of every caller.
-use Rattle.std.proofs.Common.{◌≡◌, ℕ, ◌+◌, ◌≤◌, Bool, true, false, cond, List, [], ◌∷◌, ◌++◌, length, Some, None, refl, ap, sym, ◌∙◌, subst, arith, length-append, ◌⊎◌, inl, inr, ⊎_elim, ◌-◌}
-use Rattle.std.specs.Prelude.{Option, ◌==◌, ◌||◌, not, map, filter, find, slice_get, is_some}
-use Rattle.std.specs.List.{AllByRecursion, list_all, enumerate_from}
-use Rattle.std.proofs.lemmas.Bool.{eqb-true, and_parts, and_from, or_right}
-use Rattle.std.proofs.lemmas.List.{append-nil, length-map}
-use Rattle.std.proofs.lemmas.List.Folds.{list_any-append}
-use Rattle.std.proofs.lemmas.List.FromFn.{length-enumerate_from}
-use Rattle.act_rules.specs.declared.history.RunItem.{RunItem}
-use Rattle.act_rules.specs.declared.event.Event.{Event}
-use Rattle.act_rules.specs.declared.event.Event.TheVariants.{Submit, Copy, Release, Send, Deliver, Run, Collect, AskKill, TakeKill, Tell, Retire}
-use Rattle.act_rules.specs.declared.outcome.WorldRefusal.TheVariants.{Handle, ActorEnded, NotDrained}
-use Rattle.act_rules.specs.declared.outcome.HandleRefusal.TheVariants.{NoActor}
-use Rattle.act_rules.specs.RunList.{items_of}
-use Rattle.act_rules.specs.declared.history.Submission.{Submission}
-use Rattle.act_rules.specs.Submissions.{calls_to, needs}
-use Rattle.act_rules.specs.Consistent.{IsPrefix}
-use Rattle.act_rules.specs.declared.history.Letter.{Letter}
+use Rattle.act_rules.proofs.Common.{◌≡◌, ℕ, ◌+◌, ◌≤◌, Bool, true, false, cond, List, [], ◌∷◌, ◌++◌, length, Some, None, refl, ap, sym, ◌∙◌, subst, arith}
+use Rattle.act_rules.proofs.Common.{length-append, ◌⊎◌, inl, inr, ⊎_elim, ◌-◌, Option, ◌==◌, ◌||◌, not, map, filter, find, slice_get, is_some, AllByRecursion}
+use Rattle.act_rules.proofs.Common.{list_all, enumerate_from, eqb-true, and_parts, and_from, or_right, append-nil, length-map, list_any-append}
+use Rattle.act_rules.proofs.Common.{length-enumerate_from, RunItem, Event, Submit, Copy, Release, Send, Deliver, Run, Collect, AskKill, TakeKill, Tell, Retire}
+use Rattle.act_rules.proofs.Common.{Handle, ActorEnded, NotDrained, NoActor, items_of, Submission, calls_to, needs, IsPrefix, Letter, ActorSpec, History}
+use Rattle.act_rules.proofs.Common.{opening, contains, callers_in, cast_of, names, calls_of, count_pairs, copies_of, runs_of, ran_count, has_letter, is_letter}
+use Rattle.act_rules.proofs.Common.{is_done, is_drained, is_dead, is_retired, is_ended, next_item, refusal_of, add_event, after_run, after_all}
 use Rattle.act_rules.specs.declared.history.Letter.TheVariants.{Note as NoteLetter}
-use Rattle.act_rules.specs.History.{ActorSpec, History, opening, contains, callers_in, cast_of, names, calls_of, count_pairs, copies_of, runs_of, ran_count, has_letter, is_letter, is_done, is_drained, is_dead, is_retired, is_ended, next_item}
-use Rattle.act_rules.specs.Rules.{refusal_of, add_event, after_run, after_all}
 use Rattle.act_rules.proofs.Lists.{All_more, All_at}
 use Rattle.act_rules.proofs.Growth.{Grows, added_grows}
 use Rattle.act_rules.proofs.Steps.{IsKept, after_all_keeps}

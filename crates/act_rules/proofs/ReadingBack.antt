@@ -1,23 +1,13 @@
 -- What a script can write is read back from its text.
-use Rattle.std.proofs.Common.{◌≡◌, ◌≢◌, ℕ, suc, ◌^◌, ◌<◌, ◌≤◌, ◌==◌, true, false, cond, nat_lt, [], ◌∷◌, length, slice_index, Ok, Err, ℤ, pos, negsuc, neg_ℤ, decimal, arith, refl}
-use Rattle.std.specs.Prelude.{bytes_eq, codes}
-use Rattle.std.specs.Fmt.{signed_decimal}
-use Rattle.std.specs.List.{list_all}
-use Rattle.std.specs.Char.{is_ascii_digit}
-use Rattle.std.specs.Str.Parse.{digits_value}
-use Rattle.std.proofs.lemmas.Fmt.{first_decimal, decimal_nonempty}
-use Rattle.std.proofs.lemmas.Bool.Decides.{nat_tests}
-use Rattle.act_types.specs.declared.call.Value.{Value}
+use Rattle.act_rules.proofs.Common.{◌≡◌, ◌≢◌, ℕ, suc, ◌^◌, ◌<◌, ◌≤◌, ◌==◌, true, false, cond, nat_lt, [], ◌∷◌, length, slice_index, Ok, Err, ℤ, pos, negsuc}
+use Rattle.act_rules.proofs.Common.{neg_ℤ, decimal, arith, refl, bytes_eq, codes, signed_decimal, list_all, is_ascii_digit, digits_value, first_decimal}
+use Rattle.act_rules.proofs.Common.{decimal_nonempty, nat_tests, Value, Plain, Fut, is_good_text, caller_text, actor_text, method_text, value_text, BadLine}
+use Rattle.act_rules.proofs.Common.{is_in_range, Word, named_by, kind_text, all_kinds, is_numeral, number_at, ReadsBack, arg_text, is_number, is_caller_number}
+use Rattle.act_rules.proofs.Common.{is_actor_number, is_sayable, is_sayable_arg, is_sayable_method, always}
 use Rattle.act_types.specs.declared.call.Value.TheVariants as value
 use Rattle.act_types.specs.declared.call.Method.TheVariants as method
-use Rattle.act_types.specs.declared.call.Arg.TheVariants.{Plain, Fut}
-use Rattle.act_types.specs.GoodText.{is_good_text}
-use Rattle.act_types.specs.Texts.{caller_text, actor_text, method_text, value_text}
 use Rattle.act_rules.specs.declared.script.KindName.TheVariants as kind
-use Rattle.act_rules.specs.declared.script.Wrong.TheVariants.{BadLine}
-use Rattle.act_rules.specs.Kinds.{is_in_range}
-use Rattle.act_rules.specs.Words.{Word, named_by, kind_text, all_kinds, method_at, is_numeral, number_at, int_at, caller_at, actor_at, text_at, value_at, arg_at}
-use Rattle.act_rules.specs.Laws.{ReadsBack, arg_text, is_number, is_caller_number, is_actor_number, is_sayable, is_sayable_arg, is_sayable_method, always}
+use Rattle.act_rules.specs.Words.{method_at, int_at, caller_at, actor_at, text_at, value_at, arg_at}
 use Rattle.act_rules.proofs.Numbers.{printed_is_number, decimal_is_numeral, value_printed, digits_printed}
 use Rattle.act_rules.proofs.Marks.{closed_some}
 

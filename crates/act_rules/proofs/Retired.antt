@@ -1,24 +1,14 @@
 -- A retired actor ran every call that was submitted to it.
-use Rattle.std.proofs.Common.{◌≡◌, ℕ, ◌+◌, ◌-◌, Bool, true, false, cond, List, [], ◌∷◌, ◌++◌, length, Some, None, refl, ap, sym, ◌∙◌, arith, length-append}
-use Rattle.std.specs.Prelude.{Option, ◌==◌, ◌&&◌, slice_get, option_map, is_some, nat_lt, nat_le}
-use Rattle.std.specs.List.{AllByRecursion, list_all}
-use Rattle.std.proofs.lemmas.Bool.{eqb-true, eq-eqb, and_parts, and_from}
-use Rattle.std.proofs.lemmas.List.{append-nil}
-use Rattle.std.proofs.lemmas.List.Elements.{filter-append}
-use Rattle.act_types.specs.declared.call.Arg.{Arg}
-use Rattle.act_types.specs.declared.call.Method.{Method}
-use Rattle.act_rules.specs.declared.history.RunItem.{RunItem}
-use Rattle.act_rules.specs.declared.event.Event.{Event}
-use Rattle.act_rules.specs.declared.event.Event.TheVariants.{Submit, Copy, Release, Send, Deliver, Run, Collect, AskKill, TakeKill, Tell, Retire}
+use Rattle.act_rules.proofs.Common.{◌≡◌, ℕ, ◌+◌, ◌-◌, Bool, true, false, cond, List, [], ◌∷◌, ◌++◌, length, Some, None, refl, ap, sym, ◌∙◌, arith}
+use Rattle.act_rules.proofs.Common.{length-append, Option, ◌==◌, ◌&&◌, slice_get, option_map, is_some, nat_lt, nat_le, AllByRecursion, list_all, eqb-true}
+use Rattle.act_rules.proofs.Common.{eq-eqb, and_parts, and_from, append-nil, filter-append, Arg, Method, RunItem, Event, Submit, Copy, Release, Send, Deliver}
+use Rattle.act_rules.proofs.Common.{Run, Collect, AskKill, TakeKill, Tell, Retire, NoActor, NoHandle, TooManyCopies, Submission, calls_to, needs, copies_held}
+use Rattle.act_rules.proofs.Common.{copy_refusal, submit_refusal, limit_refusal, is_earlier, Letter, History, cast_of, names, is_caller, calls_of, under}
+use Rattle.act_rules.proofs.Common.{count_pairs, copies_of, limit_of, next_item, unanswered, submission_refusal, refusal_of, add_event, and_also, after_run}
+use Rattle.act_rules.proofs.Common.{call_letter, is_last}
 use Rattle.act_rules.specs.declared.outcome.WorldRefusal.TheVariants.{Submit as SubmitRefused, Handle, NoCaller}
-use Rattle.act_rules.specs.declared.outcome.HandleRefusal.TheVariants.{NoActor, NoHandle, TooManyCopies}
 use Rattle.act_rules.specs.declared.outcome.SubmitRefusal.TheVariants.{NoActor as NoSuchActor, NoHandle as NoCopy, TooManyArgs, BadFuture, TooManyCalls}
-use Rattle.act_rules.specs.declared.history.Submission.{Submission}
-use Rattle.act_rules.specs.Submissions.{calls_to, needs, copies_held, copy_refusal, submit_refusal, limit_refusal, is_earlier}
-use Rattle.act_rules.specs.declared.history.Letter.{Letter}
 use Rattle.act_rules.specs.declared.history.Letter.TheVariants.{Call as CallLetter, Note as NoteLetter}
-use Rattle.act_rules.specs.History.{History, cast_of, names, is_caller, calls_of, under, count_pairs, copies_of, limit_of, next_item}
-use Rattle.act_rules.specs.Rules.{unanswered, submission_refusal, refusal_of, add_event, and_also, after_run, call_letter, is_last}
 use Rattle.act_rules.proofs.Lists.{enumerate_from-append, All_more, All_weaker, All_at, option_map-none, option_or-none}
 use Rattle.act_rules.proofs.Steps.{IsKept}
 use Rattle.act_rules.proofs.Ended.{needs-none, under-push}

@@ -1,9 +1,6 @@
 -- A run list with one more item.
-use Rattle.std.proofs.Common.{◌≡◌, ℕ, ◌==◌, List, [], ◌∷◌, ◌++◌, length, cond, Some, refl}
-use Rattle.std.proofs.lemmas.List.Elements.{filter-append}
-use Rattle.act_types.specs.KindState.{KindState}
-use Rattle.act_rules.specs.declared.history.RunItem.{RunItem}
-use Rattle.act_rules.specs.RunList.{after_item, state_after, answer_at, items_of}
+use Rattle.act_rules.proofs.Common.{◌≡◌, ℕ, ◌==◌, List, [], ◌∷◌, ◌++◌, length, cond, Some, refl, filter-append, KindState, RunItem, after_item, state_after}
+use Rattle.act_rules.proofs.Common.{answer_at, items_of}
 
 -- the state after one more item
 pub state_after-push : (opening : KindState) (items : List RunItem) (item : RunItem)

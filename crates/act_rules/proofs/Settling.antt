@@ -1,12 +1,6 @@
 -- Arguments that are known stay as they are settled.
-use Rattle.std.proofs.Common.{◌≡◌, ℕ, true, List, [], ◌∷◌, Some, None, refl}
-use Rattle.std.specs.Prelude.{Option, map, is_some}
-use Rattle.std.specs.List.{list_all}
-use Rattle.std.proofs.lemmas.Bool.{and_parts, and_from}
-use Rattle.act_types.specs.declared.call.Arg.{Arg}
-use Rattle.act_types.specs.declared.call.Arg.TheVariants.{Plain, Fut}
-use Rattle.act_rules.specs.RunList.{Answer}
-use Rattle.act_rules.specs.Submissions.{kept_at, is_known, settle, settled_future}
+use Rattle.act_rules.proofs.Common.{◌≡◌, ℕ, true, List, [], ◌∷◌, Some, None, refl, Option, map, is_some, list_all, and_parts, and_from, Arg, Plain, Fut, Answer}
+use Rattle.act_rules.proofs.Common.{kept_at, is_known, settle, settled_future}
 
 -- the second table keeps what the first does
 abbrev pub Extends : List (Option Answer) → List (Option Answer) → Type 0

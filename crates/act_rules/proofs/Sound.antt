@@ -1,20 +1,10 @@
 -- Every world is consistent.
-use Rattle.std.proofs.Common.{◌≡◌, ◌≢◌, ℕ, zero, suc, Bool, true, false, cond, List, [], ◌∷◌, Some, None, refl, sym, ◌∙◌, subst}
-use Rattle.std.specs.Prelude.{Option, ◌==◌, ◌&&◌, map, filter, filter_map, slice_get, option_and_then, Err}
-use Rattle.std.specs.List.{AllByRecursion, cons_option}
-use Rattle.std.proofs.lemmas.Bool.{eqb-true, and_parts}
-use Rattle.act_rules.specs.declared.history.RunItem.{RunItem}
-use Rattle.act_types.specs.declared.call.Fault.TheVariants.{ActorDied}
-use Rattle.act_rules.specs.declared.event.Event.{Event}
-use Rattle.act_types.specs.KindState.{KindState}
-use Rattle.act_rules.specs.RunList.{Answer, answer_at}
-use Rattle.act_rules.specs.declared.history.Submission.{Submission}
-use Rattle.act_rules.specs.Submissions.{kept_at}
-use Rattle.act_rules.specs.Consistent.{IsAsSubmitted, IsAnswerOfRun, IsCallToDead, Consistent}
-use Rattle.act_rules.specs.declared.history.Post.{Post}
+use Rattle.act_rules.proofs.Common.{◌≡◌, ◌≢◌, ℕ, zero, suc, Bool, true, false, cond, List, [], ◌∷◌, Some, None, refl, sym, ◌∙◌, subst, Option, ◌==◌, ◌&&◌, map}
+use Rattle.act_rules.proofs.Common.{filter, filter_map, slice_get, option_and_then, Err, AllByRecursion, cons_option, eqb-true, and_parts, RunItem, ActorDied}
+use Rattle.act_rules.proofs.Common.{Event, KindState, Answer, answer_at, Submission, kept_at, IsAsSubmitted, IsAnswerOfRun, IsCallToDead, Consistent, Post}
+use Rattle.act_rules.proofs.Common.{ActorSpec, History, opening, opening_of, under, runs_of, calls_of, kept_of, is_dead, is_item_of, answer_of, answer_in}
+use Rattle.act_rules.proofs.Common.{after_all}
 use Rattle.act_rules.specs.declared.history.Post.TheVariants.{Reply as ReplyPost, Death as DeathPost}
-use Rattle.act_rules.specs.History.{ActorSpec, History, opening, opening_of, under, runs_of, calls_of, kept_of, is_dead, is_item_of, answer_of, answer_in}
-use Rattle.act_rules.specs.Rules.{after_all}
 use Rattle.act_rules.proofs.Lists.{whole_front}
 use Rattle.act_rules.proofs.Steps.{IsKept, after_all_keeps}
 use Rattle.act_rules.proofs.Posts.{IsSoundPost, PostsAreSound, posts_step}

@@ -1,17 +1,10 @@
 -- What a word spells, it spells as the thing's text.
-use Rattle.std.proofs.Common.{◌≡◌, ℕ, ◌==◌, Bool, true, false, cond, nat_lt, List, [], ◌∷◌, slice_index, Result, Ok, Err, ℤ, refl, ap, ◌∙◌}
-use Rattle.std.specs.Prelude.{Some, find, bytes_eq, codes}
-use Rattle.std.specs.Cmp.Lexicographic.{bytes_decides}
-use Rattle.act_types.specs.declared.call.Value.{Value}
+use Rattle.act_rules.proofs.Common.{◌≡◌, ℕ, ◌==◌, Bool, true, false, cond, nat_lt, List, [], ◌∷◌, slice_index, Result, Ok, Err, ℤ, refl, ap, ◌∙◌, Some, find}
+use Rattle.act_rules.proofs.Common.{bytes_eq, codes, bytes_decides, Value, Arg, Plain, Fut, is_good_text, caller_text, actor_text, method_text, value_text}
+use Rattle.act_rules.proofs.Common.{Wrong, BadLine, Word, ◌>>=◌, or_bad_line, named_by, kind_text, all_kinds, all_methods, number_at, int_at, marked_at}
+use Rattle.act_rules.proofs.Common.{closed_at, HasOneSpelling, arg_text}
 use Rattle.act_types.specs.declared.call.Value.TheVariants as value
-use Rattle.act_types.specs.declared.call.Arg.{Arg}
-use Rattle.act_types.specs.declared.call.Arg.TheVariants.{Plain, Fut}
-use Rattle.act_types.specs.GoodText.{is_good_text}
-use Rattle.act_types.specs.Texts.{caller_text, actor_text, method_text, value_text}
-use Rattle.act_rules.specs.declared.script.Wrong.{Wrong}
-use Rattle.act_rules.specs.declared.script.Wrong.TheVariants.{BadLine}
-use Rattle.act_rules.specs.Words.{Word, ◌>>=◌, or_bad_line, named_by, kind_text, all_kinds, all_methods, method_at, number_at, int_at, marked_at, closed_at, caller_at, actor_at, text_at, value_at, arg_at}
-use Rattle.act_rules.specs.Laws.{HasOneSpelling, arg_text}
+use Rattle.act_rules.specs.Words.{method_at, caller_at, actor_at, text_at, value_at, arg_at}
 use Rattle.act_rules.proofs.Numbers.{chosen, number_is_printed, int_is_printed}
 use Rattle.act_rules.proofs.Marks.{marked_is, closed_is}
 

@@ -1,10 +1,6 @@
 -- A fact that each accepted event keeps holds of every run.
-use Rattle.std.proofs.Common.{◌≡◌, List, [], ◌∷◌, ◌++◌, Some, None, refl, ap}
-use Rattle.std.specs.Prelude.{Option}
-use Rattle.act_rules.specs.declared.event.Event.{Event}
-use Rattle.act_rules.specs.declared.outcome.WorldRefusal.{WorldRefusal}
-use Rattle.act_rules.specs.History.{History}
-use Rattle.act_rules.specs.Rules.{Outcome, refusal_of, add_event, after_by, after, after_all, outcome_of, outcomes}
+use Rattle.act_rules.proofs.Common.{◌≡◌, List, [], ◌∷◌, ◌++◌, Some, None, refl, ap, Option, Event, WorldRefusal, History, Outcome, refusal_of, add_event}
+use Rattle.act_rules.proofs.Common.{after_by, after, after_all, outcome_of, outcomes}
 
 -- an event leaves the history, or adds to it where nothing refuses it
 pub after_keeps : (P : History → Type 0) (h : History) (event : Event) → P h → (refusal_of h event ≡ None → P (add_event h event)) → P (after h event)

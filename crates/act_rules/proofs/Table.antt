@@ -1,19 +1,9 @@
 -- A caller's reply table, and what each event does to it.
-use Rattle.std.proofs.Common.{◌≡◌, ℕ, ◌+◌, ◌<◌, Bool, true, false, cond, List, [], ◌∷◌, ◌++◌, length, Some, None, refl, ap, ◌∙◌, arith}
-use Rattle.std.specs.Prelude.{Option, ◌==◌, ◌&&◌, ◌||◌, map, filter_map, slice_get, Err}
-use Rattle.std.specs.List.{list_any, enumerate_from, cons_option}
-use Rattle.std.proofs.lemmas.Bool.{eqb-true, eq-eqb}
-use Rattle.std.proofs.lemmas.List.{map-append}
-use Rattle.std.proofs.lemmas.List.Elements.{filter_map-append}
-use Rattle.std.proofs.lemmas.Option.{slice_get_within}
-use Rattle.act_types.specs.declared.call.Arg.{Arg}
-use Rattle.act_types.specs.declared.call.Method.{Method}
-use Rattle.act_types.specs.declared.call.Fault.TheVariants.{ActorDied}
-use Rattle.act_rules.specs.RunList.{Answer}
-use Rattle.act_rules.specs.declared.history.Submission.{Submission}
-use Rattle.act_rules.specs.declared.history.Post.{Post}
+use Rattle.act_rules.proofs.Common.{◌≡◌, ℕ, ◌+◌, ◌<◌, Bool, true, false, cond, List, [], ◌∷◌, ◌++◌, length, Some, None, refl, ap, ◌∙◌, arith, Option, ◌==◌}
+use Rattle.act_rules.proofs.Common.{◌&&◌, ◌||◌, map, filter_map, slice_get, Err, list_any, enumerate_from, cons_option, eqb-true, eq-eqb, map-append}
+use Rattle.act_rules.proofs.Common.{filter_map-append, slice_get_within, Arg, Method, ActorDied, Answer, Submission, Post, History, under, calls_of, kept_of}
+use Rattle.act_rules.proofs.Common.{answer_of, answer_in, first_answer}
 use Rattle.act_rules.specs.declared.history.Post.TheVariants.{Reply as ReplyPost, Death as DeathPost}
-use Rattle.act_rules.specs.History.{History, under, calls_of, kept_of, answer_of, answer_in, first_answer}
 use Rattle.act_rules.proofs.Lists.{enumerate_from-append, All_weaker, filter_map-same}
 use Rattle.act_rules.proofs.Ended.{under-push}
 use Rattle.act_rules.proofs.Growth.{Grows}

@@ -1,11 +1,7 @@
 -- Run lists in which nothing follows a `terminate` that ended the actor.
-use Rattle.std.proofs.Common.{◌≡◌, ℕ, zero, suc, ◌+◌, ◌-◌, ◌<◌, ◌≤◌, true, false, List, [], ◌∷◌, ◌++◌, length, Some, None, refl, ap, sym, ◌∙◌, arith, ◌⊎◌, inl, inr}
-use Rattle.std.specs.Prelude.{Option, slice_get}
-use Rattle.std.proofs.lemmas.Bool.{cases_lt}
-use Rattle.std.proofs.lemmas.Option.{slice_get_past}
-use Rattle.std.proofs.lemmas.List.{length_push}
-use Rattle.act_rules.specs.declared.history.RunItem.{RunItem}
-use Rattle.act_rules.specs.RunList.{ends_actor, has_terminated, NothingFollowsAnEnd}
+use Rattle.act_rules.proofs.Common.{◌≡◌, ℕ, zero, suc, ◌+◌, ◌-◌, ◌<◌, ◌≤◌, true, false, List, [], ◌∷◌, ◌++◌, length, Some, None, refl, ap, sym, ◌∙◌, arith, ◌⊎◌}
+use Rattle.act_rules.proofs.Common.{inl, inr, Option, slice_get, cases_lt, slice_get_past, length_push, RunItem, ends_actor, has_terminated}
+use Rattle.act_rules.proofs.Common.{NothingFollowsAnEnd}
 use Rattle.act_rules.proofs.Lists.{slice_get_last, slice_get_more}
 
 -- the last item decides

@@ -1,14 +1,7 @@
 -- One place of the run lists holds a call.
-use Rattle.std.proofs.Common.{◌≡◌, ℕ, zero, suc, ◌+◌, ◌≤◌, Bool, true, false, cond, List, [], ◌∷◌, length, Some, None, refl, ap, sym, ◌∙◌, subst, arith}
-use Rattle.std.specs.Prelude.{Option, ◌==◌, map, filter, take, slice_get, option_map}
-use Rattle.std.specs.List.{enumerate_from}
-use Rattle.std.proofs.lemmas.Bool.{eq-eqb}
-use Rattle.std.proofs.lemmas.Option.{slice_get-map}
-use Rattle.act_rules.specs.declared.history.RunItem.{RunItem}
-use Rattle.act_rules.specs.RunList.{items_of}
-use Rattle.act_rules.specs.declared.history.Submission.{Submission}
-use Rattle.act_rules.specs.Submissions.{calls_to}
-use Rattle.act_rules.specs.History.{History, runs_of, calls_of}
+use Rattle.act_rules.proofs.Common.{◌≡◌, ℕ, zero, suc, ◌+◌, ◌≤◌, Bool, true, false, cond, List, [], ◌∷◌, length, Some, None, refl, ap, sym, ◌∙◌, subst, arith}
+use Rattle.act_rules.proofs.Common.{Option, ◌==◌, map, filter, take, slice_get, option_map, enumerate_from, eq-eqb, slice_get-map, RunItem, items_of}
+use Rattle.act_rules.proofs.Common.{Submission, calls_to, History, runs_of, calls_of}
 use Rattle.act_rules.proofs.Lists.{slice_get_front, slice_get-filter, slice_get-enumerate_from}
 use Rattle.act_rules.proofs.Order.{InOrder, numbered, numbers}
 use Rattle.act_rules.proofs.AsSubmitted.{calls_to-at}

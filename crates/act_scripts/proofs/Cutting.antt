@@ -1,14 +1,9 @@
 -- The first line of a text, byte by byte, and its words.
-use Rattle.std.proofs.Common.{◌≡◌, ℕ, ◌+◌, ◌-◌, ◌<◌, ◌≤◌, ◌==◌, Bool, true, false, List, [], ◌∷◌, ◌++◌, length, take, drop, get_or, nat_lt, if◌then◌else◌, Ok, Err, refl, sym, ap, ◌∙◌, arith, append-nil, length-append, length-take, take-append-drop, eq-eqb}
-use Rattle.std.specs.List.{list_all, onto_first, slice_split}
-use Rattle.std.proofs.lemmas.List.{at_drop_more, take_more, drop_all, drop-take, drop-append-le}
-use Rattle.std.proofs.lemmas.List.Splits.{slice_split-cons_yes, slice_split-cons_no, length-slice_split}
-use Rattle.std.proofs.lemmas.List.Folds.{list_all-append, list_all_more}
-use Rattle.std.proofs.lemmas.Bool.{and_parts, lt-ltb, le-ltb}
-use Rattle.std.proofs.lemmas.Bool.Decides.{nat_tests}
-use Rattle.act_types.specs.declared.limits.TheConstants.{MAX_LINE_BYTES}
-use Rattle.act_rules.specs.declared.script.Wrong.TheVariants.{BadLine}
-use Rattle.act_rules.specs.Grammar.{is_plain_byte, plain_at, words_in, lines_in}
+use Rattle.act_scripts.proofs.Common.{◌≡◌, ℕ, ◌+◌, ◌-◌, ◌<◌, ◌≤◌, ◌==◌, Bool, true, false, List, [], ◌∷◌, ◌++◌, length, take, drop, get_or, nat_lt}
+use Rattle.act_scripts.proofs.Common.{if◌then◌else◌, Ok, Err, refl, sym, ap, ◌∙◌, arith, append-nil, length-append, length-take, take-append-drop, eq-eqb}
+use Rattle.act_scripts.proofs.Common.{list_all, onto_first, slice_split, at_drop_more, take_more, drop_all, drop-take, drop-append-le, slice_split-cons_yes}
+use Rattle.act_scripts.proofs.Common.{slice_split-cons_no, length-slice_split, list_all-append, list_all_more, and_parts, lt-ltb, le-ltb, nat_tests}
+use Rattle.act_scripts.proofs.Common.{MAX_LINE_BYTES, BadLine, is_plain_byte, plain_at, words_in, lines_in}
 
 -- ---- parts, with one element more
 

@@ -1,13 +1,8 @@
 -- Reading words one after the other, as a loop does.
-use Rattle.std.proofs.Common.{◌≡◌, ℕ, ◌+◌, ◌<◌, ◌≤◌, List, [], ◌∷◌, ◌++◌, length, map, drop, get_or, Result, Ok, Err, Bor, refl, sym, ap, ◌∙◌, append_assoc, add-one, drop-cons}
+use Rattle.act_scripts.proofs.Common.{◌≡◌, ℕ, ◌+◌, ◌<◌, ◌≤◌, List, [], ◌∷◌, ◌++◌, length, map, drop, get_or, Result, Ok, Err, Bor, refl, sym, ap, ◌∙◌}
+use Rattle.act_scripts.proofs.Common.{append_assoc, add-one, drop-cons, drop_of_length-le, Wrong, LineFault, ◌>>=◌, Fails, each_at}
 use Rattle.std.proofs.lemmas.List.{append-nil}
-use Rattle.std.proofs.Math.ListN.{drop_of_length-le}
-use Rattle.act_rules.specs.declared.script.Wrong.{Wrong}
-use Rattle.act_scripts.specs.declared.line.LineFault.{LineFault}
 use Rattle.act_scripts.specs.declared.line.LineFault.TheVariants as faults
-use Rattle.act_rules.specs.Words.{◌>>=◌}
-use Rattle.act_scripts.specs.Gives.{Fails}
-use Rattle.act_rules.specs.Grammar.{each_at}
 
 -- the texts of borrowed words
 abbrev pub texts : List (Bor (List ℕ)) → List (List ℕ)

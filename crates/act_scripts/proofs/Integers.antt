@@ -1,12 +1,8 @@
 -- What `parse` says of a word that is an integer.
-use Rattle.std.proofs.Common.{◌≡◌, ◌≢◌, ℕ, ◌^◌, ◌<◌, ◌≤◌, true, List, slice_index, drop, Result, Ok, Err, MatchResult, ℤ, pos, neg_ℤ, inl, inr, arith, sym, ap, ◌∙◌}
-use Rattle.std.specs.Int.{w64}
-use Rattle.std.specs.Str.Parse.{digits_value, ParsesSigned}
-use Rattle.std.proofs.lemmas.Str.Parse.{parse_signed_minus, parse_signed_digits}
-use Rattle.std.proofs.lemmas.Bool.Decides.{nat_tests, eqb_tells}
-use Rattle.act_rules.specs.declared.script.Wrong.TheVariants.{BadLine}
-use Rattle.act_rules.specs.Words.{is_numeral, is_integer, int_at}
-use Rattle.act_rules.proofs.Numbers.{own, numeral_is_digits}
+use Rattle.act_scripts.proofs.Common.{◌≡◌, ◌≢◌, ℕ, ◌^◌, ◌<◌, ◌≤◌, true, List, slice_index, drop, Result, Ok, Err, MatchResult, ℤ, pos, neg_ℤ, inl, inr, arith}
+use Rattle.act_scripts.proofs.Common.{sym, ap, ◌∙◌, w64, digits_value, ParsesSigned, parse_signed_minus, parse_signed_digits, nat_tests, eqb_tells, BadLine}
+use Rattle.act_scripts.proofs.Common.{is_numeral, is_integer, own, numeral_is_digits}
+use Rattle.act_rules.specs.Words.{int_at}
 
 -- with a minus in front
 minus_at : (word : List ℕ) → slice_index word 0 ≡ 45 → is_integer word ≡ true → (is_numeral (drop 1 word) ≡ true) × (digits_value 10 (drop 1 word) ≤ 2 ^ 63 → int_at word ≡ Ok (neg_ℤ (pos (digits_value 10 (drop 1 word))))) × (¬ (digits_value 10 (drop 1 word) ≤ 2 ^ 63) → int_at word ≡ Err BadLine)

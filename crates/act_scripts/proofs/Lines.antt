@@ -1,12 +1,8 @@
 -- Reading lines one after the other, as a loop does.
-use Rattle.std.proofs.Common.{◌≡◌, ℕ, ◌+◌, List, ◌∷◌, Result, Err, refl, sym, ap, ◌∙◌}
-use Rattle.act_rules.specs.declared.script.Wrong.{Wrong}
-use Rattle.act_rules.specs.Words.{◌>>=◌}
-use Rattle.act_rules.specs.Grammar.{Form, Script, plain_at, line_at, spelled_from, line_added, in_line}
-use Rattle.act_scripts.specs.declared.line.LineFault.{LineFault}
+use Rattle.act_scripts.proofs.Common.{◌≡◌, ℕ, ◌+◌, List, ◌∷◌, Result, Err, refl, sym, ap, ◌∙◌, Wrong, ◌>>=◌, Form, Script, plain_at, spelled_from, line_added}
+use Rattle.act_scripts.proofs.Common.{in_line, LineFault, Fails, FailsAt, fault_at_line}
+use Rattle.act_rules.specs.Grammar.{line_at}
 use Rattle.act_scripts.specs.declared.line.LineFault.TheVariants as faults
-use Rattle.act_scripts.specs.Gives.{Fails}
-use Rattle.act_scripts.specs.Spelled.{FailsAt, fault_at_line}
 
 -- what a line's reading gives, and then that of the other lines
 abbrev and_then : List Form → ℕ → List (List ℕ) → Result Script Wrong → Result Script (ℕ × Wrong)

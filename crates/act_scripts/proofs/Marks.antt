@@ -1,8 +1,7 @@
 -- A word without its first or its last byte.
-use Rattle.std.proofs.Common.{◌≡◌, ◌≢◌, ℕ, ◌-◌, ◌++◌, List, [], ◌∷◌, length, slice_index, take, Ok, Err, inl, inr, arith, refl, ap, ◌∙◌}
-use Rattle.std.proofs.lemmas.Bool.Decides.{nat_tests, eqb_tells}
-use Rattle.act_rules.specs.declared.script.Wrong.TheVariants.{BadLine}
-use Rattle.act_rules.specs.Words.{marked_at, closed_at}
+use Rattle.act_scripts.proofs.Common.{◌≡◌, ◌≢◌, ℕ, ◌-◌, ◌++◌, List, [], ◌∷◌, length, slice_index, take, Ok, Err, inl, inr, arith, refl, ap, ◌∙◌, nat_tests}
+use Rattle.act_scripts.proofs.Common.{eqb_tells, BadLine, marked_at}
+use Rattle.act_rules.specs.Words.{closed_at}
 use Rattle.act_rules.proofs.Marks.{last_is, closed_some as closed_at_end}
 
 pub marked_some : (bs rest : List ℕ) (mark : ℕ) → bs ≡ mark ∷ rest → marked_at bs mark ≡ Ok rest

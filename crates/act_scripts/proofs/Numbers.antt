@@ -1,11 +1,7 @@
 -- What `parse` says of a word that is a numeral.
-use Rattle.std.proofs.Common.{◌≡◌, ℕ, ◌^◌, ◌<◌, true, List, Result, Ok, Err, MatchResult, arith, sym, ap, ◌∙◌}
-use Rattle.std.specs.Str.Parse.{digits_value, ParsesUnsigned}
-use Rattle.std.proofs.lemmas.Str.Parse.{parse_digits}
-use Rattle.std.proofs.lemmas.Bool.Decides.{nat_tests}
-use Rattle.act_rules.specs.declared.script.Wrong.TheVariants.{BadLine}
-use Rattle.act_rules.specs.Words.{is_numeral, number_at}
-use Rattle.act_rules.proofs.Numbers.{own, numeral_is_digits}
+use Rattle.act_scripts.proofs.Common.{◌≡◌, ℕ, ◌^◌, ◌<◌, true, List, Result, Ok, Err, MatchResult, arith, sym, ap, ◌∙◌, digits_value, ParsesUnsigned}
+use Rattle.act_scripts.proofs.Common.{parse_digits, nat_tests, BadLine, is_numeral, own, numeral_is_digits}
+use Rattle.act_rules.specs.Words.{number_at}
 
 number_from_test : (word : List ℕ) → is_numeral word ≡ true → (digits_value 10 word < 2 ^ 32 → number_at word ≡ Ok (digits_value 10 word)) × (¬ (digits_value 10 word < 2 ^ 32) → number_at word ≡ Err BadLine)
 unfolding number_at

@@ -1,11 +1,6 @@
 -- Plain bytes are text.
-use Rattle.std.proofs.Common.{◌≡◌, ℕ, ◌<◌, true, List, [], ◌∷◌, arith}
-use Rattle.std.specs.List.{list_all}
-use Rattle.std.specs.Str.{IsAscii}
-use Rattle.std.proofs.lemmas.Str.Ascii.{IsAscii-nil, IsAscii-cons}
-use Rattle.std.proofs.lemmas.Bool.Decides.{nat_tests}
-use Rattle.std.proofs.lemmas.Bool.{and_parts}
-use Rattle.act_rules.specs.Grammar.{is_plain_byte}
+use Rattle.act_scripts.proofs.Common.{◌≡◌, ℕ, ◌<◌, true, List, [], ◌∷◌, arith, list_all, IsAscii, IsAscii-nil, IsAscii-cons, nat_tests, and_parts}
+use Rattle.act_scripts.proofs.Common.{is_plain_byte}
 
 plain_below : (b : ℕ) → is_plain_byte b ≡ true → b < 128
 plain_below b h = grind (arith, nat_tests)

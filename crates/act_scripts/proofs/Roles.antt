@@ -1,26 +1,11 @@
 -- Roles of distinct actors.
-use Rattle.std.proofs.Common.{◌≡◌, ◌≢◌, ℕ, ◌<◌, ◌≤◌, ◌==◌, ◌||◌, true, false, List, [], ◌∷◌, ◌++◌, length, map, get_or, Bool, All, AllPairs, ap, sym, ◌∙◌, refl, subst, true≢false, eq-eqb, Some, None, not, inl, inr, arith}
-use Rattle.std.specs.Prelude.{if◌then◌else◌}
-use Rattle.std.specs.List.{list_any, IsDistinct}
-use Rattle.std.proofs.Math.Dec.{eqb}
-use Rattle.std.proofs.lemmas.Bool.{eqb-true, or_parts}
-use Rattle.std.proofs.lemmas.Bool.Decides.{eqb_tells, Decides-eqb}
-use Rattle.std.proofs.lemmas.List.{get_or-map, length-map, map-append}
-use Rattle.std.proofs.lemmas.List.Elements.{All-cons, All-map, All-push, recursion_from_All}
-use Rattle.std.proofs.lemmas.List.Folds.{Any-from_list_any, list_any_at}
-use Rattle.std.proofs.lemmas.List.Kept.{AllPairs-cons}
-use Rattle.std.proofs.lemmas.List.Quantifiers.{all_pairs_push}
-use Rattle.std.proofs.lemmas.Map.Keys.{IsDistinct-cons}
-use Rattle.std.proofs.lemmas.Map.Made.{IsDistinct-from_AllPairs}
-use Rattle.std.proofs.lemmas.Map.Steps.{length-le_from_distinct_below}
-use Rattle.act_rules.specs.declared.script.Role.{Role}
-use Rattle.act_rules.specs.History.{ActorSpec}
-use Rattle.act_rules.specs.declared.script.Wrong.TheVariants.{LateActor, TwiceActor, TwiceCaller}
-use Rattle.act_rules.specs.Grammar.{Script, has_twice, role_fault}
-use Rattle.act_rules.specs.Submissions.{IsLimit}
-use Rattle.act_rules.specs.Scripts.{actor_spec_of}
-use Rattle.act_rules.proofs.Lists.{AllPairs-map}
-use Rattle.act_scripts.specs.Roles.{AreFitting, AreSound}
+use Rattle.act_scripts.proofs.Common.{◌≡◌, ◌≢◌, ℕ, ◌<◌, ◌≤◌, ◌==◌, ◌||◌, true, false, List, [], ◌∷◌, ◌++◌, length, map, get_or, Bool, All, AllPairs, ap, sym}
+use Rattle.act_scripts.proofs.Common.{◌∙◌, refl, subst, true≢false, eq-eqb, Some, None, not, inl, inr, arith, if◌then◌else◌, list_any, IsDistinct, eqb}
+use Rattle.act_scripts.proofs.Common.{eqb-true, or_parts, eqb_tells, Decides-eqb, get_or-map, length-map, map-append, All-cons, All-map, All-push}
+use Rattle.act_scripts.proofs.Common.{recursion_from_All, Any-from_list_any, list_any_at, AllPairs-cons, all_pairs_push, IsDistinct-cons}
+use Rattle.act_scripts.proofs.Common.{IsDistinct-from_AllPairs, length-le_from_distinct_below, Role, ActorSpec, LateActor, TwiceActor, TwiceCaller, Script}
+use Rattle.act_scripts.proofs.Common.{has_twice, IsLimit, actor_spec_of, AllPairs-map, AreFitting, AreSound}
+use Rattle.act_rules.specs.Grammar.{role_fault}
 
 -- ---- no more actors than there are numbers for them
 

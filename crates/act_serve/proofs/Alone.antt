@@ -1,9 +1,6 @@
 -- One endpoint, as it is opened.
-use Rattle.std.proofs.Common.{arith, ◌≡◌, ℕ, zero, suc, ◌<◌, List, [], ◌∷◌, length, get_or, refl, sym, subst}
-use Rattle.act_mailbox.specs.Notices.{RepliesView, ReplyExecView, new_exec}
-use Rattle.act_mailbox.specs.declared.thread.Endpoint.{Endpoint}
-use Rattle.act_serve.specs.Served.{endpoint_callers}
-use Rattle.act_serve.specs.Turns.{IsAtItsEndpoint}
+use Rattle.act_serve.proofs.Common.{arith, ◌≡◌, ℕ, zero, suc, ◌<◌, List, [], ◌∷◌, length, get_or, refl, sym, subst, RepliesView, ReplyExecView, new_exec}
+use Rattle.act_serve.proofs.Common.{Endpoint, endpoint_callers, IsAtItsEndpoint}
 
 opened_endpoint : (line : RepliesView) → IsAtItsEndpoint (line ∷ []) 1 [] (record { place = 0; pass = new_exec line.line 1 })
 opened_endpoint line = record {

@@ -1,14 +1,7 @@
 -- Each reply that is due is the answer at its place.
-use Rattle.std.proofs.Common.{◌≡◌, ℕ, suc, ◌+◌, Bool, true, false, cond, List, [], ◌∷◌, Some, None, refl, ap, sym, subst, arith, All}
-use Rattle.std.specs.Prelude.{◌==◌, Option, map, filter, slice_get}
-use Rattle.std.specs.List.{cons_option, enumerate_from}
-use Rattle.std.proofs.lemmas.List.Elements.{All-cons}
-use Rattle.act_types.specs.KindState.{KindState}
-use Rattle.act_types.specs.declared.call.Notice.{Notice}
-use Rattle.act_types.specs.declared.call.Notice.TheVariants.{Answered}
-use Rattle.act_rules.specs.declared.history.RunItem.{RunItem}
-use Rattle.act_rules.specs.RunList.{Answer, after_item, answers_from, answer_at}
-use Rattle.act_serve.specs.Served.{replies_to, IsReplyOf, place_of, RepliesAreDue}
+use Rattle.act_serve.proofs.Common.{◌≡◌, ℕ, suc, ◌+◌, Bool, true, false, cond, List, [], ◌∷◌, Some, None, refl, ap, sym, subst, arith, All, ◌==◌, Option, map}
+use Rattle.act_serve.proofs.Common.{filter, slice_get, cons_option, enumerate_from, All-cons, KindState, Notice, Answered, RunItem, Answer, after_item}
+use Rattle.act_serve.proofs.Common.{answers_from, answer_at, replies_to, IsReplyOf, place_of, RepliesAreDue}
 use Rattle.act_serve.proofs.Logs.{Tells, same, other, tells, replies_from}
 
 module _ (opening : KindState) (a c : ℕ) (log : List RunItem) where

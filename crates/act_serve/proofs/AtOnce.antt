@@ -1,31 +1,12 @@
 -- A call that runs at once, seen as one that arrives and then runs.
-use Rattle.std.proofs.Common.{◌≡◌, ℕ, zero, suc, ◌+◌, ◌<◌, Bool, true, false, cond, List, [], ◌∷◌, ◌++◌, Option, Some, None, Result, Ok, Err, IfOk, OnOk, length, length-append, get_or, map, refl, ap, sym, ◌∙◌, subst, arith, eq-eqb, find, position, All}
-use Rattle.std.specs.Prelude.{◌==◌, set, is_some}
-use Rattle.std.proofs.lemmas.Bool.{le-ltb, eqb-true}
-use Rattle.std.proofs.lemmas.List.{get_or_default}
-use Rattle.std.proofs.lemmas.List.Elements.{All-set}
-use Rattle.std.proofs.lemmas.List.Quantifiers.{position-Some}
-use Rattle.std.proofs.Math.Seq.{map-set_same}
-use Rattle.act_types.specs.KindState.{KindState}
-use Rattle.act_types.specs.declared.call.Packet.{Packet}
-use Rattle.act_types.specs.declared.call.Reply.{Reply}
-use Rattle.act_types.specs.declared.call.Notice.TheVariants.{Answered}
-use Rattle.act_rules.specs.declared.history.RunItem.{RunItem}
-use Rattle.act_rules.specs.declared.outcome.Arrival.{Arrival}
-use Rattle.act_rules.specs.declared.outcome.Arrival.TheVariants.{New, Stranger}
-use Rattle.act_rules.specs.RunList.{has_terminated, NothingFollowsAnEnd}
-use Rattle.act_rules.proofs.Terminated.{nothing_follows-push}
-use Rattle.act_inbox.specs.Inbox.{is_packet_of, is_listed, handed_of, was_handed, next_of, arrival_of, with_held, HoldsNone}
-use Rattle.act_inbox.proofs.Packets.{new_listed, waits_holding}
-use Rattle.act_actor.specs.View.{LiveView}
-use Rattle.act_actor.specs.StateViews.{live_view}
-use Rattle.act_actor.specs.Actor.{item_of, reply_of_run, with_packet, RunsAtOnce, HasRunCall}
-use Rattle.act_mailbox.specs.declared.mail.Letter.{Letter}
-use Rattle.act_mailbox.specs.declared.mail.Letter.TheVariants.{Call}
-use Rattle.act_mailbox.specs.Notices.{RepliesView, ReplyExecView}
-use Rattle.act_mailbox.specs.declared.thread.Endpoint.{Endpoint}
-use Rattle.act_serve.specs.Served.{without_given, caller_at}
-use Rattle.act_serve.specs.Turns.{IsFed, IsAtItsEndpoint, IsServing, EndpointsDiffer, HasReplied, ActorGoesOn, has_next, is_endpoint_of, replied_to}
+use Rattle.act_serve.proofs.Common.{◌≡◌, ℕ, zero, suc, ◌+◌, ◌<◌, Bool, true, false, cond, List, [], ◌∷◌, ◌++◌, Option, Some, None, Result, Ok, Err, IfOk, OnOk}
+use Rattle.act_serve.proofs.Common.{length, length-append, get_or, map, refl, ap, sym, ◌∙◌, subst, arith, find, position, All, ◌==◌, set, is_some, le-ltb}
+use Rattle.act_serve.proofs.Common.{eqb-true, get_or_default, All-set, position-Some, map-set_same, KindState, Packet, Reply, Answered, RunItem, Arrival, New}
+use Rattle.act_serve.proofs.Common.{Stranger, has_terminated, NothingFollowsAnEnd, nothing_follows-push, is_packet_of, is_listed, handed_of, was_handed}
+use Rattle.act_serve.proofs.Common.{next_of, arrival_of, with_held, HoldsNone, new_listed, waits_holding, LiveView, live_view, item_of, reply_of_run}
+use Rattle.act_serve.proofs.Common.{with_packet, RunsAtOnce, HasRunCall, Letter, Call, RepliesView, ReplyExecView, Endpoint, without_given, caller_at, IsFed}
+use Rattle.act_serve.proofs.Common.{IsAtItsEndpoint, IsServing, EndpointsDiffer, HasReplied, ActorGoesOn, has_next, is_endpoint_of, replied_to}
+use Rattle.std.proofs.Common.{eq-eqb}
 use Rattle.act_serve.proofs.Logs.{fed_arrive, fed_run}
 use Rattle.act_serve.proofs.Endpoints.{endpoint_on, endpoint_given}
 use Rattle.act_serve.proofs.Serving.{serving_run, caller_here}

@@ -1,13 +1,8 @@
 -- Laws of clocks, and of all that an actor's thread did at one time.
-use Rattle.std.proofs.Common.{◌≡◌, ℕ, zero, suc, ◌<◌, ◌≤◌, List, [], ◌∷◌, ◌++◌, map, length, get_or, Option, Some, None, ◌⊎◌, inl, inr, refl, ap, sym, ◌∙◌, subst, arith, append-nil, append_assoc}
-use Rattle.std.specs.Prelude.{set, flat_map, filter_map, option_map, Contains}
-use Rattle.std.specs.List.{AllZip, cons_option}
-use Rattle.std.proofs.lemmas.List.{get_or-map, length-map}
-use Rattle.std.proofs.lemmas.List.Concat.{flat_map-cons}
-use Rattle.std.proofs.lemmas.List.Elements.{Contains-get_or, Contains-append_left, Contains-append_right, Contains-append_cases}
-use Rattle.std.proofs.lemmas.List.Recursion.{max_bounds, max_least}
-use Rattle.act_mailbox.specs.Traces.{greatest, clock, found_in, IsTimed}
-use Rattle.act_mailbox.proofs.Clocks.{found_more, timed_later, timed_push}
+use Rattle.act_serve.proofs.Common.{◌≡◌, ℕ, zero, suc, ◌<◌, ◌≤◌, List, [], ◌∷◌, ◌++◌, map, length, get_or, Option, Some, None, ◌⊎◌, inl, inr, refl, ap, sym}
+use Rattle.act_serve.proofs.Common.{◌∙◌, subst, arith, append-nil, append_assoc, set, flat_map, filter_map, option_map, Contains, AllZip, cons_option}
+use Rattle.act_serve.proofs.Common.{get_or-map, length-map, flat_map-cons, Contains-get_or, Contains-append_left, Contains-append_right, Contains-append_cases}
+use Rattle.act_serve.proofs.Common.{max_bounds, max_least, greatest, clock, found_in, IsTimed, found_more, timed_later, timed_push}
 
 -- ---- elements
 

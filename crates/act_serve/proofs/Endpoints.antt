@@ -1,13 +1,6 @@
 -- Endpoints while an actor goes on.
-use Rattle.std.proofs.Common.{◌≡◌, ℕ, List, [], ◌∷◌, ◌++◌, ap, sym, ◌∙◌, append-nil, subst, All}
-use Rattle.std.proofs.lemmas.List.Elements.{All-push}
-use Rattle.act_rules.specs.declared.history.RunItem.{RunItem}
-use Rattle.act_types.specs.declared.call.Notice.{Notice}
-use Rattle.act_rules.specs.Consistent.{IsPrefix}
-use Rattle.act_rules.proofs.Lists.{front_trans}
-use Rattle.act_mailbox.specs.Notices.{RepliesView, ReplyExecView, IsNoDeath}
-use Rattle.act_mailbox.specs.declared.thread.Endpoint.{Endpoint}
-use Rattle.act_serve.specs.Turns.{IsAtItsEndpoint}
+use Rattle.act_serve.proofs.Common.{◌≡◌, ℕ, List, [], ◌∷◌, ◌++◌, ap, sym, ◌∙◌, append-nil, subst, All, All-push, RunItem, Notice, IsPrefix, front_trans}
+use Rattle.act_serve.proofs.Common.{RepliesView, ReplyExecView, IsNoDeath, Endpoint, IsAtItsEndpoint}
 
 -- an endpoint while the actor goes on
 pub endpoint_on : (lines : List RepliesView) (a b : ℕ) (log more : List RunItem) (endpoint : Endpoint ReplyExecView) → b ≡ a → IsPrefix log more → IsAtItsEndpoint lines a log endpoint → IsAtItsEndpoint lines b more endpoint

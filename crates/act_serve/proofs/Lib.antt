@@ -1,3 +1,4 @@
+pub mod Common
 pub mod Clocks
 pub mod Traces
 pub mod Endpoints

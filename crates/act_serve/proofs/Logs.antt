@@ -1,33 +1,12 @@
 -- What an actor holds and what it ran, as letters come and calls run.
-use Rattle.std.proofs.Common.{◌≡◌, ◌≢◌, ℕ, suc, ◌+◌, Bool, true, false, cond, List, [], ◌∷◌, ◌++◌, Option, Some, None, Result, Ok, Err, IfOk, OnErr, inl, inr, length, length-append, append-nil, refl, ap, sym, ◌∙◌, subst, arith}
-use Rattle.std.specs.Prelude.{◌==◌, ◌&&◌, nat_lt, map, zip, filter_map, Contains, is_some}
-use Rattle.std.specs.Option.{option_or}
-use Rattle.std.specs.List.{enumerate_from, range_with_len, cons_option}
-use Rattle.std.proofs.lemmas.Bool.{eq-eqb, ne_eqb}
-use Rattle.std.proofs.lemmas.Bool.Decides.{eqb_tells}
-use Rattle.std.proofs.lemmas.List.{map-append}
-use Rattle.std.proofs.lemmas.List.Elements.{All-push, Contains-append_left, Contains-push}
-use Rattle.std.proofs.Math.Bool.{and-false}
-use Rattle.act_types.specs.KindState.{KindState}
-use Rattle.act_types.specs.declared.call.Packet.{Packet}
-use Rattle.act_types.specs.declared.call.ReleaseNote.{ReleaseNote}
-use Rattle.act_types.specs.declared.call.Notice.{Notice}
-use Rattle.act_types.specs.declared.call.Notice.TheVariants.{Answered}
-use Rattle.act_rules.specs.declared.history.RunItem.{RunItem}
-use Rattle.act_rules.specs.declared.outcome.Arrival.{Arrival}
-use Rattle.act_rules.specs.declared.outcome.Arrival.TheVariants.{New, Repeat, Stranger}
-use Rattle.act_rules.specs.RunList.{Answer, after_item, state_after, answers_from, items_of}
-use Rattle.act_rules.specs.History.{contains}
-use Rattle.act_rules.proofs.Lists.{eq_turned, range_push}
-use Rattle.act_rules.proofs.RunLists.{items_of-push}
+use Rattle.act_serve.proofs.Common.{◌≡◌, ◌≢◌, ℕ, suc, ◌+◌, Bool, true, false, cond, List, [], ◌∷◌, ◌++◌, Option, Some, None, Result, Ok, Err, IfOk, OnErr, inl}
+use Rattle.act_serve.proofs.Common.{inr, length, length-append, append-nil, refl, ap, sym, ◌∙◌, subst, arith, ◌==◌, ◌&&◌, nat_lt, map, zip, filter_map}
+use Rattle.act_serve.proofs.Common.{Contains, is_some, option_or, enumerate_from, range_with_len, cons_option, eq-eqb, ne_eqb, eqb_tells, map-append, All-push}
+use Rattle.act_serve.proofs.Common.{Contains-append_left, Contains-push, and-false, KindState, Packet, ReleaseNote, Notice, Answered, RunItem, Arrival, New}
+use Rattle.act_serve.proofs.Common.{Repeat, Stranger, Answer, after_item, state_after, answers_from, items_of, contains, eq_turned, range_push, items_of-push}
+use Rattle.act_serve.proofs.Common.{LiveView, live_view, item_of, packet_of_item, arrival_at, note_arrival_at, HasRunCall, Letter, Call, Note, IsLogOf, note_in}
+use Rattle.act_serve.proofs.Common.{first_note, reply_notice, replies_to, IsFed}
 use Rattle.act_inbox.specs.Inbox.{InboxView, is_packet_of, is_listed, handed_of, was_handed, waiting_packet, waiting_after, next_of, note_of, note_after, note_arrival, has_come as came_before}
-use Rattle.act_actor.specs.View.{LiveView}
-use Rattle.act_actor.specs.StateViews.{live_view}
-use Rattle.act_actor.specs.Actor.{item_of, packet_of_item, arrival_at, note_arrival_at, HasRunCall}
-use Rattle.act_mailbox.specs.declared.mail.Letter.{Letter}
-use Rattle.act_mailbox.specs.declared.mail.Letter.TheVariants.{Call, Note}
-use Rattle.act_serve.specs.Served.{IsLogOf, note_in, first_note, reply_notice, replies_to}
-use Rattle.act_serve.specs.Turns.{IsFed}
 
 -- two numbers are one, or they are not
 pub data Tells (x y : ℕ) : Type 0 where

@@ -1,26 +1,9 @@
 -- The first endpoint whose caller's next call came.
-use Rattle.std.proofs.Common.{◌≡◌, ℕ, ◌+◌, ◌<◌, ◌≤◌, List, [], ◌∷◌, ◌++◌, length, Option, Some, None, Result, Ok, Err, IfOk, is_some, Bool, true, false, cond, nat_lt, refl, sym, ◌∙◌, ap, subst, get_or, find, position, arith, length-append, All}
-use Rattle.std.specs.List.{position_or_len}
-use Rattle.std.proofs.lemmas.Bool.{lt-ltb, le-ltb}
-use Rattle.std.proofs.lemmas.List.{get_or_default}
-use Rattle.std.proofs.lemmas.List.Elements.{All-cons}
-use Rattle.std.proofs.lemmas.List.Quantifiers.{position-Some}
-use Rattle.std.proofs.lemmas.List.Sums.{position_or_len_is}
-use Rattle.act_types.specs.declared.call.Reply.{Reply}
-use Rattle.act_types.specs.declared.call.Notice.TheVariants.{Answered}
-use Rattle.act_rules.specs.declared.history.RunItem.{RunItem}
-use Rattle.act_rules.proofs.Lists.{slice_get_last}
-use Rattle.act_rules.proofs.Finding.{find-None}
-use Rattle.act_types.specs.KindState.{KindState}
-use Rattle.act_actor.specs.View.{LiveView}
-use Rattle.act_actor.specs.Actor.{next_call}
-use Rattle.act_mailbox.specs.declared.mail.Letter.{Letter}
-use Rattle.act_mailbox.specs.Passes.{TakerView}
-use Rattle.act_mailbox.specs.Notices.{RepliesView, ReplyExecView, NamesPlace}
-use Rattle.act_mailbox.specs.declared.thread.Endpoint.{Endpoint}
-use Rattle.act_serve.specs.declared.letter.Received.{Received}
-use Rattle.act_serve.specs.declared.letter.Received.TheVariants.{Nothing, Held, Ran}
-use Rattle.act_serve.specs.Turns.{HasReplied, HasCome, has_next, HasGone}
+use Rattle.act_serve.proofs.Common.{◌≡◌, ℕ, ◌+◌, ◌<◌, ◌≤◌, List, [], ◌∷◌, ◌++◌, length, Option, Some, None, Result, Ok, Err, IfOk, is_some, Bool, true, false}
+use Rattle.act_serve.proofs.Common.{cond, nat_lt, refl, sym, ◌∙◌, ap, subst, get_or, find, position, arith, length-append, All, position_or_len, lt-ltb, le-ltb}
+use Rattle.act_serve.proofs.Common.{get_or_default, All-cons, position-Some, position_or_len_is, Reply, Answered, RunItem, slice_get_last, find-None, KindState}
+use Rattle.act_serve.proofs.Common.{LiveView, next_call, Letter, TakerView, RepliesView, ReplyExecView, NamesPlace, Endpoint, Received, Nothing, Held, Ran}
+use Rattle.act_serve.proofs.Common.{HasReplied, HasCome, has_next, HasGone}
 use Rattle.act_serve.proofs.Logs.{Tells, same, other, tells}
 use Rattle.act_serve.proofs.Serving.{caller_here}
 

@@ -1,34 +1,14 @@
 -- What an executor keeps from turn to turn.
-use Rattle.std.proofs.Common.{◌≡◌, ◌≢◌, ℕ, ◌+◌, ◌<◌, ◌≤◌, Bool, true, false, cond, List, [], ◌∷◌, ◌++◌, Option, Some, None, Result, Ok, Err, IfOk, OnOk, OnErr, IfSome, IfNone, inl, inr, ◌⊎◌, length, get_or, map, refl, ap, sym, ◌∙◌, subst, arith, append-nil, All}
-use Rattle.std.specs.Prelude.{◌==◌, AllPairs, set, take, drop, is_some}
+use Rattle.act_serve.proofs.Common.{◌≡◌, ◌≢◌, ℕ, ◌+◌, ◌<◌, ◌≤◌, Bool, true, false, cond, List, [], ◌∷◌, ◌++◌, Option, Some, None, Result, Ok, Err, IfOk, OnOk}
+use Rattle.act_serve.proofs.Common.{OnErr, IfSome, IfNone, inl, inr, ◌⊎◌, length, get_or, map, refl, ap, sym, ◌∙◌, subst, arith, append-nil, All, ◌==◌}
+use Rattle.act_serve.proofs.Common.{AllPairs, set, take, drop, is_some, eq-eqb, ne_eqb, cases_lt, get_or-map, get_or-set_other, length-map, length-set}
+use Rattle.act_serve.proofs.Common.{get_or-set_at, map_over_more, TableId, KindState, Packet, Reply, Notice, Answered, Death, RunItem, after_item, state_after}
+use Rattle.act_serve.proofs.Common.{items_of, has_terminated, NothingFollowsAnEnd, state_after-push, contains, next_of, LiveView, DeadView, RetiredView}
+use Rattle.act_serve.proofs.Common.{live_view, item_of, reply_of_run, next_call, MayRetire, HasRunCall, HasRunFrom, Letter, ControlExecView, looked_after}
+use Rattle.act_serve.proofs.Common.{TakerView, RepliesView, ReplyExecView, ExecPasses, Endpoint, Killed, Retired, Starved, IsLogOf, first_note, replies_to}
+use Rattle.act_serve.proofs.Common.{caller_at, endpoint_callers, without_given, IsUntaken, KillsOfDead, ExecPassesStay, HasServed, IsActorTraced, IsTracedSoFar}
+use Rattle.act_serve.proofs.Common.{EndpointsDiffer, IsFreshExec, IsFed, IsServing, HasReplies, HasReplied, IsAtItsEndpoint, PassesFit, with_death_given}
 use Rattle.std.specs.Option.{option_map}
-use Rattle.std.proofs.lemmas.Bool.{eq-eqb, ne_eqb, cases_lt}
-use Rattle.std.proofs.lemmas.List.{get_or-map, get_or-set_other, length-map, length-set}
-use Rattle.std.proofs.lemmas.Grind.{get_or-set_at}
-use Rattle.std.proofs.lemmas.List.Edits.{map_over_more}
-use Rattle.atomic_table.specs.Seated.{TableId}
-use Rattle.act_types.specs.KindState.{KindState}
-use Rattle.act_types.specs.declared.call.Packet.{Packet}
-use Rattle.act_types.specs.declared.call.Reply.{Reply}
-use Rattle.act_types.specs.declared.call.Notice.{Notice}
-use Rattle.act_types.specs.declared.call.Notice.TheVariants.{Answered, Death}
-use Rattle.act_rules.specs.declared.history.RunItem.{RunItem}
-use Rattle.act_rules.specs.RunList.{after_item, state_after, items_of, has_terminated, NothingFollowsAnEnd}
-use Rattle.act_rules.proofs.RunLists.{state_after-push}
-use Rattle.act_rules.specs.History.{contains}
-use Rattle.act_inbox.specs.Inbox.{next_of}
-use Rattle.act_actor.specs.View.{LiveView, DeadView, RetiredView}
-use Rattle.act_actor.specs.StateViews.{live_view}
-use Rattle.act_actor.specs.Actor.{item_of, reply_of_run, next_call, MayRetire, HasRunCall, HasRunFrom}
-use Rattle.act_mailbox.specs.declared.mail.Letter.{Letter}
-use Rattle.act_mailbox.specs.Controls.{ControlExecView, looked_after}
-use Rattle.act_mailbox.specs.Passes.{TakerView}
-use Rattle.act_mailbox.specs.Notices.{RepliesView, ReplyExecView}
-use Rattle.act_serve.specs.declared.turn.ExecPasses.{ExecPasses}
-use Rattle.act_mailbox.specs.declared.thread.Endpoint.{Endpoint}
-use Rattle.act_serve.specs.Served.{Killed, Retired, Starved, IsLogOf, first_note, replies_to, caller_at, endpoint_callers, without_given, IsUntaken, KillsOfDead, ExecPassesStay, HasServed}
-use Rattle.act_serve.specs.ActorTraces.{IsActorTraced}
-use Rattle.act_serve.specs.Turns.{IsTracedSoFar, EndpointsDiffer, IsFreshExec, IsFed, IsServing, HasReplies, HasReplied, IsAtItsEndpoint, PassesFit, with_death_given}
 use Rattle.act_serve.proofs.Traces.{traced_retired}
 use Rattle.act_serve.proofs.Logs.{Tells, same, other, tells, last_reply, replies_more, fed_run}
 

@@ -1,40 +1,16 @@
 -- What an actor's thread did so far, as it takes letters and kills, runs calls, tells its death and retires.
-use Rattle.std.proofs.Common.{◌≡◌, ℕ, suc, ◌+◌, ◌<◌, ◌≤◌, ◌||◌, Bool, true, false, cond, List, [], ◌∷◌, ◌++◌, map, length, length-append, get_or, Some, None, ◌⊎◌, inl, inr, refl, ap, sym, ◌∙◌, subst, arith, append-nil, append_assoc, All}
-use Rattle.std.specs.Prelude.{◌==◌, ◌&&◌, set, flat_map, slice_get, Contains}
-use Rattle.std.specs.Option.{option_or}
-use Rattle.std.specs.List.{AllZip, list_any, range_with_len}
-use Rattle.std.proofs.lemmas.Bool.{eq-eqb, eqb-true}
-use Rattle.std.proofs.lemmas.List.{get_or-map, length-map, map-append}
-use Rattle.std.proofs.lemmas.List.Elements.{All-set, Contains-get_or, Contains-push, Contains-append_left, Contains-append_right, Contains-append_cases, filter_map-append}
-use Rattle.std.proofs.lemmas.List.Folds.{list_any-append, list_any_at}
-use Rattle.std.proofs.lemmas.List.FromFn.{get_or-range_with_len}
-use Rattle.std.proofs.lemmas.Slice.Zip.{all_zipped_more}
-use Rattle.std.proofs.Math.Seq.{map-set_same, get_or-append_seam}
-use Rattle.act_types.specs.declared.call.Notice.{Notice}
-use Rattle.act_types.specs.declared.call.Notice.TheVariants.{Answered, Death}
-use Rattle.act_types.specs.declared.call.Reply.{Reply}
-use Rattle.act_rules.specs.declared.history.RunItem.{RunItem}
-use Rattle.act_rules.specs.History.{contains}
-use Rattle.act_rules.specs.RunList.{items_of, has_terminated}
-use Rattle.act_rules.proofs.Lists.{slice_get_more, slice_get_last}
-use Rattle.act_rules.proofs.RunLists.{items_of-push}
-use Rattle.act_types.specs.KindState.{KindState}
-use Rattle.act_actor.specs.View.{LiveView}
-use Rattle.act_actor.specs.Actor.{packet_of_item, note_after_calls}
-use Rattle.act_mailbox.specs.declared.control.Asked.{Asked}
-use Rattle.act_mailbox.specs.declared.thread.Endpoint.{Endpoint}
-use Rattle.act_mailbox.specs.declared.mail.Letter.{Letter}
-use Rattle.act_mailbox.specs.declared.mail.Letter.TheVariants.{Call, Note}
-use Rattle.act_mailbox.specs.Controls.{ControlExecView}
-use Rattle.act_mailbox.specs.Notices.{RepliesView, ReplyExecView}
-use Rattle.act_mailbox.specs.Passes.{TakerView}
-use Rattle.act_mailbox.specs.Traces.{steps_in, found_in, AreTakenLater}
-use Rattle.act_serve.specs.declared.turn.ExecPasses.{ExecPasses}
-use Rattle.act_serve.specs.ActorSteps.{ActorStep, LetterTaken, CallRun, KillTaken, DeathTold, Retirement, letter_taken, call_run, kill_taken, is_kill_step, is_retirement, log_of_steps, has_died_in, has_ended_in, ActorMayDo, ActorMayDoAll}
-use Rattle.act_serve.specs.ActorTraces.{exec_clock, IsGivenAfter, IsActorTrace}
-use Rattle.act_serve.specs.Served.{caller_at, endpoint_callers, IsLogOf, first_note, IsUntaken, KillsOfDead}
-use Rattle.act_serve.specs.Turns.{HasReplied, IsFreshExec, IsTracedSoFar, replied_to, with_death_given}
-use Rattle.act_mailbox.proofs.Clocks.{all_zip_weaker, found_alone, found_more, found_one, steps_more, timed_push, part_one, part_none, later_one, later_none}
+use Rattle.act_serve.proofs.Common.{◌≡◌, ℕ, suc, ◌+◌, ◌<◌, ◌≤◌, ◌||◌, Bool, true, false, cond, List, [], ◌∷◌, ◌++◌, map, length, length-append, get_or, Some}
+use Rattle.act_serve.proofs.Common.{None, ◌⊎◌, inl, inr, refl, ap, sym, ◌∙◌, subst, arith, append-nil, append_assoc, All, ◌==◌, ◌&&◌, set, flat_map, slice_get}
+use Rattle.act_serve.proofs.Common.{Contains, option_or, AllZip, list_any, range_with_len, eq-eqb, eqb-true, get_or-map, length-map, map-append, All-set}
+use Rattle.act_serve.proofs.Common.{Contains-get_or, Contains-push, Contains-append_left, Contains-append_right, Contains-append_cases, filter_map-append}
+use Rattle.act_serve.proofs.Common.{list_any-append, list_any_at, get_or-range_with_len, all_zipped_more, map-set_same, get_or-append_seam, Notice, Answered}
+use Rattle.act_serve.proofs.Common.{Death, Reply, RunItem, contains, items_of, has_terminated, slice_get_more, slice_get_last, items_of-push, KindState}
+use Rattle.act_serve.proofs.Common.{LiveView, packet_of_item, note_after_calls, Asked, Endpoint, Letter, Call, Note, ControlExecView, RepliesView}
+use Rattle.act_serve.proofs.Common.{ReplyExecView, TakerView, steps_in, found_in, AreTakenLater, ExecPasses, ActorStep, LetterTaken, CallRun, KillTaken}
+use Rattle.act_serve.proofs.Common.{DeathTold, Retirement, letter_taken, call_run, kill_taken, is_kill_step, is_retirement, log_of_steps, has_died_in}
+use Rattle.act_serve.proofs.Common.{has_ended_in, ActorMayDo, ActorMayDoAll, exec_clock, IsGivenAfter, IsActorTrace, caller_at, endpoint_callers, IsLogOf}
+use Rattle.act_serve.proofs.Common.{first_note, IsUntaken, KillsOfDead, HasReplied, IsFreshExec, IsTracedSoFar, replied_to, with_death_given, all_zip_weaker}
+use Rattle.act_serve.proofs.Common.{found_alone, found_more, found_one, steps_more, timed_push, part_one, part_none, later_one, later_none}
 use Rattle.act_serve.proofs.Clocks.{contains_tail, contains_head, contains_map, all_zip_set, all_zip_map, flat_within, clock_taken, clock_within, contains_of_found, timed_all, found_nothing}
 
 abbrev Trace : Type 0

@@ -1,21 +1,9 @@
 -- What a fault tells.
-use Rattle.std.proofs.Common.{◌≡◌, ℕ, List, [], ◌∷◌, Some, None, Ok, Err, slice_get, map, refl, sym, ap, subst}
-use Rattle.std.specs.Prelude.{filter_map, Result, IfErr, IsErrAnd}
-use Rattle.act_types.specs.KindState.{KindState}
-use Rattle.act_rules.specs.declared.script.Step.{Step}
-use Rattle.act_rules.specs.History.{ActorSpec}
-use Rattle.act_rules.specs.Plans.{first_bad}
-use Rattle.act_actor.specs.declared.cast.Cast.{Cast}
-use Rattle.act_actor.specs.Casts.{actor_spec}
-use Rattle.act_drive.specs.Sessions.{SessionView}
-use Rattle.act_plans.specs.Runs.{bad_step_of, callers_of_casts, first_bad_plan}
-use Rattle.act_executor.specs.declared.run.RunFault.{RunFault}
+use Rattle.act_service.proofs.Common.{◌≡◌, ℕ, List, [], ◌∷◌, Some, None, Ok, Err, slice_get, map, refl, sym, ap, subst, filter_map, Result, IfErr, IsErrAnd}
+use Rattle.act_service.proofs.Common.{KindState, Step, ActorSpec, first_bad, Cast, actor_spec, SessionView, bad_step_of, callers_of_casts, first_bad_plan}
+use Rattle.act_service.proofs.Common.{RunFault, IsFault, IsThreadFault, EpochFault, Run, Service, BadCodes, Known, Given, HaveLed, LeadsOn, IsUnderWay}
+use Rattle.act_service.proofs.Common.{IsEpochFault, IsFaultAt, IsFaultOfCodes, IsOfService}
 use Rattle.act_executor.specs.declared.run.RunFault.TheVariants as run
-use Rattle.act_executor.specs.Runs.{IsFault, IsThreadFault}
-use Rattle.act_service.specs.declared.epochs.EpochFault.{EpochFault}
-use Rattle.act_service.specs.declared.epochs.EpochFault.TheVariants.{Run, Service, BadCodes}
-use Rattle.act_service.specs.Services.{Known, Given, HaveLed, LeadsOn, IsUnderWay}
-use Rattle.act_service.specs.Faults.{IsEpochFault, IsFaultAt, IsFaultOfCodes, IsOfService}
 use Rattle.act_service.proofs.Leading.{carried}
 
 -- what is known of an error

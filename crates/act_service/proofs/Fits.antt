@@ -1,23 +1,8 @@
 -- The casts that an epoch leaves fit.
-use Rattle.std.proofs.Common.{◌≡◌, ◌≢◌, ℕ, suc, ◌==◌, List, [], ◌∷◌, map, Option, Some, None, refl, sym, ap, ◌∙◌, subst, arith, All, AllPairs}
-use Rattle.std.specs.Prelude.{filter_map, option_map}
-use Rattle.std.specs.List.{list_any, cons_option}
-use Rattle.std.proofs.lemmas.Bool.{eqb-true}
-use Rattle.std.proofs.lemmas.List.{length-map, get_or-map}
-use Rattle.std.proofs.lemmas.List.Elements.{All-nil, All-cons, All-map}
-use Rattle.std.proofs.lemmas.List.Kept.{AllPairs-cons, AllPairs-filter}
-use Rattle.act_types.specs.KindState.{KindState}
-use Rattle.act_rules.specs.History.{ActorSpec}
-use Rattle.act_rules.specs.Report.{one_to}
-use Rattle.act_rules.specs.Submissions.{IsLimit}
-use Rattle.act_actor.specs.declared.cast.Cast.{Cast}
-use Rattle.act_actor.specs.Cast.{CallersDiffer, IsFitting}
-use Rattle.act_actor.specs.Casts.{actor_spec}
-use Rattle.act_serve.specs.Served.{EndView, Killed, Retired, Starved, end_id}
-use Rattle.act_plans.specs.Runs.{cast_at, actors_of_casts}
-use Rattle.act_plans.proofs.Keys.{found_passes, found_all}
-use Rattle.act_plans.proofs.Matching.{numbers_differ}
-use Rattle.act_epochs.specs.Epochs.{cast_of_end}
+use Rattle.act_service.proofs.Common.{◌≡◌, ◌≢◌, ℕ, suc, ◌==◌, List, [], ◌∷◌, map, Option, Some, None, refl, sym, ap, ◌∙◌, subst, arith, All, AllPairs}
+use Rattle.act_service.proofs.Common.{filter_map, option_map, list_any, cons_option, eqb-true, length-map, get_or-map, All-nil, All-cons, All-map}
+use Rattle.act_service.proofs.Common.{AllPairs-cons, AllPairs-filter, KindState, ActorSpec, one_to, IsLimit, Cast, CallersDiffer, IsFitting, actor_spec}
+use Rattle.act_service.proofs.Common.{EndView, Killed, Retired, Starved, end_id, cast_at, actors_of_casts, found_passes, found_all, numbers_differ, cast_of_end}
 
 -- what casting an actor again keeps of its cast
 abbrev pub IsSound : ActorSpec → Type 0

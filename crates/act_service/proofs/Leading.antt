@@ -1,24 +1,8 @@
 -- An epoch, made of a run, and the casts that it leaves.
-use Rattle.std.proofs.Common.{◌≡◌, ℕ, ◌==◌, List, [], ◌∷◌, ◌++◌, map, Option, Some, None, refl, sym, ap, ◌∙◌, subst}
-use Rattle.std.specs.Prelude.{find, filter_map, option_map}
-use Rattle.std.specs.List.{cons_option}
-use Rattle.act_types.specs.KindState.{KindState}
-use Rattle.act_rules.specs.History.{ActorSpec}
-use Rattle.act_rules.proofs.Lists.{find-map}
-use Rattle.act_actor.specs.declared.cast.Cast.{Cast}
-use Rattle.act_actor.specs.Casts.{actor_spec}
-use Rattle.act_rules.specs.declared.script.Step.{Step}
-use Rattle.act_serve.specs.declared.turn.Finished.{Finished}
-use Rattle.act_serve.specs.Served.{EndView, Killed, Retired, Starved, end_view}
-use Rattle.act_drive.specs.Sessions.{SessionView}
-use Rattle.act_executor.specs.declared.joined.Joined.{Joined}
-use Rattle.act_executor.specs.ByCode.{IsJoinedBy, IsPlayedBy}
-use Rattle.act_executor.specs.Plays.{IsPlayed}
-use Rattle.act_epochs.specs.Epochs.{Epoch, IsEpoch, cast_of_end, casts_left}
-use Rattle.act_epochs.proofs.Growing.{are_more, left_more}
-use Rattle.act_service.specs.declared.shapes.Shape.{Shape}
-use Rattle.act_service.specs.Shapes.{shape_of, opened_in, cast_left_by}
-use Rattle.act_service.specs.Services.{Known, Given, CarriesOver, BecomesKnown, LeadsOn}
+use Rattle.act_service.proofs.Common.{◌≡◌, ℕ, ◌==◌, List, [], ◌∷◌, ◌++◌, map, Option, Some, None, refl, sym, ap, ◌∙◌, subst, find, filter_map, option_map}
+use Rattle.act_service.proofs.Common.{cons_option, KindState, ActorSpec, find-map, Cast, actor_spec, Step, Finished, EndView, Killed, Retired, Starved}
+use Rattle.act_service.proofs.Common.{end_view, SessionView, Joined, IsJoinedBy, IsPlayedBy, IsPlayed, Epoch, IsEpoch, cast_of_end, casts_left, are_more}
+use Rattle.act_service.proofs.Common.{left_more, Shape, shape_of, opened_in, cast_left_by, Known, Given, CarriesOver, BecomesKnown, LeadsOn}
 
 -- ---- what shapes leave is what casts leave
 

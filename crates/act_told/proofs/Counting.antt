@@ -1,18 +1,9 @@
 -- Places in lists of which some items are left out.
-use Rattle.std.proofs.Common.{◌≡◌, ℕ, zero, suc, ◌+◌, ◌<◌, ◌≤◌, ◌⊎◌, ◌==◌, inl, inr, Bool, true, false, cond, List, [], ◌∷◌, ◌++◌, length, map, filter, take, slice_get, Option, Some, None, option_map, refl, ap, sym, subst, ◌∙◌, arith}
-use Rattle.std.specs.List.{enumerate_from, Contains}
-use Rattle.std.proofs.lemmas.Bool.{eq-eqb, eqb-true, cases_lt}
-use Rattle.std.proofs.lemmas.List.{length-append}
-use Rattle.std.proofs.lemmas.Option.{slice_get_within, slice_get-get_or, slice_get-map, get_or_from_slice_get}
-use Rattle.act_rules.specs.Report.{one_to}
-use Rattle.act_rules.specs.declared.history.RunItem.{RunItem}
-use Rattle.act_rules.specs.declared.history.Submission.{Submission}
-use Rattle.act_rules.specs.RunList.{items_of}
-use Rattle.act_rules.specs.Submissions.{calls_to}
-use Rattle.act_rules.specs.Consistent.{IsPrefix}
-use Rattle.act_rules.proofs.Lists.{slice_get_front, slice_get-filter, slice_get-enumerate_from, element}
-use Rattle.act_rules.proofs.Order.{numbered, numbers}
-use Rattle.act_rules.proofs.Unique.{map-slice_get, enumerate-slice_get, same_place, rank}
+use Rattle.act_told.proofs.Common.{◌≡◌, ℕ, zero, suc, ◌+◌, ◌<◌, ◌≤◌, ◌⊎◌, ◌==◌, inl, inr, Bool, true, false, cond, List, [], ◌∷◌, ◌++◌, length, map, filter}
+use Rattle.act_told.proofs.Common.{take, slice_get, Option, Some, None, option_map, refl, ap, sym, subst, ◌∙◌, arith, enumerate_from, Contains, eq-eqb}
+use Rattle.act_told.proofs.Common.{eqb-true, cases_lt, length-append, slice_get_within, slice_get-get_or, slice_get-map, get_or_from_slice_get, one_to, RunItem}
+use Rattle.act_told.proofs.Common.{Submission, items_of, calls_to, IsPrefix, slice_get_front, slice_get-filter, slice_get-enumerate_from, element, numbered}
+use Rattle.act_told.proofs.Common.{numbers, map-slice_get, enumerate-slice_get, same_place, rank}
 
 -- how many of the first items pass
 abbrev pub passed : {A : Type 0} → (A → Bool) → ℕ → List A → ℕ

@@ -1,31 +1,14 @@
 -- That calls of a joined run stand as their actors do.
-use Rattle.std.proofs.Common.{◌≡◌, ℕ, ◌+◌, ◌<◌, ◌≤◌, inl, inr, ◌==◌, Bool, true, false, if◌then◌else◌, List, [], length, map, slice_get, Option, Some, None, option_map, Ok, Err, IsTrue, refl, ap, sym, subst, ◌∙◌, arith}
-use Rattle.std.specs.List.{Contains, list_any, enumerate_from}
-use Rattle.std.proofs.lemmas.Bool.{eq-eqb, eqb-true, cases_lt}
-use Rattle.std.proofs.lemmas.List.{get_or_past, length-map}
-use Rattle.std.proofs.lemmas.Option.{slice_get_within, slice_get-map, get_or_from_slice_get}
-use Rattle.act_types.specs.declared.limits.TheConstants.{MAX_ACTORS, MAX_CALLERS}
-use Rattle.act_types.specs.declared.call.Fault.TheVariants.{ActorDied}
-use Rattle.act_rules.specs.History.{ActorSpec, contains}
-use Rattle.act_rules.specs.RunList.{Answer, items_of}
-use Rattle.act_rules.specs.declared.history.RunItem.{RunItem}
-use Rattle.act_rules.specs.declared.history.Submission.{Submission}
-use Rattle.act_rules.specs.declared.script.Step.{Step}
-use Rattle.act_rules.specs.Submissions.{kept_at, calls_to}
-use Rattle.act_rules.proofs.Lists.{element}
-use Rattle.act_rules.proofs.Unique.{map-slice_get}
-use Rattle.act_owner.specs.Owner.{OwnerView, is_death}
-use Rattle.act_owner.proofs.Told.{is_death-only}
-use Rattle.act_serve.specs.Served.{EndView, Killed, Retired, Starved, end_id, end_log, IfRetired}
-use Rattle.act_executor.specs.Joined.{IsJoined, RanAll, owner_of, end_of, calls_in, kept_in, calls_of_owner, kept_of_owner, is_killed, is_killed_end}
+use Rattle.act_told.proofs.Common.{◌≡◌, ℕ, ◌+◌, ◌<◌, ◌≤◌, inl, inr, ◌==◌, Bool, true, false, if◌then◌else◌, List, [], length, map, slice_get, Option, Some}
+use Rattle.act_told.proofs.Common.{None, option_map, Ok, Err, IsTrue, refl, ap, sym, subst, ◌∙◌, arith, Contains, list_any, enumerate_from, eq-eqb, eqb-true}
+use Rattle.act_told.proofs.Common.{cases_lt, get_or_past, length-map, slice_get_within, slice_get-map, get_or_from_slice_get, MAX_ACTORS, MAX_CALLERS}
+use Rattle.act_told.proofs.Common.{ActorDied, ActorSpec, contains, Answer, items_of, RunItem, Submission, Step, kept_at, calls_to, element, map-slice_get}
+use Rattle.act_told.proofs.Common.{OwnerView, is_death, is_death-only, EndView, Killed, Retired, Starved, end_id, end_log, IfRetired, IsJoined, RanAll}
+use Rattle.act_told.proofs.Common.{owner_of, end_of, calls_in, kept_in, calls_of_owner, kept_of_owner, is_killed, is_killed_end, Call, Failed, Died, Open, Run}
+use Rattle.act_told.proofs.Common.{call_of, actor_of, calls_run, actor_place, start_of, outcome_of, calls_told, runs_told, actor_told, end_told, told_by}
+use Rattle.act_told.proofs.Common.{StandsAsItsActor}
 use Rattle.act_orders.specs.declared.told.Actor.{Actor as ActorTold}
-use Rattle.act_orders.specs.declared.told.Call.{Call}
 use Rattle.act_orders.specs.declared.told.End.TheVariants as told
-use Rattle.act_orders.specs.declared.told.Outcome.TheVariants.{Failed, Died, Open}
-use Rattle.act_orders.specs.declared.told.Run.{Run}
-use Rattle.act_orders.specs.Order.{call_of, actor_of, calls_run}
-use Rattle.act_told.specs.Told.{actor_place, start_of, outcome_of, calls_told, runs_told, actor_told, end_told, told_by}
-use Rattle.act_told.specs.InOrder.{StandsAsItsActor}
 use Rattle.act_told.proofs.Counting.{passed, goes_to, call_among, stands}
 use Rattle.act_told.proofs.Standing.{Apart, apart, first_is, some_first, begins, call_is, IsCallOf, run_at, calls_ahead, runs_ahead, place_is, place_tells}
 

@@ -1,19 +1,11 @@
 -- Calls and runs that are told one after another.
-use Rattle.std.proofs.Common.{◌≡◌, ℕ, suc, ◌+◌, ◌<◌, ◌==◌, if◌then◌else◌, List, [], ◌∷◌, ◌++◌, length, map, take, drop, get_or, slice_get, Option, Some, None, option_map, append_assoc, add-one, drop-cons, refl, ap, sym, ◌∙◌, arith}
-use Rattle.std.proofs.lemmas.List.{length-append, drop-map, map-append}
-use Rattle.std.proofs.lemmas.List.Elements.{filter_map-append}
-use Rattle.std.proofs.Math.Seq.{take-suc}
-use Rattle.act_types.specs.declared.call.Arg.{Arg}
-use Rattle.std.proofs.lemmas.Option.{slice_get_within, get_or_from_slice_get}
-use Rattle.act_rules.specs.declared.history.Submission.{Submission}
+use Rattle.act_told.proofs.Common.{◌≡◌, ℕ, suc, ◌+◌, ◌<◌, ◌==◌, if◌then◌else◌, List, [], ◌∷◌, ◌++◌, length, map, take, drop, get_or, slice_get, Option, Some}
+use Rattle.act_told.proofs.Common.{None, option_map, append_assoc, add-one, drop-cons, refl, ap, sym, ◌∙◌, arith, length-append, drop-map, map-append}
+use Rattle.act_told.proofs.Common.{filter_map-append, take-suc, Arg, slice_get_within, get_or_from_slice_get, Submission, OwnerView, call_at, numbered_call}
+use Rattle.act_told.proofs.Common.{submission_of, future_of_arg, futures_of_args, EndView, end_log, Call, Run, call_told, calls_from, calls_told, takes_told}
+use Rattle.act_told.proofs.Common.{start_of, run_told, runs_told, actor_told, told_by, starts_from, start_in, run_by, runs_by}
 use Rattle.act_owner.specs.declared.owner.Call.{Call as OwnCall}
-use Rattle.act_owner.specs.Owner.{OwnerView, call_at, numbered_call, submission_of, future_of_arg, futures_of_args}
-use Rattle.act_serve.specs.Served.{EndView, end_log}
-use Rattle.act_orders.specs.declared.told.Call.{Call}
-use Rattle.act_orders.specs.declared.told.Run.{Run}
 use Rattle.act_orders.specs.declared.told.Actor.{Actor as ActorTold}
-use Rattle.act_told.specs.Told.{call_told, calls_from, calls_told, takes_told, start_of, run_told, runs_told, actor_told, told_by}
-use Rattle.act_told.specs.Starts.{starts_from, start_in, run_by, runs_by}
 
 -- a list that goes on with what stands at a place
 pub goes_on : {A : Type 0} (old now new : List A) (here rest whole : List A) → new ≡ now ++ here → now ++ (here ++ rest) ≡ whole →

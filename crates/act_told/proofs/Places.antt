@@ -1,9 +1,6 @@
 -- Where an actor stands.
-use Rattle.std.proofs.Common.{◌≡◌, ℕ, List, length, map, Bool, true, false, Some, None, not, cond, refl, ◌+◌, nat_lt, arith, position}
-use Rattle.std.specs.List.{position_or_len}
-use Rattle.std.proofs.lemmas.List.Recursion.{is_position_or_len}
-use Rattle.std.proofs.lemmas.Bool.{ltb-false}
-use Rattle.std.proofs.lemmas.List.Sums.{prefix_len-le-length}
+use Rattle.act_told.proofs.Common.{◌≡◌, ℕ, List, length, map, Bool, true, false, Some, None, not, cond, refl, ◌+◌, nat_lt, arith, position, position_or_len}
+use Rattle.act_told.proofs.Common.{is_position_or_len, ltb-false, prefix_len-le-length}
 
 flipped : {A : Type 0} (b : Bool) (x y : A) → cond (not b) x y ≡ cond b y x
 flipped true x y = refl

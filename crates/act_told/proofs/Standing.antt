@@ -1,20 +1,9 @@
 -- Where calls, runs, callers and actors stand among those that are told.
-use Rattle.std.proofs.Common.{◌≡◌, ℕ, zero, suc, ◌+◌, ◌<◌, ◌==◌, inl, inr, Bool, true, false, cond, List, [], ◌∷◌, ◌++◌, length, map, filter, find, get_or, slice_get, Some, option_map, refl, ap, sym, ◌∙◌, arith}
-use Rattle.std.proofs.lemmas.Bool.{eq-eqb, ne_eqb, eqb-true}
-use Rattle.std.proofs.lemmas.List.Sums.{position_or_len_is, passes_at_first}
-use Rattle.std.proofs.lemmas.List.{length-map}
-use Rattle.std.proofs.lemmas.Option.{slice_get_within, slice_get-get_or, slice_get-map, get_or_from_slice_get}
-use Rattle.act_rules.specs.Report.{one_to}
-use Rattle.act_rules.specs.declared.history.RunItem.{RunItem}
-use Rattle.act_rules.specs.declared.history.Submission.{Submission}
-use Rattle.act_rules.specs.Submissions.{kept_at}
-use Rattle.act_rules.proofs.Lists.{slice_get_more}
-use Rattle.act_owner.specs.Owner.{OwnerView}
-use Rattle.act_serve.specs.Served.{EndView, end_id, end_log}
-use Rattle.act_executor.specs.Joined.{owner_of}
-use Rattle.act_orders.specs.declared.told.Call.{Call}
-use Rattle.act_orders.specs.declared.told.Run.{Run}
-use Rattle.act_told.specs.Told.{actor_place, outcome_of, start_of, call_told, calls_from, calls_told, run_told, runs_told}
+use Rattle.act_told.proofs.Common.{◌≡◌, ℕ, zero, suc, ◌+◌, ◌<◌, ◌==◌, inl, inr, Bool, true, false, cond, List, [], ◌∷◌, ◌++◌, length, map, filter, find, get_or}
+use Rattle.act_told.proofs.Common.{slice_get, Some, option_map, refl, ap, sym, ◌∙◌, arith, eq-eqb, ne_eqb, eqb-true, position_or_len_is, passes_at_first}
+use Rattle.act_told.proofs.Common.{length-map, slice_get_within, slice_get-get_or, slice_get-map, get_or_from_slice_get, one_to, RunItem, Submission, kept_at}
+use Rattle.act_told.proofs.Common.{slice_get_more, OwnerView, EndView, end_id, end_log, owner_of, Call, Run, actor_place, outcome_of, start_of, call_told}
+use Rattle.act_told.proofs.Common.{calls_from, calls_told, run_told, runs_told}
 use Rattle.act_told.proofs.Counting.{two_parts, past_front, once_among}
 use Rattle.act_told.proofs.Going.{length_calls}
 

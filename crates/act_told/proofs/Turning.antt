@@ -1,25 +1,9 @@
 -- That run lists of a joined run are in turn.
-use Rattle.std.proofs.Common.{◌≡◌, ℕ, ◌+◌, ◌<◌, ◌==◌, List, [], length, map, take, slice_get, Option, Some, None, option_map, refl, ap, sym, subst, ◌∙◌, arith}
-use Rattle.std.specs.List.{Contains, list_any}
-use Rattle.std.proofs.lemmas.Bool.{eq-eqb, eqb-true}
-use Rattle.std.proofs.lemmas.Option.{slice_get_within, slice_get-map, get_or_from_slice_get}
-use Rattle.act_types.specs.declared.limits.TheConstants.{MAX_ACTORS, MAX_CALLERS}
-use Rattle.act_rules.specs.History.{ActorSpec, contains}
-use Rattle.act_rules.specs.Consistent.{IsPrefix, IsAsSubmitted}
-use Rattle.act_rules.specs.RunList.{items_of}
-use Rattle.act_rules.specs.declared.history.Submission.{Submission}
-use Rattle.act_rules.specs.declared.script.Step.{Step}
-use Rattle.act_rules.proofs.Lists.{All_at, element}
-use Rattle.act_rules.proofs.Order.{numbered, numbers}
-use Rattle.act_rules.proofs.Unique.{map-slice_get}
-use Rattle.act_owner.specs.Owner.{OwnerView}
-use Rattle.act_serve.specs.Served.{EndView, end_id, end_log}
-use Rattle.act_executor.specs.Joined.{IsJoined, owner_of, calls_in, kept_in, log_in, calls_of_owner, log_of_end}
-use Rattle.act_orders.specs.declared.told.Call.{Call}
-use Rattle.act_orders.specs.declared.told.Run.{Run}
-use Rattle.act_orders.specs.declared.told.Outcome.TheVariants.{Open}
-use Rattle.act_orders.specs.Order.{call_of, calls_run, SameWay, IsNext}
-use Rattle.act_told.specs.Told.{actor_place, start_of, call_told, calls_told, runs_told, told_by}
+use Rattle.act_told.proofs.Common.{◌≡◌, ℕ, ◌+◌, ◌<◌, ◌==◌, List, [], length, map, take, slice_get, Option, Some, None, option_map, refl, ap, sym, subst, ◌∙◌}
+use Rattle.act_told.proofs.Common.{arith, Contains, list_any, eq-eqb, eqb-true, slice_get_within, slice_get-map, get_or_from_slice_get, MAX_ACTORS, MAX_CALLERS}
+use Rattle.act_told.proofs.Common.{ActorSpec, contains, IsPrefix, IsAsSubmitted, items_of, Submission, Step, All_at, element, numbered, numbers, map-slice_get}
+use Rattle.act_told.proofs.Common.{OwnerView, EndView, end_id, end_log, IsJoined, owner_of, calls_in, kept_in, log_in, calls_of_owner, log_of_end, Call, Run}
+use Rattle.act_told.proofs.Common.{Open, call_of, calls_run, SameWay, IsNext, actor_place, start_of, call_told, calls_told, runs_told, told_by}
 use Rattle.act_told.proofs.Counting.{ran_call, one_place, ran_before, found_among, among}
 use Rattle.act_told.proofs.Standing.{Apart, apart, first_is, some_first, Begins, begins, call_at, call_is, run_at, run_is, IsRunOf, calls_ahead, runs_ahead, place_is, place_tells}
 

@@ -1,35 +1,13 @@
 -- A caller that collects a reply.
-use Rattle.std.proofs.Common.{◌≡◌, ◌≢◌, ℕ, Bool, true, false, cond, List, [], ◌∷◌, Some, None, inl, inr, refl, ap, sym, ◌∙◌, subst, Ok, Err, length-set}
-use Rattle.std.specs.Prelude.{Option, ◌==◌, ◌&&◌, not, slice_get, slice_set, option_and_then, is_some, is_none}
-use Rattle.std.specs.List.{list_any}
-use Rattle.std.proofs.Math.Bool.{or-false}
-use Rattle.std.proofs.lemmas.Bool.{eq-eqb}
-use Rattle.std.proofs.lemmas.Bool.Decides.{eqb_tells}
-use Rattle.std.proofs.lemmas.List.Folds.{list_any-append}
-use Rattle.act_types.specs.declared.call.Fault.TheVariants.{ActorDied}
-use Rattle.act_types.specs.declared.call.Reply.{Reply}
-use Rattle.act_types.specs.declared.call.Notice.TheVariants.{Answered}
-use Rattle.act_types.specs.KindState.{KindState}
-use Rattle.act_rules.specs.declared.event.Event.TheVariants.{Collect}
-use Rattle.act_rules.specs.declared.history.RunItem.{RunItem}
-use Rattle.act_rules.specs.declared.history.Submission.{Submission}
+use Rattle.act_world.proofs.Common.{◌≡◌, ◌≢◌, ℕ, Bool, true, false, cond, List, [], ◌∷◌, Some, None, inl, inr, refl, ap, sym, ◌∙◌, subst, Ok, Err, length-set}
+use Rattle.act_world.proofs.Common.{Option, ◌==◌, ◌&&◌, not, slice_get, slice_set, option_and_then, is_some, is_none, list_any, or-false, eq-eqb, eqb_tells}
+use Rattle.act_world.proofs.Common.{list_any-append, ActorDied, Reply, Answered, KindState, Collect, RunItem, Submission, Did, Answer, answer_at, kept_at}
+use Rattle.act_world.proofs.Common.{History, calls_of, kept_of, runs_of, opening_of, answer_of, answer_in, is_item_of, first_answer, outcome_of, did_reply}
+use Rattle.act_world.proofs.Common.{did_collect, after, was_sent, answer_alive, held_submission, or_else, kept_of-collected, Collected, First, Late, Stray}
+use Rattle.act_world.proofs.Common.{OwnerView, is_sent, is_to, is_death, is_of_call, collected_reply, after_reply_that, is_death-only, NetworkView}
+use Rattle.act_world.proofs.Common.{told_collected, SlotView, IsOwnerOf, is_death_to, reply_as, Refines}
 use Rattle.act_rules.specs.declared.history.Post.TheVariants.{Reply as ReplyPost}
-use Rattle.act_rules.specs.declared.outcome.Did.{Did}
 use Rattle.act_rules.specs.declared.outcome.Did.TheVariants.{Kept, Late as DidLate}
-use Rattle.act_rules.specs.RunList.{Answer, answer_at}
-use Rattle.act_rules.specs.Submissions.{kept_at}
-use Rattle.act_rules.specs.History.{History, calls_of, kept_of, runs_of, opening_of, answer_of, answer_in, is_item_of, first_answer}
-use Rattle.act_rules.specs.Rules.{outcome_of, did_reply, did_collect, after, was_sent}
-use Rattle.act_rules.proofs.KindFaults.{answer_alive}
-use Rattle.act_rules.proofs.Unique.{held_submission}
-use Rattle.act_rules.proofs.Table.{or_else, kept_of-collected}
-use Rattle.act_owner.specs.declared.owner.Collected.{Collected}
-use Rattle.act_owner.specs.declared.owner.Collected.TheVariants.{First, Late, Stray}
-use Rattle.act_owner.specs.Owner.{OwnerView, is_sent, is_to, is_death, is_of_call, collected_reply, after_reply_that}
-use Rattle.act_owner.proofs.Told.{is_death-only}
-use Rattle.act_world.specs.Network.{NetworkView, told_collected}
-use Rattle.act_world.specs.View.{SlotView}
-use Rattle.act_world.specs.Refines.{IsOwnerOf, is_death_to, reply_as, Refines}
 use Rattle.act_world.proofs.Lawful.{IsLawful}
 use Rattle.act_world.proofs.Pending.{kept_long}
 use Rattle.act_world.proofs.Sending.{seen_owner}

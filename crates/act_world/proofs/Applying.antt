@@ -1,18 +1,7 @@
 -- What is told of an event that is applied: what its step tells, or that memory was wanting.
-use Rattle.std.proofs.Common.{◌≡◌, true, false, List, [], ◌∷◌, ◌++◌, Ok, Err, Result, ap, sym, ◌∙◌}
-use Rattle.std.specs.Prelude.{OnErr}
-use Rattle.std.specs.Result.{result_unwrap_or}
-use Rattle.act_types.specs.declared.memory.NoMemory.{NoMemory}
-use Rattle.act_rules.specs.declared.event.Event.{Event}
+use Rattle.act_world.proofs.Common.{◌≡◌, true, false, List, [], ◌∷◌, ◌++◌, Ok, Err, Result, ap, sym, ◌∙◌, OnErr, result_unwrap_or, NoMemory, Event, ActorSpec}
+use Rattle.act_world.proofs.Common.{history, Outcome, outcome_of, WorldView, IsReachedBy, is_memory, IsUnrefused, TakesMemory, ShowsWhatIsTold, Steps}
 use Rattle.act_rules.specs.declared.outcome.WorldRefusal.TheVariants as refusal
-use Rattle.act_rules.specs.History.{ActorSpec}
-use Rattle.act_rules.specs.Laws.{history}
-use Rattle.act_rules.specs.Rules.{Outcome, outcome_of}
-use Rattle.act_world.specs.View.{WorldView}
-use Rattle.act_world.specs.IsReachedBy.{IsReachedBy, is_memory, IsUnrefused}
-use Rattle.act_world.specs.Memory.{TakesMemory}
-use Rattle.act_world.specs.Shown.{ShowsWhatIsTold}
-use Rattle.act_world.specs.Steps.{Steps}
 use Rattle.act_world.proofs.Playing.{stands_next}
 use Rattle.act_world.proofs.Shown.{one_shows, refused_shows}
 

@@ -1,26 +1,9 @@
 -- A kill that is asked.
-use Rattle.std.proofs.Common.{◌≡◌, ℕ, ◌<◌, Bool, true, false, List, [], ◌∷◌, ◌++◌, length, Some, None, Ok, Err, inl, inr, refl, sym, ◌∙◌, subst, get_or}
-use Rattle.std.specs.Prelude.{◌==◌, ◌||◌, position, slice_get, slice_set, unwrap_or}
-use Rattle.std.proofs.Math.Bool.{or-true, or-false}
-use Rattle.std.proofs.lemmas.Bool.{ne_eqb, eq-eqb}
-use Rattle.std.proofs.lemmas.Bool.Decides.{eqb_tells}
-use Rattle.std.proofs.lemmas.List.{get_or-set_same, get_or-set_other}
-use Rattle.std.proofs.lemmas.List.Folds.{list_any-append}
-use Rattle.std.proofs.lemmas.Option.{unwrap_or-slice_get}
-use Rattle.act_types.specs.declared.call.KillNote.{KillNote}
-use Rattle.act_rules.specs.declared.event.Event.TheVariants.{AskKill}
-use Rattle.act_rules.specs.declared.outcome.Did.TheVariants.{Asked}
-use Rattle.act_rules.specs.declared.outcome.HandleRefusal.{HandleRefusal}
-use Rattle.act_rules.specs.declared.outcome.WorldRefusal.TheVariants.{Handle}
-use Rattle.act_rules.specs.Submissions.{handle_refusal}
-use Rattle.act_rules.specs.History.{History, contains}
-use Rattle.act_rules.specs.Rules.{outcome_of, add_event, after}
-use Rattle.act_rules.proofs.Growth.{added_grows}
-use Rattle.act_handles.specs.Handles.{copies_in}
-use Rattle.act_owner.specs.Owner.{OwnerView, kill_told}
-use Rattle.act_world.specs.Network.{NetworkView, is_owner}
-use Rattle.act_world.specs.View.{SlotView}
-use Rattle.act_world.specs.Refines.{Refines}
+use Rattle.act_world.proofs.Common.{◌≡◌, ℕ, ◌<◌, Bool, true, false, List, [], ◌∷◌, ◌++◌, length, Some, None, Ok, Err, inl, inr, refl, sym, ◌∙◌, subst, get_or}
+use Rattle.act_world.proofs.Common.{◌==◌, ◌||◌, position, slice_get, slice_set, unwrap_or, or-true, or-false, ne_eqb, eq-eqb, eqb_tells, get_or-set_same}
+use Rattle.act_world.proofs.Common.{get_or-set_other, list_any-append, unwrap_or-slice_get, KillNote, AskKill, Asked, HandleRefusal, Handle, handle_refusal}
+use Rattle.act_world.proofs.Common.{History, contains, outcome_of, add_event, after, added_grows, copies_in, OwnerView, kill_told, NetworkView, is_owner}
+use Rattle.act_world.proofs.Common.{SlotView, Refines}
 use Rattle.act_world.proofs.Changes.{refused_follows, accepted_follows}
 use Rattle.act_world.proofs.Lawful.{IsLawful}
 use Rattle.act_world.proofs.Frames.{same_caller, owners_stay, mail_stays}

@@ -1,28 +1,12 @@
 -- A caller that collects a death.
-use Rattle.std.proofs.Common.{◌≡◌, ℕ, Bool, true, false, cond, List, [], ◌∷◌, ◌++◌, map, Some, None, inl, inr, refl, ap, sym, ◌∙◌, subst, Ok, Err}
-use Rattle.std.specs.Prelude.{Option, ◌==◌, ◌&&◌, zip, count_by, slice_get, slice_set, option_map, unwrap_or, is_some}
-use Rattle.std.specs.List.{list_any, enumerate_from}
-use Rattle.std.proofs.Math.Bool.{or-true, or-false}
-use Rattle.std.proofs.lemmas.Bool.{eq-eqb}
-use Rattle.std.proofs.lemmas.Bool.Decides.{eqb_tells}
-use Rattle.std.proofs.lemmas.List.{length-map}
-use Rattle.std.proofs.lemmas.List.Folds.{list_any-append}
-use Rattle.std.proofs.lemmas.Option.{slice_get-map}
-use Rattle.act_types.specs.declared.call.Fault.TheVariants.{ActorDied}
-use Rattle.act_types.specs.declared.call.Notice.TheVariants.{Death}
-use Rattle.act_rules.specs.declared.history.Submission.{Submission}
+use Rattle.act_world.proofs.Common.{◌≡◌, ℕ, Bool, true, false, cond, List, [], ◌∷◌, ◌++◌, map, Some, None, inl, inr, refl, ap, sym, ◌∙◌, subst, Ok, Err, Option}
+use Rattle.act_world.proofs.Common.{◌==◌, ◌&&◌, zip, count_by, slice_get, slice_set, option_map, unwrap_or, is_some, list_any, enumerate_from, or-true}
+use Rattle.act_world.proofs.Common.{or-false, eq-eqb, eqb_tells, length-map, list_any-append, slice_get-map, ActorDied, Death, Submission, Answer, History}
+use Rattle.act_world.proofs.Common.{calls_of, kept_of, answer_in, first_answer, was_sent, All_at, length-zip_same, eq_turned, or_else, kept_of-collected}
+use Rattle.act_world.proofs.Common.{copies_in, NetworkView, told_collected, SlotView, IsOwnerOf, is_death_to, Refines}
 use Rattle.act_rules.specs.declared.history.Post.TheVariants.{Death as DeathPost}
 use Rattle.act_rules.specs.declared.outcome.Did.TheVariants.{Died as DidDie}
-use Rattle.act_rules.specs.RunList.{Answer}
-use Rattle.act_rules.specs.History.{History, calls_of, kept_of, answer_in, first_answer}
-use Rattle.act_rules.specs.Rules.{was_sent}
-use Rattle.act_rules.proofs.Lists.{All_at, length-zip_same, eq_turned}
-use Rattle.act_rules.proofs.Table.{or_else, kept_of-collected}
-use Rattle.act_handles.specs.Handles.{copies_in}
 use Rattle.act_owner.specs.Owner.{OwnerView, is_known_dead as knows_dead, collect_result, with_death, call_waits_for, answer_after_death}
-use Rattle.act_world.specs.Network.{NetworkView, told_collected}
-use Rattle.act_world.specs.View.{SlotView}
-use Rattle.act_world.specs.Refines.{IsOwnerOf, is_death_to, Refines}
 use Rattle.act_world.proofs.Lawful.{IsLawful, IsNamedPost}
 use Rattle.act_world.proofs.Pending.{kept_long, unanswered_is}
 use Rattle.act_world.proofs.Seeing.{is_named}

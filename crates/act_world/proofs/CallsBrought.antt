@@ -1,23 +1,11 @@
 -- An actor that a call was brought to.
-use Rattle.std.proofs.Common.{◌≡◌, ℕ, ◌<◌, ◌≤◌, Bool, true, false, cond, List, [], ◌∷◌, ◌++◌, length, Some, None, refl, ap, sym, ◌∙◌, subst, arith}
-use Rattle.std.specs.Prelude.{Option, ◌==◌, ◌||◌, ◌&&◌, slice_get, slice_index_or, option_map, is_some, nat_lt}
-use Rattle.std.specs.List.{enumerate_from}
-use Rattle.std.proofs.lemmas.Bool.{eqb-true, eq-eqb, ltb-true, lt-ltb, and_parts, and_from}
-use Rattle.std.proofs.lemmas.Option.{slice_get_within}
-use Rattle.std.proofs.lemmas.List.FromFn.{length-enumerate_from}
-use Rattle.act_types.specs.declared.call.Packet.{Packet}
-use Rattle.act_rules.specs.declared.history.Submission.{Submission}
+use Rattle.act_world.proofs.Common.{◌≡◌, ℕ, ◌<◌, ◌≤◌, Bool, true, false, cond, List, [], ◌∷◌, ◌++◌, length, Some, None, refl, ap, sym, ◌∙◌, subst, arith}
+use Rattle.act_world.proofs.Common.{Option, ◌==◌, ◌||◌, ◌&&◌, slice_get, slice_index_or, option_map, is_some, nat_lt, enumerate_from, eqb-true, eq-eqb}
+use Rattle.act_world.proofs.Common.{ltb-true, lt-ltb, and_parts, and_from, slice_get_within, length-enumerate_from, Packet, Submission, Arrival, New, Repeat}
+use Rattle.act_world.proofs.Common.{Stranger, calls_to, History, cast_of, names, calls_of, ran_count, has_letter, length-filter_least, is_packet_of, handed_of}
+use Rattle.act_world.proofs.Common.{waiting_packet, has_come, arrival_of, waiting_after, ActorView, arrival_at, HasTakenPacket, packet_as, packet_by_number}
+use Rattle.act_world.proofs.Common.{held_packet, is_note_of, IsLive}
 use Rattle.act_rules.specs.declared.history.Letter.TheVariants.{Call as CallLetter, Note as NoteLetter}
-use Rattle.act_rules.specs.declared.outcome.Arrival.{Arrival}
-use Rattle.act_rules.specs.declared.outcome.Arrival.TheVariants.{New, Repeat, Stranger}
-use Rattle.act_rules.specs.Submissions.{calls_to}
-use Rattle.act_rules.specs.History.{History, cast_of, names, calls_of, ran_count, has_letter}
-use Rattle.act_rules.proofs.Lists.{length-filter_least}
-use Rattle.act_inbox.specs.Inbox.{is_packet_of, handed_of, waiting_packet, has_come, arrival_of, waiting_after}
-use Rattle.act_actor.specs.View.{ActorView}
-use Rattle.act_actor.specs.Actor.{arrival_at}
-use Rattle.act_world.specs.Slots.{HasTakenPacket}
-use Rattle.act_world.specs.Refines.{packet_as, packet_by_number, held_packet, is_note_of, IsLive}
 use Rattle.act_world.proofs.Lawful.{IsLawful}
 use Rattle.act_world.proofs.Mail.{has_other, has_again, has_last, brought, held_same}
 

@@ -1,21 +1,9 @@
 -- How a world goes on where one of its actors changes, or nothing does.
-use Rattle.std.proofs.Common.{◌≡◌, ◌≢◌, ℕ, ◌+◌, ◌<◌, ◌≤◌, ◌++◌, ◌∷◌, [], true, false, List, length, map, arith, length-append, get_or, Some, None, inl, inr, refl, ap, sym, ◌∙◌, subst}
-use Rattle.std.specs.Prelude.{Option, Result, Ok, Err, OnErr, IfOk, IsErrAnd, IfNone, slice_get, slice_set, option_map}
-use Rattle.std.proofs.lemmas.Bool.Decides.{eqb_tells}
-use Rattle.std.proofs.lemmas.List.{set-get_or}
-use Rattle.std.proofs.lemmas.Option.{slice_get-map, slice_get-get_or, get_or_from_slice_get}
-use Rattle.act_rules.specs.declared.event.Event.{Event}
-use Rattle.act_rules.specs.declared.outcome.Did.{Did}
-use Rattle.act_rules.specs.declared.outcome.WorldRefusal.{WorldRefusal}
-use Rattle.act_rules.specs.History.{ActorSpec, History, cast_of, names, is_ended}
-use Rattle.act_rules.specs.Rules.{refusal_of, did, add_event, outcome_of, after}
-use Rattle.act_world.specs.declared.network.MailEntry.{MailEntry}
-use Rattle.act_world.specs.declared.network.Posted.{Posted}
-use Rattle.act_world.specs.Network.{NetworkView}
-use Rattle.act_world.specs.IsReachedBy.{IsGrown}
-use Rattle.act_world.specs.View.{SlotView, Runs, Died, Ended, Vacant, WorldOf, WorldView}
-use Rattle.act_world.specs.Slots.{is_live_slot}
-use Rattle.act_world.specs.Refines.{IsStage, Refines}
+use Rattle.act_world.proofs.Common.{◌≡◌, ◌≢◌, ℕ, ◌+◌, ◌<◌, ◌≤◌, ◌++◌, ◌∷◌, [], true, false, List, length, map, arith, length-append, get_or, Some, None, inl}
+use Rattle.act_world.proofs.Common.{inr, refl, ap, sym, ◌∙◌, subst, Option, Result, Ok, Err, OnErr, IfOk, IsErrAnd, IfNone, slice_get, slice_set, option_map}
+use Rattle.act_world.proofs.Common.{eqb_tells, set-get_or, slice_get-map, slice_get-get_or, get_or_from_slice_get, Event, Did, WorldRefusal, ActorSpec, History}
+use Rattle.act_world.proofs.Common.{cast_of, names, is_ended, refusal_of, did, add_event, outcome_of, after, MailEntry, Posted, NetworkView, IsGrown, SlotView}
+use Rattle.act_world.proofs.Common.{Runs, Died, Ended, Vacant, WorldOf, WorldView, is_live_slot, IsStage, Refines}
 use Rattle.act_world.proofs.Lists.{get_set-same, get_set-other}
 
 -- ---- what is told, and what stands after

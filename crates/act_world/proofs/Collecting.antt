@@ -1,36 +1,14 @@
 -- A notice that its caller collects.
-use Rattle.std.proofs.Common.{◌≡◌, ◌≢◌, ℕ, ◌<◌, Bool, true, false, cond, List, length, Some, None, refl, ap, sym, ◌∙◌, subst, Ok, Err}
-use Rattle.std.specs.Prelude.{Option, OnErr, zip, count_by, slice_get, slice_set, position, option_map, option_and_then, is_some, is_none}
-use Rattle.std.proofs.lemmas.List.Quantifiers.{position-Some}
-use Rattle.std.proofs.lemmas.Option.{slice_get-get_or}
-use Rattle.std.proofs.lemmas.Result.{on_err_weaker}
-use Rattle.act_types.specs.declared.call.Notice.{Notice}
-use Rattle.act_types.specs.declared.call.Reply.{Reply}
-use Rattle.act_types.specs.declared.call.Notice.TheVariants.{Answered, Death}
-use Rattle.act_rules.specs.declared.event.Event.TheVariants.{Collect}
-use Rattle.act_rules.specs.declared.history.RunItem.{RunItem}
-use Rattle.act_rules.specs.declared.history.Post.{Post}
+use Rattle.act_world.proofs.Common.{◌≡◌, ◌≢◌, ℕ, ◌<◌, Bool, true, false, cond, List, length, Some, None, refl, ap, sym, ◌∙◌, subst, Ok, Err, Option, OnErr, zip}
+use Rattle.act_world.proofs.Common.{count_by, slice_get, slice_set, position, option_map, option_and_then, is_some, is_none, position-Some, slice_get-get_or}
+use Rattle.act_world.proofs.Common.{on_err_weaker, Notice, Reply, Answered, Death, Collect, RunItem, Post, Answer, NoReply, history, needs, kept_at, History}
+use Rattle.act_world.proofs.Common.{is_caller, runs_of, kept_of, answer_of, Outcome, did_reply, did_collect, outcome_by, outcome_of, after, All_at, IsSoundPost}
+use Rattle.act_world.proofs.Common.{copies_in, Collected, First, Late, Stray, OwnerView, collected_reply, collect_result, after_collect, after_reply_that}
+use Rattle.act_world.proofs.Common.{with_death, call_waits_for, pending, KnowsDeath, Posted, NetworkView, is_owner, IsReplyNotice, told_collected, is_memory}
+use Rattle.act_world.proofs.Common.{IsUnrefusedThere, takes_memory, StepsThere, SlotView, reply_as, reply_at, posted_notice, Refines}
 use Rattle.act_rules.specs.declared.history.Post.TheVariants.{Reply as ReplyPost, Death as DeathPost}
 use Rattle.act_rules.specs.declared.outcome.Did.TheVariants.{Kept as DidKeep, Late as DidLate}
-use Rattle.act_rules.specs.RunList.{Answer}
-use Rattle.act_rules.specs.declared.outcome.WorldRefusal.TheVariants.{NoReply}
-use Rattle.act_rules.specs.Laws.{history}
-use Rattle.act_rules.specs.Submissions.{needs, kept_at}
-use Rattle.act_rules.specs.History.{History, is_caller, runs_of, kept_of, answer_of}
-use Rattle.act_rules.specs.Rules.{Outcome, did_reply, did_collect, outcome_by, outcome_of, after}
-use Rattle.act_rules.proofs.Lists.{All_at}
-use Rattle.act_rules.proofs.Posts.{IsSoundPost}
-use Rattle.act_handles.specs.Handles.{copies_in}
-use Rattle.act_owner.specs.declared.owner.Collected.{Collected}
-use Rattle.act_owner.specs.declared.owner.Collected.TheVariants.{First, Late, Stray, Died}
-use Rattle.act_owner.specs.Owner.{OwnerView, collected_reply, collect_result, after_collect, after_reply_that, with_death, call_waits_for, pending, KnowsDeath}
-use Rattle.act_world.specs.declared.network.Posted.{Posted}
-use Rattle.act_world.specs.Network.{NetworkView, is_owner, IsReplyNotice, told_collected}
-use Rattle.act_world.specs.IsReachedBy.{is_memory, IsUnrefusedThere}
-use Rattle.act_world.specs.Memory.{takes_memory}
-use Rattle.act_world.specs.Steps.{StepsThere}
-use Rattle.act_world.specs.View.{SlotView}
-use Rattle.act_world.specs.Refines.{reply_as, reply_at, posted_notice, Refines}
+use Rattle.act_owner.specs.declared.owner.Collected.TheVariants.{Died}
 use Rattle.act_world.proofs.Changes.{refused_follows, grown_none}
 use Rattle.act_world.proofs.Lawful.{IsLawful, IsNamedPost, named_caller, world_lawful}
 use Rattle.act_world.proofs.Frames.{owner_absent}

@@ -1,25 +1,10 @@
 -- A handle that is copied.
-use Rattle.std.proofs.Common.{◌≡◌, ◌≢◌, ℕ, ◌+◌, ◌-◌, ◌<◌, Bool, true, false, cond, List, Some, None, Ok, Err, inl, inr, refl, ap, sym, ◌∙◌, subst, arith, get_or}
-use Rattle.std.specs.Prelude.{Option, position, slice_get, slice_set, option_map, is_some, nat_lt}
-use Rattle.std.proofs.lemmas.Bool.{ltb-true}
-use Rattle.std.proofs.lemmas.Bool.Decides.{eqb_tells}
-use Rattle.act_rules.specs.declared.event.Event.TheVariants.{Copy}
-use Rattle.act_rules.specs.declared.outcome.Did.TheVariants.{Copies}
-use Rattle.act_rules.specs.declared.outcome.HandleRefusal.{HandleRefusal}
-use Rattle.act_rules.specs.declared.outcome.HandleRefusal.TheVariants.{NoActor, NoHandle, TooManyCopies}
-use Rattle.act_rules.specs.declared.outcome.WorldRefusal.TheVariants.{NoCaller, Handle}
-use Rattle.act_rules.specs.Submissions.{needs, copies_held, copy_refusal}
-use Rattle.act_rules.specs.History.{History, is_caller, count_pairs, cast_of, names, calls_of, copies_of}
-use Rattle.act_rules.specs.Rules.{refusal_of, outcome_of, add_event, after}
-use Rattle.act_rules.proofs.Ended.{needs-none}
-use Rattle.act_rules.proofs.Growth.{added_grows}
-use Rattle.act_rules.proofs.Table.{kept_of-same}
-use Rattle.act_handles.specs.Handles.{copies_in, copy_answer, with_copy}
-use Rattle.act_handles.proofs.Lookups.{copies-with_copy, copies-with_copy-other, given-with_copy}
-use Rattle.act_owner.specs.Owner.{OwnerView, with_handles}
-use Rattle.act_world.specs.Network.{NetworkView, is_owner}
-use Rattle.act_world.specs.View.{SlotView}
-use Rattle.act_world.specs.Refines.{Refines, IsOwnerOf}
+use Rattle.act_world.proofs.Common.{◌≡◌, ◌≢◌, ℕ, ◌+◌, ◌-◌, ◌<◌, Bool, true, false, cond, List, Some, None, Ok, Err, inl, inr, refl, ap, sym, ◌∙◌, subst, arith}
+use Rattle.act_world.proofs.Common.{get_or, Option, position, slice_get, slice_set, option_map, is_some, nat_lt, ltb-true, eqb_tells, Copy, Copies}
+use Rattle.act_world.proofs.Common.{HandleRefusal, NoActor, NoHandle, TooManyCopies, NoCaller, Handle, needs, copies_held, copy_refusal, History, is_caller}
+use Rattle.act_world.proofs.Common.{count_pairs, cast_of, names, calls_of, copies_of, refusal_of, outcome_of, add_event, after, needs-none, added_grows}
+use Rattle.act_world.proofs.Common.{kept_of-same, copies_in, copy_answer, with_copy, copies-with_copy, copies-with_copy-other, given-with_copy, OwnerView}
+use Rattle.act_world.proofs.Common.{with_handles, NetworkView, is_owner, SlotView, Refines, IsOwnerOf}
 use Rattle.act_world.proofs.Changes.{refused_follows, accepted_follows}
 use Rattle.act_world.proofs.Lawful.{IsLawful}
 use Rattle.act_world.proofs.Frames.{SameCaller, owners_change, mail_stays}

@@ -1,35 +1,14 @@
 -- A letter that is brought to its actor.
-use Rattle.std.proofs.Common.{◌≡◌, ℕ, Bool, true, false, cond, List, map, get_or, Some, None, refl, ap, sym, ◌∙◌, subst}
-use Rattle.std.specs.Prelude.{Option, Result, Ok, Err, IfOk, OnErr, find, slice_get, slice_set, not}
-use Rattle.std.proofs.lemmas.List.{map-set}
-use Rattle.act_types.specs.KindState.{KindState}
-use Rattle.act_types.specs.declared.memory.NoMemory.{NoMemory}
-use Rattle.act_rules.specs.declared.history.Submission.{Submission}
-use Rattle.act_rules.specs.declared.history.Letter.{Letter}
+use Rattle.act_world.proofs.Common.{◌≡◌, ℕ, Bool, true, false, cond, List, map, get_or, Some, None, refl, ap, sym, ◌∙◌, subst, Option, Result, Ok, Err, IfOk}
+use Rattle.act_world.proofs.Common.{OnErr, find, slice_get, slice_set, not, map-set, KindState, NoMemory, Submission, Letter, Deliver, Arrival, New, Repeat}
+use Rattle.act_world.proofs.Common.{Arrived, ActorEnded, NoMail, history, needs, calls_to, History, cast_of, names, calls_of, is_ended, has_letter, Outcome}
+use Rattle.act_world.proofs.Common.{letter_actor, deliver_refusal, refusal_of, did, did_deliver, outcome_of, after, and_also, was_sent, IsSoundLetter}
+use Rattle.act_world.proofs.Common.{IsSoundNote, OwnerView, ActorView, MailEntry, NetworkView, is_owner, entry_actor, Slot, Steps, SlotView, Runs, WorldView}
+use Rattle.act_world.proofs.Common.{slot_view, world_view, with_slots, is_live_slot, HasTakenPacket, HasTakenCall, HasNoted, HasArrived, IsNewCall, IsBrought}
+use Rattle.act_world.proofs.Common.{IsOwnerAt, packet_as, call_key, mail_entry, IsLive, IsStage, Refines, is_memory, FollowsRules, IsUnrefused, is_new_call}
+use Rattle.act_world.proofs.Common.{takes_memory, TakesMemory}
 use Rattle.act_rules.specs.declared.history.Letter.TheVariants.{Call as CallLetter, Note as NoteLetter}
-use Rattle.act_rules.specs.declared.event.Event.TheVariants.{Deliver}
-use Rattle.act_rules.specs.declared.outcome.Arrival.{Arrival}
-use Rattle.act_rules.specs.declared.outcome.Arrival.TheVariants.{New, Repeat}
-use Rattle.act_rules.specs.declared.outcome.Did.TheVariants.{Arrived}
-use Rattle.act_rules.specs.declared.outcome.WorldRefusal.TheVariants.{ActorEnded, NoMail}
-use Rattle.act_rules.specs.Laws.{history}
-use Rattle.act_rules.specs.Submissions.{needs, calls_to}
-use Rattle.act_rules.specs.History.{History, cast_of, names, calls_of, is_ended, has_letter}
-use Rattle.act_rules.specs.Rules.{Outcome, letter_actor, deliver_refusal, refusal_of, did, did_deliver, outcome_of, after, and_also, was_sent}
-use Rattle.act_rules.proofs.Letters.{IsSoundLetter}
-use Rattle.act_rules.proofs.Retired.{IsSoundNote}
-use Rattle.act_owner.specs.Owner.{OwnerView}
-use Rattle.act_actor.specs.View.{ActorView}
-use Rattle.act_world.specs.declared.network.MailEntry.{MailEntry}
 use Rattle.act_world.specs.declared.network.MailEntry.TheVariants.{Call as CallEntry, Note as NoteEntry}
-use Rattle.act_world.specs.Network.{NetworkView, is_owner, entry_actor}
-use Rattle.act_world.specs.declared.slot.Slot.{Slot}
-use Rattle.act_world.specs.Steps.{Steps}
-use Rattle.act_world.specs.View.{SlotView, Runs, WorldView, slot_view, world_view, with_slots}
-use Rattle.act_world.specs.Slots.{is_live_slot, HasTakenPacket, HasTakenCall, HasNoted, HasArrived, IsNewCall, IsBrought}
-use Rattle.act_world.specs.Refines.{IsOwnerAt, packet_as, call_key, mail_entry, IsLive, IsStage, Refines}
-use Rattle.act_world.specs.IsReachedBy.{is_memory, FollowsRules, IsUnrefused}
-use Rattle.act_world.specs.Memory.{is_new_call, takes_memory, TakesMemory}
 use Rattle.act_world.proofs.Lawful.{IsLawful, world_lawful, IsNamedLetter}
 use Rattle.act_world.proofs.Frames.{owners_stay}
 use Rattle.act_world.proofs.Making.{made_there}

@@ -1,41 +1,15 @@
 -- What stays of a world where its history goes on, part by part.
-use Rattle.std.proofs.Common.{◌≡◌, ◌≢◌, ℕ, zero, suc, ◌<◌, Bool, true, false, cond, List, [], ◌∷◌, ◌++◌, length, Some, None, inl, inr, refl, ap, sym, ◌∙◌, subst, arith, get_or}
-use Rattle.std.specs.Prelude.{Option, ◌==◌, ◌||◌, find, position, slice_get, slice_set, option_map, option_and_then, nat_lt}
-use Rattle.std.specs.List.{list_any}
-use Rattle.std.proofs.lemmas.Bool.{eq-eqb, ne_eqb}
-use Rattle.std.proofs.lemmas.Bool.Decides.{eqb_tells}
-use Rattle.std.proofs.lemmas.List.Folds.{find-set, find_past}
-use Rattle.std.proofs.lemmas.List.Quantifiers.{position-Some}
-use Rattle.act_types.specs.declared.call.Settled.{Settled}
-use Rattle.act_types.specs.declared.call.Packet.{Packet}
-use Rattle.act_types.specs.declared.call.Notice.TheVariants.{Answered}
-use Rattle.act_rules.specs.declared.history.RunItem.{RunItem}
-use Rattle.act_rules.specs.declared.history.Submission.{Submission}
-use Rattle.act_rules.specs.declared.history.Letter.{Letter}
+use Rattle.act_world.proofs.Common.{◌≡◌, ◌≢◌, ℕ, zero, suc, ◌<◌, Bool, true, false, cond, List, [], ◌∷◌, ◌++◌, length, Some, None, inl, inr, refl, ap, sym, ◌∙◌}
+use Rattle.act_world.proofs.Common.{subst, arith, get_or, Option, ◌==◌, ◌||◌, find, position, slice_get, slice_set, option_map, option_and_then, nat_lt}
+use Rattle.act_world.proofs.Common.{list_any, eq-eqb, ne_eqb, eqb_tells, find-set, find_past, position-Some, Settled, Packet, Answered, RunItem, Submission}
+use Rattle.act_world.proofs.Common.{Letter, Post, items_of, state_after, has_terminated, calls_to, ActorSpec, History, contains, under, cast_of, names}
+use Rattle.act_world.proofs.Common.{is_caller, calls_of, copies_of, runs_of, ran_count, kept_of, is_ended, is_dead, is_retired, has_letter, was_sent}
+use Rattle.act_world.proofs.Common.{slice_get_front, All_at, Grows, calls_grow, runs_grow, calls_to_grow, not_terminated, IsSoundPost, answer_of_stays}
+use Rattle.act_world.proofs.Common.{IsSoundLetter, kept_extends, has_letter-sound, arguments_stay, kept_of-same, find-Some, find-None, position_or_len-Some}
+use Rattle.act_world.proofs.Common.{limit_of-same, OwnerView, ActorView, MailEntry, Posted, is_owner, SlotView, Runs, Died, Ended, Vacant, IsOwnerOf, IsOwnerAt}
+use Rattle.act_world.proofs.Common.{is_death_to, packet_by_number, mail_entry, reply_as, reply_at, posted_notice, held_packet, IsLive, IsStage}
 use Rattle.act_rules.specs.declared.history.Letter.TheVariants.{Call as CallLetter, Note as NoteLetter}
-use Rattle.act_rules.specs.declared.history.Post.{Post}
 use Rattle.act_rules.specs.declared.history.Post.TheVariants.{Reply as ReplyPost, Death as DeathPost}
-use Rattle.act_rules.specs.RunList.{items_of, state_after, has_terminated}
-use Rattle.act_rules.specs.Submissions.{calls_to}
-use Rattle.act_rules.specs.History.{ActorSpec, History, contains, under, cast_of, names, is_caller, calls_of, copies_of, runs_of, ran_count, kept_of, is_ended, is_dead, is_retired, has_letter}
-use Rattle.act_rules.specs.Rules.{was_sent}
-use Rattle.act_rules.proofs.Lists.{slice_get_front, All_at}
-use Rattle.act_rules.proofs.Growth.{Grows, calls_grow, runs_grow, calls_to_grow}
-use Rattle.act_rules.proofs.Ended.{not_terminated}
-use Rattle.act_rules.proofs.Posts.{IsSoundPost}
-use Rattle.act_rules.proofs.Kept.{answer_of_stays}
-use Rattle.act_rules.proofs.Letters.{IsSoundLetter, kept_extends, has_letter-sound}
-use Rattle.act_rules.proofs.Settling.{arguments_stay}
-use Rattle.act_rules.proofs.Table.{kept_of-same}
-use Rattle.act_rules.proofs.Finding.{find-Some, find-None, position_or_len-Some}
-use Rattle.act_rules.proofs.Limits.{limit_of-same}
-use Rattle.act_owner.specs.Owner.{OwnerView}
-use Rattle.act_actor.specs.View.{ActorView}
-use Rattle.act_world.specs.declared.network.MailEntry.{MailEntry}
-use Rattle.act_world.specs.declared.network.Posted.{Posted}
-use Rattle.act_world.specs.Network.{is_owner}
-use Rattle.act_world.specs.View.{SlotView, Runs, Died, Ended, Vacant}
-use Rattle.act_world.specs.Refines.{IsOwnerOf, IsOwnerAt, is_death_to, packet_by_number, mail_entry, reply_as, reply_at, posted_notice, held_packet, IsLive, IsStage}
 use Rattle.act_world.proofs.Lawful.{IsLawful}
 
 -- ---- the casts

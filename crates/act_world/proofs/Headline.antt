@@ -1,34 +1,13 @@
 -- A world that stands is consistent.
-use Rattle.std.proofs.Common.{◌≡◌, ℕ, ◌<◌, Bool, true, false, List, [], ◌∷◌, ◌++◌, length, map, Some, None, refl, ap, sym, ◌∙◌, subst, arith}
-use Rattle.std.specs.Prelude.{Option, ◌==◌, ◌||◌, find, slice_get, is_some, not}
-use Rattle.std.specs.List.{enumerate_from}
-use Rattle.std.specs.Option.{option_map_or}
-use Rattle.std.proofs.lemmas.Bool.{eq-eqb, eqb-true, or_parts}
-use Rattle.act_types.specs.KindState.{KindState}
-use Rattle.act_rules.specs.declared.event.Event.{Event}
-use Rattle.act_rules.specs.declared.event.Event.TheVariants.{Submit, Copy, Release, Send, Deliver, Run, Collect, AskKill, TakeKill, Tell, Retire}
-use Rattle.act_rules.specs.declared.history.RunItem.{RunItem}
-use Rattle.act_rules.specs.declared.history.Submission.{Submission}
+use Rattle.act_world.proofs.Common.{◌≡◌, ℕ, ◌<◌, Bool, true, false, List, [], ◌∷◌, ◌++◌, length, map, Some, None, refl, ap, sym, ◌∙◌, subst, arith, Option}
+use Rattle.act_world.proofs.Common.{◌==◌, ◌||◌, find, slice_get, is_some, not, enumerate_from, option_map_or, eq-eqb, eqb-true, or_parts, KindState, Event}
+use Rattle.act_world.proofs.Common.{Submit, Copy, Release, Send, Deliver, Run, Collect, AskKill, TakeKill, Tell, Retire, RunItem, Submission, NoActor, Handle}
+use Rattle.act_world.proofs.Common.{ActorEnded, NoKill, Answer, items_of, has_terminated, needs, Consistent, history, ActorSpec, History, opening, contains}
+use Rattle.act_world.proofs.Common.{cast_of, opening_of, names, is_caller, calls_of, runs_of, ran_count, kept_of, first_answer, has_letter, is_dead, is_retired}
+use Rattle.act_world.proofs.Common.{is_ended, next_item, refusal_of, after_run, IsKept, after_all_keeps, needs-none, has_letter-sound, added_grows, consistent}
+use Rattle.act_world.proofs.Common.{OwnerView, is_owner, SlotView, Runs, Died, Ended, Vacant, WorldView, IsOwnerAt, IsStage, Refines, is_dead_slot, world_calls}
+use Rattle.act_world.proofs.Common.{world_kept, slot_log, world_log, world_died, IsConsistent}
 use Rattle.act_rules.specs.declared.history.Letter.TheVariants.{Call as CallLetter}
-use Rattle.act_rules.specs.declared.outcome.HandleRefusal.TheVariants.{NoActor}
-use Rattle.act_rules.specs.declared.outcome.WorldRefusal.TheVariants.{Handle, ActorEnded, NoKill}
-use Rattle.act_rules.specs.RunList.{Answer, items_of, has_terminated}
-use Rattle.act_rules.specs.Submissions.{needs}
-use Rattle.act_rules.specs.Consistent.{Consistent}
-use Rattle.act_rules.specs.Laws.{history}
-use Rattle.act_rules.specs.History.{ActorSpec, History, opening, contains, cast_of, opening_of, names, is_caller, calls_of, runs_of, ran_count, kept_of, first_answer, has_letter, is_dead, is_retired, is_ended, next_item}
-use Rattle.act_rules.specs.Rules.{refusal_of, after_run}
-use Rattle.act_rules.proofs.Steps.{IsKept, after_all_keeps}
-use Rattle.act_rules.proofs.Ended.{needs-none}
-use Rattle.act_rules.proofs.Letters.{has_letter-sound}
-use Rattle.act_rules.proofs.Growth.{added_grows}
-use Rattle.act_rules.proofs.Sound.{consistent}
-use Rattle.act_owner.specs.Owner.{OwnerView}
-use Rattle.act_world.specs.Network.{is_owner}
-use Rattle.act_world.specs.View.{SlotView, Runs, Died, Ended, Vacant, WorldView}
-use Rattle.act_world.specs.Refines.{IsOwnerAt, IsStage, Refines}
-use Rattle.act_world.specs.Slots.{is_dead_slot}
-use Rattle.act_world.specs.Headline.{world_calls, world_kept, slot_log, world_log, world_died, IsConsistent}
 use Rattle.act_world.proofs.Lawful.{IsLawful, IsNamedLetter, world_lawful, named_caller, sent_call_named}
 
 -- ---- the casts stay, and the killed have casts

@@ -1,24 +1,10 @@
 -- A history after one of its posts was collected.
-use Rattle.std.proofs.Common.{◌≡◌, ◌≢◌, ℕ, Bool, false, List, [], ◌∷◌, ◌++◌, Some, None, refl, ap, sym, ◌∙◌, subst, Ok}
-use Rattle.std.specs.Prelude.{Option, ◌==◌, ◌||◌, slice_get, slice_set}
-use Rattle.std.specs.List.{list_any}
-use Rattle.std.proofs.Math.Bool.{or-false}
-use Rattle.std.proofs.lemmas.Bool.{ne_eqb}
-use Rattle.std.proofs.lemmas.List.Folds.{list_any-append}
-use Rattle.act_rules.specs.declared.event.Event.TheVariants.{Collect}
-use Rattle.act_rules.specs.declared.history.Submission.{Submission}
-use Rattle.act_rules.specs.declared.history.Post.{Post}
+use Rattle.act_world.proofs.Common.{◌≡◌, ◌≢◌, ℕ, Bool, false, List, [], ◌∷◌, ◌++◌, Some, None, refl, ap, sym, ◌∙◌, subst, Ok, Option, ◌==◌, ◌||◌, slice_get}
+use Rattle.act_world.proofs.Common.{slice_set, list_any, or-false, ne_eqb, list_any-append, Collect, Submission, Post, Answer, History, calls_of, kept_of}
+use Rattle.act_world.proofs.Common.{answer_in, first_answer, did, Outcome, refusal_of, outcome_of, did_collect, add_event, after, and_also, was_sent, Grows}
+use Rattle.act_world.proofs.Common.{added_grows, or_else, kept_of-collected, OwnerView, collect_result, after_collect, KnowsDeath, Posted, NetworkView}
+use Rattle.act_world.proofs.Common.{told_collected, SlotView, WorldView, IsOwnerOf, is_death_to, Refines}
 use Rattle.act_rules.specs.declared.history.Post.TheVariants.{Reply as ReplyPost, Death as DeathPost}
-use Rattle.act_rules.specs.RunList.{Answer}
-use Rattle.act_rules.specs.History.{History, calls_of, kept_of, answer_in, first_answer}
-use Rattle.act_rules.specs.Rules.{did, Outcome, refusal_of, outcome_of, did_collect, add_event, after, and_also, was_sent}
-use Rattle.act_rules.proofs.Growth.{Grows, added_grows}
-use Rattle.act_rules.proofs.Table.{or_else, kept_of-collected}
-use Rattle.act_owner.specs.Owner.{OwnerView, collect_result, after_collect, KnowsDeath}
-use Rattle.act_world.specs.declared.network.Posted.{Posted}
-use Rattle.act_world.specs.Network.{NetworkView, told_collected}
-use Rattle.act_world.specs.View.{SlotView, WorldView}
-use Rattle.act_world.specs.Refines.{IsOwnerOf, is_death_to, Refines}
 use Rattle.act_world.proofs.Changes.{accepted_follows}
 use Rattle.act_world.proofs.Lawful.{IsLawful}
 use Rattle.act_world.proofs.Frames.{SameCaller, owners_change, mail_stays, replies_stay, stages_stay}

@@ -1,26 +1,10 @@
 -- An actor that takes a kill.
-use Rattle.std.proofs.Common.{◌≡◌, ℕ, ◌<◌, Bool, true, false, List, [], ◌∷◌, ◌++◌, length, map, get_or, Some, None, inl, inr, refl, ap, sym, ◌∙◌, subst, Err}
-use Rattle.std.specs.Prelude.{◌==◌, slice_get, slice_set, unwrap_or}
-use Rattle.std.proofs.Math.Bool.{or-true, or-false}
-use Rattle.std.proofs.lemmas.Bool.{eq-eqb, or_right, or_left}
-use Rattle.std.proofs.lemmas.Bool.Decides.{eqb_tells}
-use Rattle.std.proofs.lemmas.List.{map-set}
-use Rattle.std.proofs.lemmas.List.Folds.{list_any-append}
-use Rattle.act_rules.specs.declared.event.Event.TheVariants.{TakeKill}
-use Rattle.act_rules.specs.declared.outcome.HandleRefusal.TheVariants.{NoActor}
-use Rattle.act_rules.specs.declared.outcome.WorldRefusal.{WorldRefusal}
-use Rattle.act_rules.specs.declared.outcome.WorldRefusal.TheVariants.{Handle, ActorEnded, NoKill}
-use Rattle.act_rules.specs.RunList.{has_terminated}
-use Rattle.act_rules.specs.Laws.{history}
-use Rattle.act_rules.specs.History.{History, contains, cast_of, runs_of, is_dead, is_retired, is_ended}
-use Rattle.act_rules.specs.Rules.{Outcome, refusal_of, outcome_of, did, add_event, after}
-use Rattle.act_rules.proofs.Growth.{added_grows}
-use Rattle.act_actor.specs.View.{ActorView}
-use Rattle.act_world.specs.Network.{NetworkView}
-use Rattle.act_world.specs.View.{SlotView, Runs, Died, Ended, Vacant, with_slots}
-use Rattle.act_world.specs.Slots.{take_kill}
-use Rattle.act_world.specs.IsReachedBy.{FollowsRules}
-use Rattle.act_world.specs.Refines.{IsLive, IsDead, IsStage, Refines}
+use Rattle.act_world.proofs.Common.{◌≡◌, ℕ, ◌<◌, Bool, true, false, List, [], ◌∷◌, ◌++◌, length, map, get_or, Some, None, inl, inr, refl, ap, sym, ◌∙◌, subst}
+use Rattle.act_world.proofs.Common.{Err, ◌==◌, slice_get, slice_set, unwrap_or, or-true, or-false, eq-eqb, or_right, or_left, eqb_tells, map-set}
+use Rattle.act_world.proofs.Common.{list_any-append, TakeKill, NoActor, WorldRefusal, Handle, ActorEnded, NoKill, has_terminated, history, History, contains}
+use Rattle.act_world.proofs.Common.{cast_of, runs_of, is_dead, is_retired, is_ended, Outcome, refusal_of, outcome_of, did, add_event, after, added_grows}
+use Rattle.act_world.proofs.Common.{ActorView, NetworkView, SlotView, Runs, Died, Ended, Vacant, with_slots, take_kill, FollowsRules, IsLive, IsDead, IsStage}
+use Rattle.act_world.proofs.Common.{Refines}
 use Rattle.act_world.proofs.Changes.{refused_follows, accepted_follows, slot_within}
 use Rattle.act_world.proofs.Lists.{get_set-same, get_set-other, set-same}
 use Rattle.act_world.proofs.Lawful.{IsLawful, world_lawful}

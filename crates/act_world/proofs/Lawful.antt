@@ -1,38 +1,18 @@
 -- What every history keeps, beside the laws of the rules: what a world may rely on.
-use Rattle.std.proofs.Common.{◌≡◌, ℕ, zero, suc, ◌+◌, ◌<◌, ◌≤◌, Bool, true, false, cond, List, [], ◌∷◌, ◌++◌, length, Some, None, inl, inr, refl, ap, sym, ◌∙◌, subst, arith, length-append}
-use Rattle.std.specs.Prelude.{Option, ◌==◌, ◌||◌, filter, find, slice_get, option_map, is_some, nat_lt, nat_le}
-use Rattle.std.specs.List.{AllByRecursion, list_all, list_any}
-use Rattle.std.proofs.Math.Bool.{or-false}
-use Rattle.std.proofs.lemmas.Bool.{eqb-true, eq-eqb, ltb-true, or_right}
-use Rattle.std.proofs.lemmas.Bool.Decides.{leb_tells}
-use Rattle.std.proofs.lemmas.List.{append-nil}
-use Rattle.std.proofs.lemmas.List.Folds.{list_any-append}
-use Rattle.std.proofs.lemmas.List.Elements.{filter-append}
-use Rattle.act_types.specs.declared.call.Arg.{Arg}
-use Rattle.act_types.specs.declared.call.Method.{Method}
-use Rattle.act_rules.specs.declared.history.RunItem.{RunItem}
-use Rattle.act_rules.specs.declared.history.Submission.{Submission}
-use Rattle.act_rules.specs.declared.history.Letter.{Letter}
+use Rattle.act_world.proofs.Common.{◌≡◌, ℕ, zero, suc, ◌+◌, ◌<◌, ◌≤◌, Bool, true, false, cond, List, [], ◌∷◌, ◌++◌, length, Some, None, inl, inr, refl, ap, sym}
+use Rattle.act_world.proofs.Common.{◌∙◌, subst, arith, length-append, Option, ◌==◌, ◌||◌, filter, find, slice_get, option_map, is_some, nat_lt, nat_le}
+use Rattle.act_world.proofs.Common.{AllByRecursion, list_all, list_any, or-false, eqb-true, eq-eqb, ltb-true, or_right, leb_tells, append-nil, list_any-append}
+use Rattle.act_world.proofs.Common.{filter-append, Arg, Method, RunItem, Submission, Letter, Post, Event, Submit, Copy, Release, Send, Deliver, Run, Collect}
+use Rattle.act_world.proofs.Common.{AskKill, TakeKill, Tell, Retire, NoActor, NoHandle, items_of, calls_to, needs, copies_held, submit_refusal, limit_refusal}
+use Rattle.act_world.proofs.Common.{handle_refusal, is_earlier, ActorSpec, History, opening, contains, under, cast_of, names, is_caller, calls_of, copies_of}
+use Rattle.act_world.proofs.Common.{limit_of, runs_of, ran_count, has_letter, is_letter, is_dead, next_item, unanswered, submission_refusal, refusal_of}
+use Rattle.act_world.proofs.Common.{add_event, and_also, after_run, call_letter, is_last, after_all, All_more, All_weaker, All_at, option_map-none}
+use Rattle.act_world.proofs.Common.{option_or-none, IsKept, after_all_keeps, needs-none, under-push, run_needs, IsNext, next_item_is, map-slice_get}
+use Rattle.act_world.proofs.Common.{filter-slice_get, Retires, retires_step, AllNamed, world_retires, copies_named, IsSound, sound_step, world_sound}
 use Rattle.act_rules.specs.declared.history.Letter.TheVariants.{Call as CallLetter, Note as NoteLetter}
-use Rattle.act_rules.specs.declared.history.Post.{Post}
 use Rattle.act_rules.specs.declared.history.Post.TheVariants.{Reply as ReplyPost, Death as DeathPost}
-use Rattle.act_rules.specs.declared.event.Event.{Event}
-use Rattle.act_rules.specs.declared.event.Event.TheVariants.{Submit, Copy, Release, Send, Deliver, Run, Collect, AskKill, TakeKill, Tell, Retire}
-use Rattle.act_rules.specs.declared.outcome.HandleRefusal.TheVariants.{NoActor, NoHandle}
 use Rattle.act_rules.specs.declared.outcome.SubmitRefusal.TheVariants.{NoActor as NoSuchActor, NoHandle as NoCopy, TooManyArgs, BadFuture, TooManyCalls}
 use Rattle.act_rules.specs.declared.outcome.WorldRefusal.TheVariants.{Submit as SubmitRefused, NoCaller, Handle, NotDead}
-use Rattle.act_rules.specs.RunList.{items_of}
-use Rattle.act_rules.specs.Submissions.{calls_to, needs, copies_held, submit_refusal, limit_refusal, handle_refusal, is_earlier}
-use Rattle.act_rules.specs.History.{ActorSpec, History, opening, contains, under, cast_of, names, is_caller, calls_of, copies_of, limit_of, runs_of, ran_count, has_letter, is_letter, is_dead, next_item}
-use Rattle.act_rules.specs.Rules.{unanswered, submission_refusal, refusal_of, add_event, and_also, after_run, call_letter, is_last, after_all}
-use Rattle.act_rules.proofs.Lists.{All_more, All_weaker, All_at, option_map-none, option_or-none}
-use Rattle.act_rules.proofs.Steps.{IsKept, after_all_keeps}
-use Rattle.act_rules.proofs.Ended.{needs-none, under-push, run_needs}
-use Rattle.act_rules.proofs.Order.{IsNext, next_item_is}
-use Rattle.act_rules.proofs.Unique.{map-slice_get}
-use Rattle.act_rules.proofs.AsSubmitted.{filter-slice_get}
-use Rattle.act_rules.proofs.RanAll.{Retires, retires_step, AllNamed, world_retires, copies_named}
-use Rattle.act_rules.proofs.Sound.{IsSound, sound_step, world_sound}
 
 -- ---- no caller submits too much
 

@@ -1,7 +1,6 @@
 -- Laws of lists: what stands at a place, what is written there, and what a filter leaves.
-use Rattle.std.proofs.Common.{◌≡◌, ◌≢◌, ℕ, zero, suc, true, false, List, [], ◌∷◌, length, Some, None, refl, ap, sym, Bool, cond, arith}
-use Rattle.std.specs.Prelude.{slice_get, slice_set, filter, take, zip}
-use Rattle.std.proofs.lemmas.Option.{slice_get_past}
+use Rattle.act_world.proofs.Common.{◌≡◌, ◌≢◌, ℕ, zero, suc, true, false, List, [], ◌∷◌, length, Some, None, refl, ap, sym, Bool, cond, arith, slice_get}
+use Rattle.act_world.proofs.Common.{slice_set, filter, take, zip, slice_get_past}
 
 pub zip_at : {X Y : Type 0} (xs : List X) (ys : List Y) (j : ℕ) (x : X) (y : Y) → slice_get xs j ≡ Some x → slice_get ys j ≡ Some y → slice_get (zip xs ys) j ≡ Some (x, y)
 zip_at [] ys j x y e f = cc

@@ -1,19 +1,10 @@
 -- The letters of a history, and one more that arrived.
-use Rattle.std.proofs.Common.{◌≡◌, ◌≢◌, ℕ, Bool, true, false, cond, List, [], ◌∷◌, ◌++◌, Some, None, refl, ap, sym, ◌∙◌, subst}
-use Rattle.std.specs.Prelude.{Option, ◌||◌, slice_get, option_and_then, nat_lt}
-use Rattle.std.proofs.Math.Bool.{or-true, or-false}
-use Rattle.act_rules.specs.declared.history.Letter.{Letter}
+use Rattle.act_world.proofs.Common.{◌≡◌, ◌≢◌, ℕ, Bool, true, false, cond, List, [], ◌∷◌, ◌++◌, Some, None, refl, ap, sym, ◌∙◌, subst, Option, ◌||◌, slice_get}
+use Rattle.act_world.proofs.Common.{option_and_then, nat_lt, or-true, or-false, Letter, History, cast_of, ran_count, is_letter, has_letter, letter_actor}
+use Rattle.act_world.proofs.Common.{All_at, IsSoundLetter, letter_is, IsSoundNote, MailEntry, entry_actor, SlotView, Runs, Died, Ended, Vacant, WorldView}
+use Rattle.act_world.proofs.Common.{packet_by_number, call_key, mail_entry, held_packet, IsStage, Refines}
 use Rattle.act_rules.specs.declared.history.Letter.TheVariants.{Call as CallLetter, Note as NoteLetter}
-use Rattle.act_rules.specs.History.{History, cast_of, ran_count, is_letter, has_letter}
-use Rattle.act_rules.specs.Rules.{letter_actor}
-use Rattle.act_rules.proofs.Lists.{All_at}
-use Rattle.act_rules.proofs.Letters.{IsSoundLetter, letter_is}
-use Rattle.act_rules.proofs.Retired.{IsSoundNote}
-use Rattle.act_world.specs.declared.network.MailEntry.{MailEntry}
 use Rattle.act_world.specs.declared.network.MailEntry.TheVariants.{Call as CallEntry, Note as NoteEntry}
-use Rattle.act_world.specs.Network.{entry_actor}
-use Rattle.act_world.specs.View.{SlotView, Runs, Died, Ended, Vacant, WorldView}
-use Rattle.act_world.specs.Refines.{packet_by_number, call_key, mail_entry, held_packet, IsStage, Refines}
 use Rattle.act_world.proofs.Lawful.{IsLawful, IsNamedLetter, has_letter-last, is_letter-same}
 use Rattle.act_world.proofs.Changes.{named_cast}
 

@@ -1,17 +1,7 @@
 -- The packet that a caller makes of a call whose letter stands.
-use Rattle.std.proofs.Common.{◌≡◌, ℕ, true, List, Some, None, refl, ap, ◌∙◌}
-use Rattle.std.specs.Prelude.{Option, find, map, slice_get, option_map, option_and_then}
-use Rattle.std.proofs.lemmas.Bool.{eq-eqb}
-use Rattle.act_types.specs.declared.call.Packet.{Packet}
-use Rattle.act_rules.specs.declared.history.Submission.{Submission}
-use Rattle.act_rules.specs.RunList.{Answer}
-use Rattle.act_rules.specs.Submissions.{calls_to, number_of, settle}
-use Rattle.act_rules.specs.History.{History, cast_of, names, is_caller, calls_of, kept_of}
-use Rattle.act_rules.proofs.AsSubmitted.{IsCallTo, calls_to-at}
-use Rattle.act_rules.proofs.Letters.{calls_to-number}
-use Rattle.act_owner.specs.Owner.{OwnerView, packet_at}
-use Rattle.act_world.specs.Network.{is_owner, packet_in}
-use Rattle.act_world.specs.Refines.{IsOwnerOf, IsOwnerAt, call_key, packet_as}
+use Rattle.act_world.proofs.Common.{◌≡◌, ℕ, true, List, Some, None, refl, ap, ◌∙◌, Option, find, map, slice_get, option_map, option_and_then, eq-eqb, Packet}
+use Rattle.act_world.proofs.Common.{Submission, Answer, calls_to, number_of, settle, History, cast_of, names, is_caller, calls_of, kept_of, IsCallTo}
+use Rattle.act_world.proofs.Common.{calls_to-at, calls_to-number, OwnerView, packet_at, is_owner, packet_in, IsOwnerOf, IsOwnerAt, call_key, packet_as}
 use Rattle.act_world.proofs.Lawful.{named_caller}
 use Rattle.act_world.proofs.Numbered.{one_number}
 

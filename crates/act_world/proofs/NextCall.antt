@@ -1,16 +1,8 @@
 -- What runs next, as the actor and as the history tells.
-use Rattle.std.proofs.Common.{◌≡◌, ℕ, Bool, true, false, cond, Some, None, refl, ap, ◌∙◌, arith}
-use Rattle.std.specs.Prelude.{Option, slice_get, option_map}
-use Rattle.std.proofs.lemmas.Bool.{le-ltb}
-use Rattle.act_types.specs.declared.call.Packet.{Packet}
-use Rattle.act_rules.specs.declared.history.Submission.{Submission}
+use Rattle.act_world.proofs.Common.{◌≡◌, ℕ, Bool, true, false, cond, Some, None, refl, ap, ◌∙◌, arith, Option, slice_get, option_map, le-ltb, Packet}
+use Rattle.act_world.proofs.Common.{Submission, calls_to, History, cast_of, names, calls_of, ran_count, kept_of, has_letter, run_item, next_item, handed_of}
+use Rattle.act_world.proofs.Common.{waiting_packet, next_of, ActorView, item_of, next_call, packet_as, packet_by_number, IsLive}
 use Rattle.act_rules.specs.declared.history.Letter.TheVariants.{Call as CallLetter}
-use Rattle.act_rules.specs.Submissions.{calls_to}
-use Rattle.act_rules.specs.History.{History, cast_of, names, calls_of, ran_count, kept_of, has_letter, run_item, next_item}
-use Rattle.act_inbox.specs.Inbox.{handed_of, waiting_packet, next_of}
-use Rattle.act_actor.specs.View.{ActorView}
-use Rattle.act_actor.specs.Actor.{item_of, next_call}
-use Rattle.act_world.specs.Refines.{packet_as, packet_by_number, IsLive}
 use Rattle.act_world.proofs.Frames.{still_lives}
 
 -- the packet of the caller's next call, if its letter came

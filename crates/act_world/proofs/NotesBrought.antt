@@ -1,19 +1,8 @@
 -- An actor that a release note was brought to.
-use Rattle.std.proofs.Common.{◌≡◌, ℕ, Bool, true, false, cond, [], ◌∷◌, ◌++◌, Some, None, inl, inr, refl, ap, sym, ◌∙◌, subst}
-use Rattle.std.specs.Prelude.{Option, ◌==◌, is_some}
-use Rattle.std.proofs.lemmas.Bool.{eqb-true, eq-eqb}
-use Rattle.std.proofs.lemmas.Bool.Decides.{eqb_tells}
+use Rattle.act_world.proofs.Common.{◌≡◌, ℕ, Bool, true, false, cond, [], ◌∷◌, ◌++◌, Some, None, inl, inr, refl, ap, sym, ◌∙◌, subst, Option, ◌==◌, is_some}
+use Rattle.act_world.proofs.Common.{eqb-true, eq-eqb, eqb_tells, Arrival, New, Repeat, Stranger, History, cast_of, names, has_letter, has_letter-sound}
+use Rattle.act_world.proofs.Common.{IsSoundNote, note_of, note_arrival, note_after, ActorView, note_arrival_at, HasNoted, is_note_of, IsLive}
 use Rattle.act_rules.specs.declared.history.Letter.TheVariants.{Call as CallLetter, Note as NoteLetter}
-use Rattle.act_rules.specs.declared.outcome.Arrival.{Arrival}
-use Rattle.act_rules.specs.declared.outcome.Arrival.TheVariants.{New, Repeat, Stranger}
-use Rattle.act_rules.specs.History.{History, cast_of, names, has_letter}
-use Rattle.act_rules.proofs.Letters.{has_letter-sound}
-use Rattle.act_rules.proofs.Retired.{IsSoundNote}
-use Rattle.act_inbox.specs.Inbox.{note_of, note_arrival, note_after}
-use Rattle.act_actor.specs.View.{ActorView}
-use Rattle.act_actor.specs.Actor.{note_arrival_at}
-use Rattle.act_world.specs.Slots.{HasNoted}
-use Rattle.act_world.specs.Refines.{is_note_of, IsLive}
 use Rattle.act_world.proofs.Lawful.{IsLawful}
 use Rattle.act_world.proofs.Mail.{has_other, has_again, has_last, brought, held_same}
 

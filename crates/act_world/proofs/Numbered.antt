@@ -1,20 +1,9 @@
 -- A call has one number, and the call of a reply was sent.
-use Rattle.std.proofs.Common.{◌≡◌, ℕ, ◌+◌, ◌<◌, true, List, length, Some, None, ap, sym, ◌∙◌, arith}
-use Rattle.std.specs.Prelude.{Option, ◌==◌, filter, take, slice_get, option_map}
-use Rattle.std.specs.List.{enumerate_from}
-use Rattle.std.proofs.lemmas.Bool.{eq-eqb}
-use Rattle.std.proofs.lemmas.Option.{slice_get_within}
-use Rattle.act_rules.specs.declared.history.RunItem.{RunItem}
-use Rattle.act_rules.specs.declared.history.Submission.{Submission}
-use Rattle.act_rules.specs.declared.history.Letter.{Letter}
+use Rattle.act_world.proofs.Common.{◌≡◌, ℕ, ◌+◌, ◌<◌, true, List, length, Some, None, ap, sym, ◌∙◌, arith, Option, ◌==◌, filter, take, slice_get, option_map}
+use Rattle.act_world.proofs.Common.{enumerate_from, eq-eqb, slice_get_within, RunItem, Submission, Letter, items_of, calls_to, number_of, History, calls_of}
+use Rattle.act_world.proofs.Common.{runs_of, ran_count, has_letter, was_sent, slice_get-enumerate_from, slice_get-filter, calls_to-number, has_letter-sound}
+use Rattle.act_world.proofs.Common.{rank, held_call, map-slice_get}
 use Rattle.act_rules.specs.declared.history.Letter.TheVariants.{Call as CallLetter}
-use Rattle.act_rules.specs.RunList.{items_of}
-use Rattle.act_rules.specs.Submissions.{calls_to, number_of}
-use Rattle.act_rules.specs.History.{History, calls_of, runs_of, ran_count, has_letter}
-use Rattle.act_rules.specs.Rules.{was_sent}
-use Rattle.act_rules.proofs.Lists.{slice_get-enumerate_from, slice_get-filter}
-use Rattle.act_rules.proofs.Letters.{calls_to-number, has_letter-sound}
-use Rattle.act_rules.proofs.Unique.{rank, held_call, map-slice_get}
 use Rattle.act_world.proofs.Lawful.{IsLawful}
 use Rattle.act_world.proofs.Lists.{filter_rank}
 

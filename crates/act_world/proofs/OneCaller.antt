@@ -1,27 +1,12 @@
 -- What an event of a caller leaves in place.
-use Rattle.std.proofs.Common.{◌≡◌, ◌≢◌, ℕ, ◌+◌, Bool, true, false, List, [], ◌∷◌, ◌++◌, length, Some, None, Ok, Err, refl, ap, sym, ◌∙◌, subst, arith, get_or}
-use Rattle.std.specs.Prelude.{Option, find, position, slice_get, slice_set, option_map, option_and_then, unwrap_or}
-use Rattle.std.proofs.lemmas.Bool.{eq-eqb, ne_eqb}
-use Rattle.std.proofs.lemmas.List.{set-get_or, append-nil}
-use Rattle.act_rules.specs.declared.history.Submission.{Submission}
+use Rattle.act_world.proofs.Common.{◌≡◌, ◌≢◌, ℕ, ◌+◌, Bool, true, false, List, [], ◌∷◌, ◌++◌, length, Some, None, Ok, Err, refl, ap, sym, ◌∙◌, subst, arith}
+use Rattle.act_world.proofs.Common.{get_or, Option, find, position, slice_get, slice_set, option_map, option_and_then, unwrap_or, eq-eqb, ne_eqb, set-get_or}
+use Rattle.act_world.proofs.Common.{append-nil, Submission, Event, HandleRefusal, WorldRefusal, NoCaller, Handle, history, needs, number_of, handle_refusal}
+use Rattle.act_world.proofs.Common.{History, contains, under, count_pairs, is_caller, calls_of, copies_of, has_letter, refusal_of, outcome_of, after, was_sent}
+use Rattle.act_world.proofs.Common.{Grows, under-push, times-push, copies_in, OwnerView, NetworkView, is_owner, SlotView, Refines, IsOwnerOf, IsOwnerAt}
+use Rattle.act_world.proofs.Common.{mail_entry, StepsThere}
 use Rattle.act_rules.specs.declared.history.Letter.TheVariants.{Call as CallLetter}
-use Rattle.act_rules.specs.declared.event.Event.{Event}
-use Rattle.act_rules.specs.declared.outcome.HandleRefusal.{HandleRefusal}
-use Rattle.act_rules.specs.declared.outcome.WorldRefusal.{WorldRefusal}
-use Rattle.act_rules.specs.declared.outcome.WorldRefusal.TheVariants.{NoCaller, Handle}
-use Rattle.act_rules.specs.Laws.{history}
-use Rattle.act_rules.specs.Submissions.{needs, number_of, handle_refusal}
-use Rattle.act_rules.specs.History.{History, contains, under, count_pairs, is_caller, calls_of, copies_of, has_letter}
-use Rattle.act_rules.specs.Rules.{refusal_of, outcome_of, after, was_sent}
-use Rattle.act_rules.proofs.Growth.{Grows}
-use Rattle.act_rules.proofs.Ended.{under-push}
-use Rattle.act_rules.proofs.Retired.{times-push}
-use Rattle.act_handles.specs.Handles.{copies_in, or_else}
-use Rattle.act_owner.specs.Owner.{OwnerView}
-use Rattle.act_world.specs.Network.{NetworkView, is_owner}
-use Rattle.act_world.specs.View.{SlotView}
-use Rattle.act_world.specs.Refines.{Refines, IsOwnerOf, IsOwnerAt, mail_entry}
-use Rattle.act_world.specs.Steps.{StepsThere}
+use Rattle.act_handles.specs.Handles.{or_else}
 use Rattle.act_world.proofs.Changes.{refused_follows}
 use Rattle.act_world.proofs.Lawful.{IsLawful}
 use Rattle.act_world.proofs.Frames.{owner_here, owner_absent, replies_stay, stages_stay}

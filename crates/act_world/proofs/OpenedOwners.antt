@@ -1,27 +1,14 @@
 -- The callers at the opening.
-use Rattle.std.proofs.Common.{◌≡◌, ◌≢◌, ℕ, suc, ◌+◌, ◌<◌, Bool, true, false, List, [], ◌∷◌, ◌++◌, length, map, filter, take, Option, Some, None, is_some, All, AllPairs, get_or, inl, inr, refl, ap, sym, ◌∙◌, subst, arith}
-use Rattle.std.specs.Prelude.{◌==◌, ◌||◌, if◌then◌else◌, find, position, option_and_then, unwrap_or, slice_get, replicate}
-use Rattle.std.specs.Option.{option_or}
-use Rattle.std.proofs.lemmas.Bool.Decides.{eqb_tells}
-use Rattle.std.proofs.lemmas.List.{append-nil, append_assoc, get_or-map, length-map, take_more}
-use Rattle.std.proofs.lemmas.Simd.{map-map}
-use Rattle.std.proofs.lemmas.Grind.{flat_map-append}
-use Rattle.std.proofs.lemmas.List.Elements.{All-tail, All-map, All-filter}
-use Rattle.std.proofs.lemmas.List.Folds.{find-append, list_any-append}
-use Rattle.std.proofs.lemmas.List.Kept.{AllPairs-filter}
-use Rattle.act_types.specs.KindState.{KindState}
-use Rattle.act_rules.specs.Submissions.{IsLimit}
-use Rattle.act_rules.specs.History.{opening, contains, cast_of, names, limit_of, is_caller}
-use Rattle.act_handles.proofs.Lookups.{copies-opened, given-opened}
-use Rattle.act_rules.proofs.Finding.{find-Some, find-None}
-use Rattle.act_actor.specs.declared.cast.Cast.{Cast}
-use Rattle.act_actor.specs.Cast.{ActorsDiffer}
+use Rattle.act_world.proofs.Common.{◌≡◌, ◌≢◌, ℕ, suc, ◌+◌, ◌<◌, Bool, true, false, List, [], ◌∷◌, ◌++◌, length, map, filter, take, Option, Some, None, is_some}
+use Rattle.act_world.proofs.Common.{All, AllPairs, get_or, inl, inr, refl, ap, sym, ◌∙◌, subst, arith, ◌==◌, ◌||◌, if◌then◌else◌, find, position}
+use Rattle.act_world.proofs.Common.{option_and_then, unwrap_or, slice_get, replicate, option_or, eqb_tells, append-nil, get_or-map, length-map, take_more}
+use Rattle.act_world.proofs.Common.{map-map, flat_map-append, All-tail, All-map, All-filter, find-append, list_any-append, AllPairs-filter, KindState, IsLimit}
+use Rattle.act_world.proofs.Common.{opening, contains, cast_of, names, limit_of, is_caller, copies-opened, given-opened, find-Some, find-None, Cast}
+use Rattle.act_world.proofs.Common.{ActorsDiffer, none_dead, IsOwnerAt, IsOwnerOf, actor_spec, actor_limit, callers_named, actors_that_name, limits_that_name}
+use Rattle.act_world.proofs.Common.{HasOwners}
+use Rattle.std.proofs.lemmas.List.{append_assoc}
 use Rattle.act_owner.specs.Owner.{OwnerView, opened_with, owner_limit as limit_known}
-use Rattle.act_owner.proofs.Told.{none_dead}
 use Rattle.act_world.specs.View.{is_owner}
-use Rattle.act_world.specs.Refines.{IsOwnerAt, IsOwnerOf}
-use Rattle.act_actor.specs.Casts.{actor_spec, actor_limit, callers_named, actors_that_name, limits_that_name}
-use Rattle.act_world.specs.Openings.{HasOwners}
 
 -- ---- the actors of a caller
 

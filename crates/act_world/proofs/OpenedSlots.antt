@@ -1,20 +1,8 @@
 -- The actors at the opening.
-use Rattle.std.proofs.Common.{◌≡◌, ◌≢◌, ℕ, zero, suc, ◌<◌, Bool, true, false, List, [], ◌∷◌, length, map, Option, Some, None, All, inl, inr, refl, ap, sym, ◌∙◌, subst, arith}
-use Rattle.std.specs.Prelude.{◌==◌, ◌||◌, if◌then◌else◌, nat_lt, replicate, slice_get, slice_set}
-use Rattle.std.specs.List.{AllByRecursion, list_any}
-use Rattle.std.proofs.lemmas.Bool.{eq-eqb, ne_eqb}
-use Rattle.std.proofs.lemmas.Bool.Decides.{eqb_tells}
-use Rattle.std.proofs.lemmas.List.Elements.{All-tail}
-use Rattle.act_types.specs.KindState.{KindState}
-use Rattle.act_types.specs.declared.call.Packet.{Packet}
-use Rattle.act_rules.specs.History.{ActorSpec, History, opening, cast_of, names}
-use Rattle.act_inbox.specs.Inbox.{IsOpened}
-use Rattle.act_actor.specs.declared.cast.Cast.{Cast}
-use Rattle.act_actor.specs.Cast.{ActorsDiffer, CallersDiffer}
-use Rattle.act_actor.specs.View.{ActorView}
-use Rattle.act_world.specs.View.{SlotView, Runs, Vacant}
-use Rattle.act_world.specs.Refines.{IsLive, IsStage}
-use Rattle.act_actor.specs.Casts.{actor_spec}
+use Rattle.act_world.proofs.Common.{◌≡◌, ◌≢◌, ℕ, zero, suc, ◌<◌, Bool, true, false, List, [], ◌∷◌, length, map, Option, Some, None, All, inl, inr, refl, ap}
+use Rattle.act_world.proofs.Common.{sym, ◌∙◌, subst, arith, ◌==◌, ◌||◌, if◌then◌else◌, nat_lt, replicate, slice_get, slice_set, AllByRecursion, list_any}
+use Rattle.act_world.proofs.Common.{eq-eqb, ne_eqb, eqb_tells, All-tail, KindState, Packet, ActorSpec, History, opening, cast_of, names, IsOpened, Cast}
+use Rattle.act_world.proofs.Common.{ActorsDiffer, CallersDiffer, ActorView, SlotView, Runs, Vacant, IsLive, IsStage, actor_spec}
 use Rattle.act_world.proofs.OpenedOwners.{differ_head, differ_tail}
 
 -- a slot that is written, and the others

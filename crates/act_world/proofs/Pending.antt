@@ -1,17 +1,8 @@
 -- How many of a caller's calls are pending.
-use Rattle.std.proofs.Common.{◌≡◌, ℕ, suc, ◌+◌, Bool, true, false, cond, List, [], ◌∷◌, length, Some, None, refl, ap, sym, ◌∙◌, arith}
-use Rattle.std.specs.Prelude.{Option, ◌==◌, ◌&&◌, not, filter, zip, slice_get, option_and_then, is_some, is_none}
-use Rattle.std.specs.List.{enumerate_from}
-use Rattle.std.proofs.lemmas.List.{length-map}
-use Rattle.std.proofs.lemmas.List.FromFn.{length-enumerate_from}
-use Rattle.std.proofs.lemmas.List.Sums.{length-filter}
-use Rattle.act_rules.specs.declared.history.Submission.{Submission}
-use Rattle.act_rules.specs.RunList.{Answer}
-use Rattle.act_rules.specs.Submissions.{kept_at}
-use Rattle.act_rules.specs.History.{History, calls_of, kept_of, first_answer}
-use Rattle.act_rules.specs.Rules.{unanswered}
-use Rattle.act_owner.specs.Owner.{OwnerView, call_waits_for, pending}
-use Rattle.act_world.specs.Refines.{IsOwnerOf}
+use Rattle.act_world.proofs.Common.{◌≡◌, ℕ, suc, ◌+◌, Bool, true, false, cond, List, [], ◌∷◌, length, Some, None, refl, ap, sym, ◌∙◌, arith, Option, ◌==◌, ◌&&◌}
+use Rattle.act_world.proofs.Common.{not, filter, zip, slice_get, option_and_then, is_some, is_none, enumerate_from, length-map, length-enumerate_from}
+use Rattle.act_world.proofs.Common.{length-filter, Submission, Answer, kept_at, History, calls_of, kept_of, first_answer, unanswered, OwnerView, call_waits_for}
+use Rattle.act_world.proofs.Common.{pending, IsOwnerOf}
 
 -- each call has a place in the table of answers
 pub kept_long : (h : History) (c : ℕ) → length (kept_of c h) ≡ length (calls_of c h)

@@ -1,18 +1,9 @@
 -- One event of the whole world, and one event after another.
-use Rattle.std.proofs.Common.{◌≡◌, ℕ, ◌+◌, ◌<◌, ◌≤◌, arith, List, [], ◌∷◌, ◌++◌, length, take, ap, sym, ◌∙◌, subst, get_or, append_assoc, append-nil, Option, Some}
-use Rattle.std.specs.Prelude.{IfSome}
-use Rattle.std.proofs.lemmas.Option.{slice_get-get_or}
-use Rattle.std.proofs.lemmas.List.{take_more}
-use Rattle.act_rules.specs.declared.event.Event.{Event}
-use Rattle.act_rules.specs.History.{ActorSpec, History, opening}
-use Rattle.act_rules.specs.Laws.{history}
-use Rattle.act_rules.specs.Rules.{Outcome, after, after_all, outcome_of, outcomes}
-use Rattle.act_rules.proofs.Steps.{after_all-append, outcomes-append}
-use Rattle.act_world.specs.Network.{NetworkView}
-use Rattle.act_world.specs.View.{WorldView}
-use Rattle.act_world.specs.Refines.{Refines}
-use Rattle.act_world.specs.IsReachedBy.{IsReachedBy, FollowsRules, IsUnrefused, IsUnrefusedAt, HasPlayed, IsGrownBy}
-use Rattle.act_world.specs.Memory.{TakesMemory, TakesMemoryAt}
+use Rattle.act_world.proofs.Common.{◌≡◌, ℕ, ◌+◌, ◌<◌, ◌≤◌, arith, List, [], ◌∷◌, ◌++◌, length, take, ap, sym, ◌∙◌, subst, get_or, append_assoc, Option, Some}
+use Rattle.act_world.proofs.Common.{IfSome, slice_get-get_or, take_more, Event, ActorSpec, History, opening, history, Outcome, after, after_all, outcome_of}
+use Rattle.act_world.proofs.Common.{outcomes, after_all-append, outcomes-append, NetworkView, WorldView, Refines, IsReachedBy, FollowsRules, IsUnrefused}
+use Rattle.act_world.proofs.Common.{IsUnrefusedAt, HasPlayed, IsGrownBy, TakesMemory, TakesMemoryAt}
+use Rattle.std.proofs.Common.{append-nil}
 
 -- the world stands after one event more
 pub stands_next : (casts : List ActorSpec) (before : List Event) (event : Event) (world : WorldView) → Refines (after (history casts before) event) world → IsReachedBy casts (before ++ event ∷ []) world

@@ -1,27 +1,11 @@
 -- A history with one item more that ran, and the actor that ran it.
-use Rattle.std.proofs.Common.{◌≡◌, ◌≢◌, ℕ, ◌+◌, ◌<◌, Bool, true, false, cond, List, [], ◌∷◌, ◌++◌, length, Some, None, inl, inr, refl, ap, sym, ◌∙◌, arith, length-append}
-use Rattle.std.specs.Prelude.{Option, ◌==◌, ◌||◌, nat_lt}
-use Rattle.std.proofs.lemmas.Bool.{eq-eqb, ne_eqb, ltb-true, lt-ltb}
-use Rattle.std.proofs.lemmas.Bool.Decides.{eqb_tells}
-use Rattle.std.proofs.lemmas.List.{append-nil}
-use Rattle.std.proofs.lemmas.List.Elements.{filter-append}
-use Rattle.act_types.specs.KindState.{KindState}
-use Rattle.act_types.specs.declared.call.Packet.{Packet}
-use Rattle.act_rules.specs.declared.history.RunItem.{RunItem}
+use Rattle.act_world.proofs.Common.{◌≡◌, ◌≢◌, ℕ, ◌+◌, ◌<◌, Bool, true, false, cond, List, [], ◌∷◌, ◌++◌, length, Some, None, inl, inr, refl, ap, sym, ◌∙◌}
+use Rattle.act_world.proofs.Common.{arith, length-append, Option, ◌==◌, ◌||◌, nat_lt, eq-eqb, ne_eqb, ltb-true, lt-ltb, eqb_tells, append-nil, filter-append}
+use Rattle.act_world.proofs.Common.{KindState, Packet, RunItem, after_item, state_after, items_of, has_terminated, History, contains, cast_of, names, runs_of}
+use Rattle.act_world.proofs.Common.{ran_count, is_ended, is_retired, has_letter, after_run, after_run_grows, under-push, ended_by, IsSoundLetter}
+use Rattle.act_world.proofs.Common.{has_letter-sound, state_after-push, handed_of, waiting_packet, ActorView, item_of, HasRunCall, Runs, dead_slot, bury_ended}
+use Rattle.act_world.proofs.Common.{packet_by_number, held_packet, is_note_of, IsLive, IsDead, IsStage}
 use Rattle.act_rules.specs.declared.history.Letter.TheVariants.{Call as CallLetter}
-use Rattle.act_rules.specs.RunList.{after_item, state_after, items_of, has_terminated}
-use Rattle.act_rules.specs.History.{History, contains, cast_of, names, runs_of, ran_count, is_ended, is_retired, has_letter}
-use Rattle.act_rules.specs.Rules.{after_run}
-use Rattle.act_rules.proofs.Growth.{after_run_grows}
-use Rattle.act_rules.proofs.Ended.{under-push, ended_by}
-use Rattle.act_rules.proofs.Letters.{IsSoundLetter, has_letter-sound}
-use Rattle.act_rules.proofs.RunLists.{state_after-push}
-use Rattle.act_inbox.specs.Inbox.{handed_of, waiting_packet}
-use Rattle.act_actor.specs.View.{ActorView}
-use Rattle.act_actor.specs.Actor.{item_of, HasRunCall}
-use Rattle.act_world.specs.View.{Runs}
-use Rattle.act_world.specs.Slots.{dead_slot, bury_ended}
-use Rattle.act_world.specs.Refines.{packet_by_number, held_packet, is_note_of, IsLive, IsDead, IsStage}
 use Rattle.act_world.proofs.Lawful.{IsLawful}
 use Rattle.act_world.proofs.Frames.{packet_stays}
 

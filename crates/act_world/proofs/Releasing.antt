@@ -1,32 +1,13 @@
 -- A copy of a handle that is released, and the note after the last one.
-use Rattle.std.proofs.Common.{◌≡◌, ◌≢◌, ℕ, ◌+◌, ◌-◌, ◌<◌, Bool, true, false, cond, List, [], ◌∷◌, ◌++◌, length, Some, None, Ok, Err, inl, inr, refl, ap, sym, ◌∙◌, subst, arith, length-append, get_or}
-use Rattle.std.specs.Prelude.{Option, ◌==◌, position, slice_get, slice_set, option_map, option_and_then}
-use Rattle.std.proofs.Math.Bool.{or-false}
-use Rattle.std.proofs.lemmas.Bool.{eq-eqb}
-use Rattle.std.proofs.lemmas.Bool.Decides.{eqb_tells}
-use Rattle.std.proofs.lemmas.List.{get_or-set_same}
-use Rattle.std.proofs.lemmas.List.Quantifiers.{position-Some}
-use Rattle.act_types.specs.declared.call.ReleaseNote.{ReleaseNote}
-use Rattle.act_rules.specs.declared.history.Letter.{Letter}
+use Rattle.act_world.proofs.Common.{◌≡◌, ◌≢◌, ℕ, ◌+◌, ◌-◌, ◌<◌, Bool, true, false, cond, List, [], ◌∷◌, ◌++◌, length, Some, None, Ok, Err, inl, inr, refl, ap}
+use Rattle.act_world.proofs.Common.{sym, ◌∙◌, subst, arith, length-append, get_or, Option, ◌==◌, position, slice_get, slice_set, option_map, option_and_then}
+use Rattle.act_world.proofs.Common.{or-false, eq-eqb, eqb_tells, get_or-set_same, position-Some, ReleaseNote, Letter, Release, Copies, Mail, HandleRefusal}
+use Rattle.act_world.proofs.Common.{Handle, calls_to, copies_held, handle_refusal, History, count_pairs, cast_of, names, calls_of, copies_of, has_letter}
+use Rattle.act_world.proofs.Common.{refusal_of, outcome_of, did, add_event, after, and_also, is_last, added_grows, kept_of-same, copies_in, given_in}
+use Rattle.act_world.proofs.Common.{without_copy, copies-without_copy, copies-without_copy-other, given-without_copy, OwnerView, with_handles, release_note}
+use Rattle.act_world.proofs.Common.{release_told, MailEntry, NetworkView, is_owner, SlotView, Refines, IsOwnerOf, mail_entry, takes_memory}
 use Rattle.act_rules.specs.declared.history.Letter.TheVariants.{Call as CallLetter, Note as NoteLetter}
-use Rattle.act_rules.specs.declared.event.Event.TheVariants.{Release}
-use Rattle.act_rules.specs.declared.outcome.Did.TheVariants.{Copies, Mail}
-use Rattle.act_rules.specs.declared.outcome.HandleRefusal.{HandleRefusal}
-use Rattle.act_rules.specs.declared.outcome.WorldRefusal.TheVariants.{Handle}
-use Rattle.act_rules.specs.Submissions.{calls_to, copies_held, handle_refusal}
-use Rattle.act_rules.specs.History.{History, count_pairs, cast_of, names, calls_of, copies_of, has_letter}
-use Rattle.act_rules.specs.Rules.{refusal_of, outcome_of, did, add_event, after, and_also, is_last}
-use Rattle.act_rules.proofs.Growth.{added_grows}
-use Rattle.act_rules.proofs.Table.{kept_of-same}
-use Rattle.act_handles.specs.Handles.{copies_in, given_in, without_copy}
-use Rattle.act_handles.proofs.Lookups.{copies-without_copy, copies-without_copy-other, given-without_copy}
-use Rattle.act_owner.specs.Owner.{OwnerView, with_handles, release_note, release_told}
-use Rattle.act_world.specs.declared.network.MailEntry.{MailEntry}
 use Rattle.act_world.specs.declared.network.MailEntry.TheVariants.{Note as NoteEntry}
-use Rattle.act_world.specs.Network.{NetworkView, is_owner}
-use Rattle.act_world.specs.View.{SlotView}
-use Rattle.act_world.specs.Refines.{Refines, IsOwnerOf, mail_entry}
-use Rattle.act_world.specs.Memory.{takes_memory}
 use Rattle.act_world.proofs.Changes.{refused_follows, accepted_follows}
 use Rattle.act_world.proofs.Lawful.{IsLawful, has_letter-last}
 use Rattle.act_world.proofs.Frames.{SameCaller, owners_change, mail_stays, go_together}

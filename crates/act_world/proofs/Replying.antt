@@ -1,20 +1,8 @@
 -- The reply of a call that ran.
-use Rattle.std.proofs.Common.{◌≡◌, ℕ, List, length, Some, ap, sym, ◌∙◌}
-use Rattle.std.specs.Prelude.{Option, slice_get, option_map, option_and_then}
-use Rattle.act_types.specs.KindState.{KindState}
-use Rattle.act_types.specs.declared.call.Packet.{Packet}
-use Rattle.act_types.specs.declared.call.Reply.{Reply}
-use Rattle.act_types.specs.declared.call.Notice.TheVariants.{Answered}
-use Rattle.act_rules.specs.declared.history.RunItem.{RunItem}
+use Rattle.act_world.proofs.Common.{◌≡◌, ℕ, List, length, Some, ap, sym, ◌∙◌, Option, slice_get, option_map, option_and_then, KindState, Packet, Reply}
+use Rattle.act_world.proofs.Common.{Answered, RunItem, Answer, after_item, answer_at, state_after, ActorSpec, History, runs_of, answer_of, slice_get_last}
+use Rattle.act_world.proofs.Common.{answer_at-push, ActorView, item_of, reply_of_run, Posted, reply_as, reply_at, posted_notice, IsLive}
 use Rattle.act_rules.specs.declared.history.Post.TheVariants.{Reply as ReplyPost}
-use Rattle.act_rules.specs.RunList.{Answer, after_item, answer_at, state_after}
-use Rattle.act_rules.specs.History.{ActorSpec, History, runs_of, answer_of}
-use Rattle.act_rules.proofs.Lists.{slice_get_last}
-use Rattle.act_rules.proofs.RunLists.{answer_at-push}
-use Rattle.act_actor.specs.View.{ActorView}
-use Rattle.act_actor.specs.Actor.{item_of, reply_of_run}
-use Rattle.act_world.specs.declared.network.Posted.{Posted}
-use Rattle.act_world.specs.Refines.{reply_as, reply_at, posted_notice, IsLive}
 use Rattle.act_world.proofs.RanOn.{ran_on, runs_here}
 
 -- what the reply tells stands in the history after the run

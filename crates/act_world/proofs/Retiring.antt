@@ -1,29 +1,11 @@
 -- An actor that ends by itself.
-use Rattle.std.proofs.Common.{◌≡◌, ◌≢◌, ℕ, ◌<◌, Bool, true, false, List, [], ◌∷◌, ◌++◌, length, map, get_or, Some, None, refl, ap, sym, ◌∙◌, subst}
-use Rattle.std.specs.Prelude.{Option, Ok, Err, ◌==◌, ◌||◌, not, slice_get, slice_set, is_some}
-use Rattle.std.specs.List.{list_all}
-use Rattle.std.proofs.Math.Bool.{or-false}
-use Rattle.std.proofs.lemmas.Bool.{eqb-true, eq-eqb, ne_eqb, and_parts, and_from, or_parts, or_right}
-use Rattle.std.proofs.lemmas.List.{map-set}
-use Rattle.std.proofs.lemmas.List.Folds.{list_any-append}
-use Rattle.act_rules.specs.declared.event.Event.TheVariants.{Retire}
-use Rattle.act_rules.specs.declared.outcome.Did.TheVariants.{Retired}
-use Rattle.act_rules.specs.declared.outcome.HandleRefusal.TheVariants.{NoActor}
-use Rattle.act_rules.specs.declared.outcome.WorldRefusal.{WorldRefusal}
-use Rattle.act_rules.specs.declared.outcome.WorldRefusal.TheVariants.{Handle, ActorEnded, NotDrained}
-use Rattle.act_rules.specs.Laws.{history}
-use Rattle.act_rules.specs.Submissions.{needs}
-use Rattle.act_rules.specs.History.{History, contains, cast_of, callers_in, names, ran_count, is_ended, is_dead, is_retired, is_done, is_drained}
-use Rattle.act_rules.specs.Rules.{Outcome, refusal_of, outcome_of, after}
-use Rattle.act_rules.proofs.Growth.{Grows, added_grows}
-use Rattle.act_inbox.specs.Inbox.{handed_of, note_of, IsDrained}
-use Rattle.act_actor.specs.View.{ActorView, RetiredView}
-use Rattle.act_actor.specs.Actor.{MayRetire}
-use Rattle.act_world.specs.Network.{NetworkView}
-use Rattle.act_world.specs.View.{SlotView, Runs, Died, Ended, Vacant, WorldView, with_slots}
-use Rattle.act_world.specs.Slots.{IsRetiredIn}
-use Rattle.act_world.specs.Refines.{is_note_of, IsLive, IsRetired, IsStage, Refines}
-use Rattle.act_world.specs.IsReachedBy.{FollowsRules}
+use Rattle.act_world.proofs.Common.{◌≡◌, ◌≢◌, ℕ, ◌<◌, Bool, true, false, List, [], ◌∷◌, ◌++◌, length, map, get_or, Some, None, refl, ap, sym, ◌∙◌, subst}
+use Rattle.act_world.proofs.Common.{Option, Ok, Err, ◌==◌, ◌||◌, not, slice_get, slice_set, is_some, list_all, or-false, eqb-true, eq-eqb, ne_eqb, and_parts}
+use Rattle.act_world.proofs.Common.{and_from, or_parts, or_right, map-set, list_any-append, Retire, Retired, NoActor, WorldRefusal, Handle, ActorEnded}
+use Rattle.act_world.proofs.Common.{NotDrained, history, needs, History, contains, cast_of, callers_in, names, ran_count, is_ended, is_dead, is_retired}
+use Rattle.act_world.proofs.Common.{is_done, is_drained, Outcome, refusal_of, outcome_of, after, Grows, added_grows, handed_of, note_of, IsDrained, ActorView}
+use Rattle.act_world.proofs.Common.{RetiredView, MayRetire, NetworkView, SlotView, Runs, Died, Ended, Vacant, WorldView, with_slots, IsRetiredIn, is_note_of}
+use Rattle.act_world.proofs.Common.{IsLive, IsRetired, IsStage, Refines, FollowsRules}
 use Rattle.act_world.proofs.Lawful.{IsLawful, world_lawful}
 use Rattle.act_world.proofs.Frames.{same_caller, owners_stay, still_lives, stage_stays}
 use Rattle.act_world.proofs.Changes.{refused_follows, accepted_follows, stages_change, slot_within}

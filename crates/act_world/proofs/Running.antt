@@ -1,35 +1,13 @@
 -- A call that is run.
-use Rattle.std.proofs.Common.{◌≡◌, ℕ, ◌+◌, ◌<◌, Bool, true, false, List, [], ◌∷◌, ◌++◌, length, map, get_or, Some, None, refl, ap, sym, ◌∙◌, subst, length-append}
-use Rattle.std.specs.Prelude.{Option, Result, Ok, Err, IfNone, IfSome, IsSome, find, not, slice_get, slice_set, option_map, is_some}
-use Rattle.std.proofs.lemmas.Option.{get_or_from_slice_get}
-use Rattle.std.proofs.lemmas.List.{map-set}
-use Rattle.act_types.specs.KindState.{KindState}
-use Rattle.act_types.specs.declared.call.Packet.{Packet}
-use Rattle.act_types.specs.declared.call.Reply.{Reply}
-use Rattle.act_types.specs.declared.call.Notice.TheVariants.{Answered}
-use Rattle.act_rules.specs.declared.history.RunItem.{RunItem}
+use Rattle.act_world.proofs.Common.{◌≡◌, ℕ, ◌+◌, ◌<◌, Bool, true, false, List, [], ◌∷◌, ◌++◌, length, map, get_or, Some, None, refl, ap, sym, ◌∙◌, subst}
+use Rattle.act_world.proofs.Common.{length-append, Option, Result, Ok, Err, IfNone, IfSome, IsSome, find, not, slice_get, slice_set, option_map, is_some}
+use Rattle.act_world.proofs.Common.{get_or_from_slice_get, map-set, KindState, Packet, Reply, Answered, RunItem, Run, Ran, Gap, NoActor, WorldRefusal, NoCaller}
+use Rattle.act_world.proofs.Common.{Handle, ActorEnded, history, needs, History, cast_of, names, is_caller, runs_of, is_ended, next_item, refusal_of, did}
+use Rattle.act_world.proofs.Common.{did_run, add_event, after_run, outcome_of, after, Grows, after_run_grows, ActorView, LiveView, live_view, item_of}
+use Rattle.act_world.proofs.Common.{reply_of_run, next_call, HasRunCall, Posted, NetworkView, is_owner, naming_refusal, Slot, SlotView, Runs, Vacant, WorldView}
+use Rattle.act_world.proofs.Common.{slot_view, is_live_slot, has_next_in_slot, bury_ended, HasRunNext, HasRunIn, IsRun, IsRunAt, posted_notice, IsLive, IsStage}
+use Rattle.act_world.proofs.Common.{Refines, FollowsRules, IsUnrefused, TakesMemory}
 use Rattle.act_rules.specs.declared.history.Post.TheVariants.{Reply as ReplyPost}
-use Rattle.act_rules.specs.declared.event.Event.TheVariants.{Run}
-use Rattle.act_rules.specs.declared.outcome.Did.TheVariants.{Ran, Gap}
-use Rattle.act_rules.specs.declared.outcome.HandleRefusal.TheVariants.{NoActor}
-use Rattle.act_rules.specs.declared.outcome.WorldRefusal.{WorldRefusal}
-use Rattle.act_rules.specs.declared.outcome.WorldRefusal.TheVariants.{NoCaller, Handle, ActorEnded}
-use Rattle.act_rules.specs.Laws.{history}
-use Rattle.act_rules.specs.Submissions.{needs}
-use Rattle.act_rules.specs.History.{History, cast_of, names, is_caller, runs_of, is_ended, next_item}
-use Rattle.act_rules.specs.Rules.{refusal_of, did, did_run, add_event, after_run, outcome_of, after}
-use Rattle.act_rules.proofs.Growth.{Grows, after_run_grows}
-use Rattle.act_actor.specs.View.{ActorView, LiveView}
-use Rattle.act_actor.specs.StateViews.{live_view}
-use Rattle.act_actor.specs.Actor.{item_of, reply_of_run, next_call, HasRunCall}
-use Rattle.act_world.specs.declared.network.Posted.{Posted}
-use Rattle.act_world.specs.Network.{NetworkView, is_owner, naming_refusal}
-use Rattle.act_world.specs.declared.slot.Slot.{Slot}
-use Rattle.act_world.specs.View.{SlotView, Runs, Vacant, WorldView, slot_view}
-use Rattle.act_world.specs.Slots.{is_live_slot, has_next_in_slot, bury_ended, HasRunNext, HasRunIn, IsRun, IsRunAt}
-use Rattle.act_world.specs.Refines.{posted_notice, IsLive, IsStage, Refines}
-use Rattle.act_world.specs.IsReachedBy.{FollowsRules, IsUnrefused}
-use Rattle.act_world.specs.Memory.{TakesMemory}
 use Rattle.act_world.proofs.Lawful.{IsLawful, world_lawful}
 use Rattle.act_world.proofs.Frames.{same_caller, owners_stay, mail_stays, replies_stay, go_together, stage_stays, dead_same}
 use Rattle.act_world.proofs.Seeing.{refused, known}

@@ -1,15 +1,7 @@
 -- What the world sees of a caller and of an actor before an event of both.
-use Rattle.std.proofs.Common.{◌≡◌, ℕ, ◌+◌, ◌-◌, Bool, true, false, cond, List, Some, None, refl, ap, sym, ◌∙◌}
-use Rattle.std.specs.Prelude.{Option, find, is_some}
-use Rattle.act_rules.specs.declared.outcome.HandleRefusal.TheVariants.{NoActor}
-use Rattle.act_rules.specs.declared.outcome.WorldRefusal.{WorldRefusal}
-use Rattle.act_rules.specs.declared.outcome.WorldRefusal.TheVariants.{NoCaller, Handle}
-use Rattle.act_rules.specs.Submissions.{needs}
-use Rattle.act_rules.specs.History.{History, count_pairs, cast_of, names, is_caller}
-use Rattle.act_handles.specs.Handles.{copies_in}
-use Rattle.act_owner.specs.Owner.{OwnerView}
-use Rattle.act_world.specs.Network.{is_owner, naming_refusal}
-use Rattle.act_world.specs.Refines.{IsOwnerOf, IsOwnerAt}
+use Rattle.act_world.proofs.Common.{◌≡◌, ℕ, ◌+◌, ◌-◌, Bool, true, false, cond, List, Some, None, refl, ap, sym, ◌∙◌, Option, find, is_some, NoActor}
+use Rattle.act_world.proofs.Common.{WorldRefusal, NoCaller, Handle, needs, History, count_pairs, cast_of, names, is_caller, copies_in, OwnerView, is_owner}
+use Rattle.act_world.proofs.Common.{naming_refusal, IsOwnerOf, IsOwnerAt}
 
 -- an actor is one of the caller's where its cast names the caller
 pub is_named : (h : History) (c a : ℕ) (owner : OwnerView) → IsOwnerOf h c owner → is_some (copies_in a owner.handles) ≡ names c (cast_of a h)

@@ -1,35 +1,14 @@
 -- A call that its caller sends.
-use Rattle.std.proofs.Common.{◌≡◌, ◌≢◌, ℕ, ◌+◌, ◌<◌, Bool, true, false, List, [], ◌∷◌, ◌++◌, length, Some, None, inl, inr, refl, ap, sym, ◌∙◌, subst, arith, Ok, Err, length-append, length-set, get_or}
-use Rattle.std.specs.Prelude.{Option, Result, IfOk, OnErr, ◌==◌, ◌||◌, slice_get, slice_set, position, option_map, unwrap_or}
-use Rattle.std.proofs.Math.Bool.{or-true, or-false}
-use Rattle.std.proofs.lemmas.Bool.{eq-eqb, ne_eqb}
-use Rattle.std.proofs.lemmas.Bool.Decides.{eqb_tells}
-use Rattle.std.proofs.lemmas.Option.{slice_get_within, slice_get-get_or}
-use Rattle.act_rules.specs.declared.event.Event.TheVariants.{Send}
-use Rattle.act_rules.specs.declared.history.Submission.{Submission}
-use Rattle.act_rules.specs.declared.history.Letter.{Letter}
+use Rattle.act_world.proofs.Common.{◌≡◌, ◌≢◌, ℕ, ◌+◌, ◌<◌, Bool, true, false, List, [], ◌∷◌, ◌++◌, length, Some, None, inl, inr, refl, ap, sym, ◌∙◌, subst}
+use Rattle.act_world.proofs.Common.{arith, Ok, Err, length-append, length-set, get_or, Option, Result, IfOk, OnErr, ◌==◌, ◌||◌, slice_get, slice_set, position}
+use Rattle.act_world.proofs.Common.{option_map, unwrap_or, or-true, or-false, eq-eqb, ne_eqb, eqb_tells, slice_get_within, slice_get-get_or, Send, Submission}
+use Rattle.act_world.proofs.Common.{Letter, Mail, SendRefusal, Sending, Answer, calls_to, number_of, send_refusal, History, is_caller, calls_of, kept_of}
+use Rattle.act_world.proofs.Common.{has_letter, is_letter, history, Outcome, did, refusal_of, outcome_of, add_event, after, and_also, call_letter, was_sent}
+use Rattle.act_world.proofs.Common.{Grows, added_grows, calls_to-number, letter_is, kept_of-same, Call, OwnerView, is_sent, sending_refusal, numbered_call}
+use Rattle.act_world.proofs.Common.{address_at, with_sent, CallKey, MailEntry, NetworkView, is_owner, SlotView, WorldView, StepsThere, IsOwnerOf, mail_entry}
+use Rattle.act_world.proofs.Common.{Refines, NoMemory}
 use Rattle.act_rules.specs.declared.history.Letter.TheVariants.{Call as CallLetter}
-use Rattle.act_rules.specs.declared.outcome.Did.TheVariants.{Mail}
-use Rattle.act_rules.specs.declared.outcome.SendRefusal.{SendRefusal}
-use Rattle.act_rules.specs.declared.outcome.WorldRefusal.TheVariants.{Sending}
-use Rattle.act_rules.specs.RunList.{Answer}
-use Rattle.act_rules.specs.Submissions.{calls_to, number_of, send_refusal}
-use Rattle.act_rules.specs.History.{History, is_caller, calls_of, kept_of, has_letter, is_letter}
-use Rattle.act_rules.specs.Laws.{history}
-use Rattle.act_rules.specs.Rules.{Outcome, did, refusal_of, outcome_of, add_event, after, and_also, call_letter, was_sent}
-use Rattle.act_rules.proofs.Growth.{Grows, added_grows}
-use Rattle.act_rules.proofs.Letters.{calls_to-number, letter_is}
-use Rattle.act_rules.proofs.Table.{kept_of-same}
-use Rattle.act_owner.specs.declared.owner.Call.{Call}
-use Rattle.act_owner.specs.Owner.{OwnerView, is_sent, sending_refusal, numbered_call, address_at, with_sent}
-use Rattle.act_world.specs.declared.network.CallKey.{CallKey}
-use Rattle.act_world.specs.declared.network.MailEntry.{MailEntry}
 use Rattle.act_world.specs.declared.network.MailEntry.TheVariants.{Call as CallEntry}
-use Rattle.act_world.specs.Network.{NetworkView, is_owner}
-use Rattle.act_world.specs.View.{SlotView, WorldView}
-use Rattle.act_world.specs.Steps.{StepsThere}
-use Rattle.act_world.specs.Refines.{IsOwnerOf, mail_entry, Refines}
-use Rattle.act_types.specs.declared.memory.NoMemory.{NoMemory}
 use Rattle.act_world.proofs.Changes.{refused_follows, accepted_follows}
 use Rattle.act_world.proofs.Stepping.{refused_there, wanting_there}
 use Rattle.act_world.proofs.Lists.{get_set-same, get_set-other}

@@ -1,30 +1,12 @@
 -- What a world shows grows by what is told.
-use Rattle.std.proofs.Common.{◌≡◌, ℕ, zero, suc, ◌+◌, arith, Bool, true, false, cond, List, [], ◌∷◌, ◌++◌, length, take, drop, Some, None, refl, ap, sym, ◌∙◌, subst, append_assoc, append-nil, zip}
-use Rattle.std.specs.Prelude.{Option, ◌==◌, flat_map, Ok, Err, slice_get, find}
-use Rattle.std.proofs.Math.Seq.{drop-append_seam, drop-length}
-use Rattle.std.proofs.lemmas.Bool.{eqb-true}
-use Rattle.std.proofs.lemmas.List.{map-append}
-use Rattle.act_rules.specs.declared.event.Event.{Event}
-use Rattle.act_rules.specs.declared.event.Event.TheVariants.{Submit, Run}
-use Rattle.act_rules.specs.declared.outcome.Did.{Did}
-use Rattle.act_rules.specs.declared.outcome.Did.TheVariants.{Future}
-use Rattle.act_rules.specs.declared.outcome.WorldRefusal.{WorldRefusal}
-use Rattle.act_rules.specs.declared.history.RunItem.{RunItem}
-use Rattle.act_rules.specs.declared.history.Submission.{Submission}
-use Rattle.act_rules.specs.Consistent.{IsPrefix}
-use Rattle.act_rules.specs.History.{ActorSpec, History, opening, calls_of, runs_of, next_item}
-use Rattle.act_rules.specs.Laws.{history}
-use Rattle.act_rules.specs.Rules.{Outcome, refusal_of, add_event, after_run, did_run, outcome_by, outcome_of, outcomes, after_by, after, after_all}
-use Rattle.act_rules.proofs.Lists.{enumerate_from-append, whole_front, front_trans}
-use Rattle.act_rules.proofs.Growth.{added_grows, runs_grow}
-use Rattle.act_rules.proofs.Ended.{under-push}
-use Rattle.act_rules.proofs.Order.{next_item_is}
-use Rattle.act_rules.proofs.Steps.{after_keeps, after_all-append}
-use Rattle.act_world.specs.Network.{is_owner}
-use Rattle.act_world.specs.View.{WorldView}
-use Rattle.act_world.specs.Headline.{world_calls, world_log}
-use Rattle.act_world.specs.IsReachedBy.{IsReachedBy, FollowsRules, HasPlayed}
-use Rattle.act_world.specs.Shown.{calls_told, runs_told, new_calls, new_runs, all_new, ShowsWhatIsTold, ShowsNothing}
+use Rattle.act_world.proofs.Common.{◌≡◌, ℕ, zero, suc, ◌+◌, arith, Bool, true, false, cond, List, [], ◌∷◌, ◌++◌, length, take, drop, Some, None, refl, ap, sym}
+use Rattle.act_world.proofs.Common.{◌∙◌, subst, append_assoc, zip, Option, ◌==◌, flat_map, Ok, Err, slice_get, find, drop-append_seam, drop-length, eqb-true}
+use Rattle.act_world.proofs.Common.{map-append, Event, Submit, Run, Did, Future, WorldRefusal, RunItem, Submission, IsPrefix, ActorSpec, History, opening}
+use Rattle.act_world.proofs.Common.{calls_of, runs_of, next_item, history, Outcome, refusal_of, add_event, after_run, did_run, outcome_by, outcome_of, outcomes}
+use Rattle.act_world.proofs.Common.{after_by, after, after_all, enumerate_from-append, whole_front, front_trans, added_grows, runs_grow, under-push}
+use Rattle.act_world.proofs.Common.{next_item_is, after_keeps, after_all-append, is_owner, WorldView, world_calls, world_log, IsReachedBy, FollowsRules}
+use Rattle.act_world.proofs.Common.{HasPlayed, calls_told, runs_told, new_calls, new_runs, all_new, ShowsWhatIsTold, ShowsNothing}
+use Rattle.std.proofs.Common.{append-nil}
 use Rattle.act_world.proofs.Lawful.{world_lawful}
 use Rattle.act_world.proofs.Headline.{calls_are, logs_are}
 use Rattle.act_world.proofs.Playing.{stands_next}

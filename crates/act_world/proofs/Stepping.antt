@@ -1,19 +1,7 @@
 -- What one event makes of a world, put together at each end of the event.
-use Rattle.std.proofs.Common.{◌≡◌, ℕ, List, map, false, Ok, Err, Result, refl, ap, sym, subst, get_or}
-use Rattle.std.specs.Prelude.{IsErrAnd, OnErr, slice_set}
-use Rattle.std.proofs.lemmas.Result.{on_err_weaker}
-use Rattle.act_types.specs.declared.memory.NoMemory.{NoMemory}
-use Rattle.act_rules.specs.declared.event.Event.{Event}
-use Rattle.act_rules.specs.declared.outcome.Did.{Did}
-use Rattle.act_rules.specs.declared.outcome.WorldRefusal.{WorldRefusal}
-use Rattle.act_rules.specs.Rules.{Outcome}
-use Rattle.act_types.specs.KindState.{KindState}
-use Rattle.act_world.specs.declared.slot.Slot.{Slot}
-use Rattle.act_world.specs.Network.{NetworkView}
-use Rattle.act_world.specs.View.{SlotView, WorldView, slot_view, world_view, with_slots}
-use Rattle.act_world.specs.IsReachedBy.{is_memory, IsGrown, FollowsRules, IsUnrefused, IsUnrefusedThere}
-use Rattle.act_world.specs.Memory.{TakesMemory}
-use Rattle.act_world.specs.Steps.{Steps, StepsThere}
+use Rattle.act_world.proofs.Common.{◌≡◌, ℕ, List, map, false, Ok, Err, Result, refl, ap, sym, subst, get_or, IsErrAnd, OnErr, slice_set, on_err_weaker}
+use Rattle.act_world.proofs.Common.{NoMemory, Event, Did, WorldRefusal, Outcome, KindState, Slot, NetworkView, SlotView, WorldView, slot_view, world_view}
+use Rattle.act_world.proofs.Common.{with_slots, is_memory, IsGrown, FollowsRules, IsUnrefused, IsUnrefusedThere, TakesMemory, Steps, StepsThere}
 use Rattle.act_world.proofs.Changes.{grown_none, slot_kept}
 
 -- ---- the ends of an event

@@ -1,43 +1,19 @@
 -- A call that is submitted.
-use Rattle.std.proofs.Common.{◌≡◌, ◌≢◌, ℕ, zero, suc, ◌+◌, ◌<◌, ◌≤◌, Bool, true, false, cond, List, [], ◌∷◌, ◌++◌, length, map, Some, None, Result, Ok, Err, IfOk, OnOk, OnErr, inl, inr, refl, ap, sym, ◌∙◌, subst, arith, length-append, get_or}
-use Rattle.std.specs.Prelude.{Option, ◌==◌, ◌||◌, filter, position, slice_get, slice_set, option_map, unwrap_or, is_some, nat_lt, nat_le}
-use Rattle.std.specs.Option.{option_or}
-use Rattle.std.specs.List.{list_all, list_any, enumerate_from}
-use Rattle.std.proofs.lemmas.Bool.{ne_eqb, eq-eqb}
-use Rattle.std.proofs.lemmas.Bool.Decides.{eqb_tells}
-use Rattle.std.proofs.lemmas.List.{take-append-le}
-use Rattle.std.proofs.lemmas.Option.{slice_get_within, slice_get_cases}
-use Rattle.std.proofs.Math.Seq.{take-append_seam}
-use Rattle.act_types.specs.declared.call.Arg.{Arg}
-use Rattle.act_types.specs.declared.call.Method.{Method}
-use Rattle.act_types.specs.declared.memory.NoMemory.{NoMemory}
-use Rattle.act_rules.specs.declared.history.Submission.{Submission}
+use Rattle.act_world.proofs.Common.{◌≡◌, ◌≢◌, ℕ, zero, suc, ◌+◌, ◌<◌, ◌≤◌, Bool, true, false, cond, List, [], ◌∷◌, ◌++◌, length, map, Some, None, Result, Ok}
+use Rattle.act_world.proofs.Common.{Err, IfOk, OnOk, OnErr, inl, inr, refl, ap, sym, ◌∙◌, subst, arith, length-append, get_or, Option, ◌==◌, ◌||◌, filter}
+use Rattle.act_world.proofs.Common.{position, slice_get, slice_set, option_map, unwrap_or, is_some, nat_lt, nat_le, option_or, list_all, list_any}
+use Rattle.act_world.proofs.Common.{enumerate_from, ne_eqb, eq-eqb, eqb_tells, take-append-le, slice_get_within, slice_get_cases, take-append_seam, Arg, Method}
+use Rattle.act_world.proofs.Common.{NoMemory, Submission, Post, Submit, Future, SubmitRefusal, needs, calls_to, number_of, copies_held, submit_refusal}
+use Rattle.act_world.proofs.Common.{limit_refusal, is_earlier, History, is_caller, calls_of, limit_of, first_answer, has_letter, history, slice_get_more}
+use Rattle.act_world.proofs.Common.{option_or-none, needs-none, under-push, added_grows, IsSoundLetter, has_letter-sound, calls_to-push, kept_of-submitted}
+use Rattle.act_world.proofs.Common.{death_if, is_death_of, knows_dead, copies_in, given_in, with_number, copies-with_number, given-with_number}
+use Rattle.act_world.proofs.Common.{given-with_number-other, calls_to-length, NetworkView, is_owner, SlotView, Refines, IsOwnerOf, is_death_to, StepsThere}
 use Rattle.act_rules.specs.declared.history.Letter.TheVariants.{Call as CallLetter}
-use Rattle.act_rules.specs.declared.history.Post.{Post}
 use Rattle.act_rules.specs.declared.history.Post.TheVariants.{Reply as ReplyPost, Death as DeathPost}
-use Rattle.act_rules.specs.declared.event.Event.TheVariants.{Submit}
-use Rattle.act_rules.specs.declared.outcome.Did.TheVariants.{Future}
-use Rattle.act_rules.specs.declared.outcome.SubmitRefusal.{SubmitRefusal}
 use Rattle.act_rules.specs.declared.outcome.SubmitRefusal.TheVariants.{NoActor as NoSuchActor, NoHandle as NoCopy, TooManyArgs, BadFuture, TooManyCalls, PendingLimit, NoMemory as NoRoom}
 use Rattle.act_rules.specs.declared.outcome.WorldRefusal.TheVariants.{NoCaller, Submit as SubmitRefused}
-use Rattle.act_rules.specs.Submissions.{needs, calls_to, number_of, copies_held, submit_refusal, limit_refusal, is_earlier}
-use Rattle.act_rules.specs.History.{History, is_caller, calls_of, limit_of, first_answer, has_letter}
-use Rattle.act_rules.specs.Laws.{history}
 use Rattle.act_rules.specs.Rules.{Outcome, unanswered, submission_refusal as history_refusal, refusal_of, outcome_of, was_sent, add_event, after}
-use Rattle.act_rules.proofs.Lists.{slice_get_more, option_or-none}
-use Rattle.act_rules.proofs.Ended.{needs-none, under-push}
-use Rattle.act_rules.proofs.Growth.{added_grows}
-use Rattle.act_rules.proofs.Letters.{IsSoundLetter, has_letter-sound}
-use Rattle.act_rules.proofs.Retired.{calls_to-push}
-use Rattle.act_rules.proofs.Table.{kept_of-submitted, death_if, is_death_of, knows_dead}
-use Rattle.act_handles.specs.Handles.{copies_in, given_in, with_number}
-use Rattle.act_handles.proofs.Lookups.{copies-with_number, given-with_number, given-with_number-other}
 use Rattle.act_owner.specs.Owner.{OwnerView, owner_limit as limit_known, pending, refusal_to_submit, with_submission}
-use Rattle.act_owner.proofs.Told.{calls_to-length}
-use Rattle.act_world.specs.Network.{NetworkView, is_owner}
-use Rattle.act_world.specs.View.{SlotView}
-use Rattle.act_world.specs.Refines.{Refines, IsOwnerOf, is_death_to}
-use Rattle.act_world.specs.Steps.{StepsThere}
 use Rattle.act_world.proofs.Changes.{refused_follows, accepted_follows}
 use Rattle.act_world.proofs.Lawful.{IsLawful}
 use Rattle.act_world.proofs.Frames.{SameCaller, owners_change, mail_stays}

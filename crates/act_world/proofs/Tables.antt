@@ -1,12 +1,6 @@
 -- A table of answers by its places.
-use Rattle.std.proofs.Common.{◌≡◌, ℕ, suc, ◌+◌, List, [], ◌∷◌, length, map, Some, refl, ap, ◌∙◌, arith}
-use Rattle.std.specs.Prelude.{Option, slice_get, option_map}
-use Rattle.std.specs.List.{enumerate_from}
-use Rattle.std.proofs.lemmas.Option.{slice_get-map}
-use Rattle.act_rules.specs.declared.history.Submission.{Submission}
-use Rattle.act_rules.specs.RunList.{Answer}
-use Rattle.act_rules.specs.History.{History, calls_of, kept_of, first_answer}
-use Rattle.act_rules.proofs.Lists.{slice_get-enumerate_from}
+use Rattle.act_world.proofs.Common.{◌≡◌, ℕ, suc, ◌+◌, List, [], ◌∷◌, length, map, Some, refl, ap, ◌∙◌, arith, Option, slice_get, option_map, enumerate_from}
+use Rattle.act_world.proofs.Common.{slice_get-map, Submission, Answer, History, calls_of, kept_of, first_answer, slice_get-enumerate_from}
 
 table_from : (n : ℕ) (new : List (Option Answer)) (calls : List Submission) (G : ℕ × Submission → Option Answer) → length new ≡ length calls → ((j : ℕ) (x : Submission) → slice_get calls j ≡ Some x → slice_get new j ≡ Some (G (n + j, x))) → new ≡ map G (enumerate_from n calls)
 table_from n [] [] G long h = refl

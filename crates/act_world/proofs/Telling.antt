@@ -1,22 +1,9 @@
 -- A dead actor that tells a caller its death.
-use Rattle.std.proofs.Common.{◌≡◌, ℕ, ◌+◌, true, false, List, [], ◌∷◌, ◌++◌, length, Some, None, refl, ap, sym, ◌∙◌, subst, Ok, Err, length-append}
-use Rattle.std.specs.Prelude.{find, slice_get}
-use Rattle.std.proofs.lemmas.Bool.{or_parts}
-use Rattle.act_types.specs.declared.call.Notice.TheVariants.{Death}
-use Rattle.act_rules.specs.declared.event.Event.TheVariants.{Tell}
+use Rattle.act_world.proofs.Common.{◌≡◌, ℕ, ◌+◌, true, false, List, [], ◌∷◌, ◌++◌, length, Some, None, refl, ap, sym, ◌∙◌, subst, Ok, Err, length-append, find}
+use Rattle.act_world.proofs.Common.{slice_get, or_parts, Death, Tell, Told, WorldRefusal, NotDead, needs, History, cast_of, names, is_caller, is_dead}
+use Rattle.act_world.proofs.Common.{is_retired, did, refusal_of, outcome_of, add_event, after, added_grows, Posted, NetworkView, is_owner, naming_refusal}
+use Rattle.act_world.proofs.Common.{SlotView, Runs, Died, Ended, Vacant, is_dead_slot, IsStage, posted_notice, Refines}
 use Rattle.act_rules.specs.declared.history.Post.TheVariants.{Death as DeathPost}
-use Rattle.act_rules.specs.declared.outcome.Did.TheVariants.{Told}
-use Rattle.act_rules.specs.declared.outcome.WorldRefusal.{WorldRefusal}
-use Rattle.act_rules.specs.declared.outcome.WorldRefusal.TheVariants.{NotDead}
-use Rattle.act_rules.specs.Submissions.{needs}
-use Rattle.act_rules.specs.History.{History, cast_of, names, is_caller, is_dead, is_retired}
-use Rattle.act_rules.specs.Rules.{did, refusal_of, outcome_of, add_event, after}
-use Rattle.act_rules.proofs.Growth.{added_grows}
-use Rattle.act_world.specs.declared.network.Posted.{Posted}
-use Rattle.act_world.specs.Network.{NetworkView, is_owner, naming_refusal}
-use Rattle.act_world.specs.View.{SlotView, Runs, Died, Ended, Vacant}
-use Rattle.act_world.specs.Slots.{is_dead_slot}
-use Rattle.act_world.specs.Refines.{IsStage, posted_notice, Refines}
 use Rattle.act_world.proofs.Changes.{refused_follows, accepted_follows}
 use Rattle.act_world.proofs.Lawful.{IsLawful}
 use Rattle.act_world.proofs.Seeing.{refused, known}

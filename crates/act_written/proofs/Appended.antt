@@ -1,7 +1,5 @@
 -- What a writer holds after one more write.
-use Rattle.std.proofs.Common.{◌≡◌, ℕ, List, ◌++◌, Option, Some, None, take, drop, append_assoc, refl, arith}
-use Rattle.std.proofs.lemmas.List.{take-append-drop}
-use Rattle.std.specs.Io.KnownBytes.{Appends}
+use Rattle.act_written.proofs.Common.{◌≡◌, ℕ, List, ◌++◌, Option, Some, None, take, drop, append_assoc, refl, arith, take-append-drop, Appends}
 
 -- two texts that were written, one after the other, are one
 pub appends_both : (old mid new : Option (List ℕ)) (xs ys : List ℕ) → Appends old mid xs → Appends mid new ys → Appends old new (xs ++ ys)

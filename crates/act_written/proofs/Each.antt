@@ -1,13 +1,8 @@
 -- Texts of places, one after another.
-use Rattle.std.proofs.Common.{◌≡◌, ◌≢◌, inl, inr, ℕ, zero, suc, ◌+◌, ◌<◌, ◌≤◌, ◌-◌, List, [], ◌++◌, length, get_or, append_assoc, add-one, refl, ap, sym, ◌∙◌, arith}
-use Rattle.std.specs.List.{All, Contains}
-use Rattle.std.proofs.lemmas.List.Elements.{All-contains_itself}
-use Rattle.std.proofs.lemmas.Bool.{eq-eqb, ne_eqb}
-use Rattle.std.proofs.lemmas.List.{append-nil}
-use Rattle.act_orders.specs.declared.told.Told.{Told}
+use Rattle.act_written.proofs.Common.{◌≡◌, ◌≢◌, inl, inr, ℕ, zero, suc, ◌+◌, ◌<◌, ◌≤◌, ◌-◌, List, [], ◌++◌, length, get_or, append_assoc, add-one, refl, ap}
+use Rattle.act_written.proofs.Common.{sym, ◌∙◌, arith, All, Contains, All-contains_itself, eq-eqb, ne_eqb, append-nil, Told, run_of, of_each, run_line}
+use Rattle.act_written.proofs.Common.{run_line_of, IsPast}
 use Rattle.act_written.proofs.Pushed.{same_or_not}
-use Rattle.act_orders.specs.Causes.{run_of}
-use Rattle.act_written.specs.Texts.{of_each, run_line, run_line_of, IsPast}
 
 -- the text of one place more was written
 pub each_next : (text_of : ℕ → List ℕ) (n : ℕ) (old now new : List ℕ) → now ≡ old ++ of_each text_of n →

@@ -1,9 +1,6 @@
 -- Numbers of calls and of runs, as they are found one after another.
-use Rattle.std.proofs.Common.{◌≡◌, ◌≢◌, ℕ, zero, suc, ◌+◌, ◌<◌, ◌⊎◌, inl, inr, List, [], ◌∷◌, ◌++◌, length, get_or, refl, ap, sym, ◌∙◌, arith}
-use Rattle.std.proofs.lemmas.List.{get_or_append_left}
-use Rattle.std.proofs.Math.Seq.{get_or-append_seam}
-use Rattle.act_orders.specs.declared.told.Told.{Told}
-use Rattle.act_written.specs.Texts.{call_number}
+use Rattle.act_written.proofs.Common.{◌≡◌, ◌≢◌, ℕ, zero, suc, ◌+◌, ◌<◌, ◌⊎◌, inl, inr, List, [], ◌∷◌, ◌++◌, length, get_or, refl, ap, sym, ◌∙◌, arith}
+use Rattle.act_written.proofs.Common.{get_or_append_left, get_or-append_seam, Told, call_number}
 
 -- two numbers are one, or not
 pub same_or_not : (m n : ℕ) → (m ≡ n) ⊎ (m ≢ n)

@@ -2,8 +2,8 @@
 use Rattle.std.proofs.Common.{◌≡◌, ℕ, zero, suc, ◌≤◌, List, refl, sym, subst, replicate, arith}
 use Rattle.actors.specs.Rules.{ActorSpec}
 use Rattle.actors.specs.Kinds.{OpensAt}
-use Rattle.own_kinds.specs.Bank.{bank_step, bank_text, empty_bank, HoldsItsMoney}
-use Rattle.own_kinds.proofs.Keeps.{keeps, empty}
+use Rattle.example_kinds.specs.Bank.{bank_step, bank_text, empty_bank, HoldsItsMoney}
+use Rattle.example_kinds.proofs.Keeps.{keeps, empty}
 use Rattle.actors.specs.Epochs.{Epoch, AreEpochs, casts_after, runs, CastKeeps, KeptOverEpochs, EpochsAreConsistent, HaveLed}
 use Rattle.example_bank.specs.declared.request.TheConstants.{BRANCH_ACCOUNTS}
 use Rattle.example_bank.specs.declared.teller.Teller.{Teller}

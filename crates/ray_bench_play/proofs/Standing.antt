@@ -1,12 +1,6 @@
 -- Events after events.
-use Rattle.std.proofs.Common.{◌≡◌, ℕ, ◌+◌, List, [], ◌∷◌, ◌++◌, ap, sym, ◌∙◌, subst, map, append_assoc, add-one}
-use Rattle.std.specs.Prelude.{flat_map}
-use Rattle.std.proofs.lemmas.List.{append-nil, flat_map_more, map-append}
-use Rattle.act_rules.specs.declared.event.Event.{Event}
-use Rattle.act_world.specs.View.{WorldView}
-use Rattle.act_world.specs.IsReachedBy.{IsReachedBy}
-use Rattle.bench_work.specs.Work.{places}
-use Rattle.ray_bench_play.specs.Plays.{StandsAfter}
+use Rattle.ray_bench_play.proofs.Common.{◌≡◌, ℕ, ◌+◌, List, [], ◌∷◌, ◌++◌, ap, sym, ◌∙◌, subst, map, append_assoc, add-one, flat_map, append-nil, flat_map_more}
+use Rattle.ray_bench_play.proofs.Common.{map-append, Event, WorldView, IsReachedBy, places, StandsAfter}
 
 -- no event
 pub stands_still : (world : WorldView) → StandsAfter [] world world

@@ -6,7 +6,7 @@ use Rattle.std.specs.Prelude.{String}
 use Rattle.std.specs.Cmp.Lexicographic.{bytes_decides}
 use Rattle.std.proofs.lemmas.List.Elements.{Contains-append_left, Contains-append_right}
 use Rattle.ray_explore.specs.Told.{TellsEnd, TellsNew, TellsEnds}
-use Rattle.ray_explore.specs.Telling.{HasTold, HasToldSome, HasToldMore}
+use Rattle.ray_explore.specs.Telling.{HasToldSome, HasToldMore}
 use Rattle.ray_explore.proofs.Written.{one_end_more}
 
 -- the set has these lines, and what it had

@@ -1,10 +1,6 @@
 -- What is written of ends, one by one.
-use Rattle.std.proofs.Common.{◌≡◌, ℕ, suc, ◌+◌, ◌≤◌, Bool, true, false, cond, List, [], ◌∷◌, ◌++◌, length, length-append, bytes_eq, Option, inl, inr, refl, ap, sym, ◌∙◌, subst, arith, Contains}
-use Rattle.std.specs.BTreeSet.{BTreeSet, contains_text}
-use Rattle.std.specs.Global.{Global}
-use Rattle.std.specs.Prelude.{String}
+use Rattle.std.proofs.Common.{◌≡◌, ℕ, ◌+◌, ◌≤◌, Bool, true, List, [], ◌∷◌, ◌++◌, length-append, Option, inl, inr, refl, ap, sym, ◌∙◌, subst, arith}
 use Rattle.ray_explore.specs.Told.{TellsEnd, TellsNew, TellsEnds, TellsCount, TellsMore}
-use Rattle.ray_explore.specs.Telling.{HasTold, HasToldSome, HasToldMore}
 
 -- after what was written of some ends, what is written of one more
 pub one_end_more : (script : List ℕ) (ends : List (List ℕ)) (lines : List ℕ) (first old new : Option (List ℕ)) → TellsEnds script ends first old → TellsEnd script lines old new

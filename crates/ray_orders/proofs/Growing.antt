@@ -1,5 +1,5 @@
 -- What a writer holds after one more text.
-use Rattle.std.proofs.Common.{◌≡◌, ℕ, List, [], ◌++◌, Option, Some, None, append_assoc, append-nil, refl, sym}
+use Rattle.std.proofs.Common.{ℕ, List, [], ◌++◌, Option, Some, None, append_assoc, append-nil, refl, sym}
 use Rattle.std.specs.Io.KnownBytes.{Appends}
 use Rattle.ray_orders.specs.Told.{Grows}
 

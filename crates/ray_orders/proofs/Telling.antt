@@ -1,5 +1,5 @@
 -- How a history is told that was judged.
-use Rattle.std.proofs.Common.{◌≡◌, ℕ, ◌<◌, List, [], length, Option, Result, Ok, Err, All, get_or, arith, OnOk, IfErr}
+use Rattle.std.proofs.Common.{◌≡◌, ℕ, ◌<◌, List, [], length, Option, Result, Ok, Err, All, get_or, OnOk, IfErr}
 use Rattle.act_orders.specs.declared.fault.Fault.{Fault}
 use Rattle.act_orders.specs.declared.fault.Fault.TheVariants.{NoRole}
 use Rattle.act_orders.specs.declared.told.Told.{Told}

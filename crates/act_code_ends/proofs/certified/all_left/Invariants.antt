@@ -1,7 +1,4 @@
-use Rattle.std.proofs.Common.{ℕ, ◌≤◌, map}
-use Rattle.act_actor.specs.Casts.{actor_spec}
-use Rattle.act_world.specs.View.{world_view}
-use Rattle.act_code_ends.specs.Ends.{IsLeft}
+use Rattle.act_code_ends.proofs.Common.{ℕ, ◌≤◌, map, actor_spec, world_view, IsLeft}
 use Rattle.act_code_ends.proofs.certified.all_left.Given as goal
 
 -- the codes of the callers so far left them so

@@ -1,5 +1,4 @@
-use Rattle.std.proofs.Common.{take}
-use Rattle.std.specs.Prelude.{All, IsOk}
+use Rattle.act_code_ends.proofs.Common.{take, All, IsOk}
 use Rattle.act_code_ends.proofs.certified.are_accepted.Given as goal
 
 abbrev pub invariant-loop-outcome : goal.invariant-loop-outcome

@@ -1,12 +1,5 @@
-use Rattle.std.proofs.Common.{List, subst}
-use Rattle.std.specs.Prelude.{All, IsOk}
-use Rattle.act_rules.specs.declared.event.Event.{Event}
-use Rattle.act_rules.specs.History.{ActorSpec, opening, calls_of, kept_of}
-use Rattle.act_rules.specs.Laws.{history}
-use Rattle.act_rules.specs.Rules.{outcomes}
-use Rattle.act_world.specs.IsReachedBy.{IsReachedBy}
-use Rattle.act_world.specs.View.{world_view}
-use Rattle.act_code_ends.specs.Ends.{IsThrough, opened_of}
+use Rattle.act_code_ends.proofs.Common.{List, subst, All, IsOk, Event, ActorSpec, opening, calls_of, kept_of, history, outcomes, IsReachedBy, world_view}
+use Rattle.act_code_ends.proofs.Common.{IsThrough, opened_of}
 use Rattle.act_code_ends.proofs.certified.certified.Goals as goal
 
 pub returns : goal.returns

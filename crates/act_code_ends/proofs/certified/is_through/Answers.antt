@@ -1,9 +1,4 @@
-use Rattle.std.proofs.Common.{subst}
-use Rattle.act_rules.specs.Laws.{history}
-use Rattle.act_rules.specs.History.{calls_of, kept_of}
-use Rattle.act_actor.specs.Casts.{limits_that_name}
-use Rattle.act_owner.specs.Owner.{OwnerView, opened_with}
-use Rattle.act_code_ends.specs.Ends.{IsThrough}
+use Rattle.act_code_ends.proofs.Common.{subst, history, calls_of, kept_of, limits_that_name, OwnerView, opened_with, IsThrough}
 use Rattle.act_code_ends.proofs.Playing.{through_is, opened_as}
 use Rattle.act_code_ends.proofs.certified.is_through.Goals as goal
 

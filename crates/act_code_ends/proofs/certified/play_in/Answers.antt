@@ -1,7 +1,4 @@
-use Rattle.std.proofs.Common.{◌↔◌, List, [], subst}
-use Rattle.std.specs.Prelude.{All, IsOk, IsTrue}
-use Rattle.act_rules.specs.Rules.{Outcome}
-use Rattle.act_world.specs.View.{world_view}
+use Rattle.act_code_ends.proofs.Common.{◌↔◌, List, [], subst, All, IsOk, IsTrue, Outcome, world_view}
 use Rattle.act_code_ends.proofs.Playing.{told_in}
 use Rattle.act_code_ends.proofs.certified.play_in.Goals as goal
 

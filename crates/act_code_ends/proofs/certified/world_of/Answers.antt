@@ -1,7 +1,4 @@
-use Rattle.std.proofs.Common.{List, [], subst}
-use Rattle.act_rules.specs.History.{ActorSpec}
-use Rattle.act_world.specs.IsReachedBy.{IsReachedBy}
-use Rattle.act_world.specs.View.{world_view}
+use Rattle.act_code_ends.proofs.Common.{List, [], subst, ActorSpec, IsReachedBy, world_view}
 use Rattle.act_code_ends.proofs.certified.world_of.Goals as goal
 
 pub returns-clause-accepted : goal.returns-clause-accepted

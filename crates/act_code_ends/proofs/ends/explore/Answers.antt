@@ -1,6 +1,4 @@
-use Rattle.act_world.specs.View.{world_view}
-use Rattle.act_code_ends.specs.declared.certified.Played.{Played}
-use Rattle.act_code_ends.specs.Ends.{IsEnd}
+use Rattle.act_code_ends.proofs.Common.{world_view, Played, IsEnd}
 use Rattle.act_code_ends.proofs.Each.{one_more}
 use Rattle.act_code_ends.proofs.ends.explore.Goals as goal
 

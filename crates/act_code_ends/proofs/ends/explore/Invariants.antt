@@ -1,5 +1,4 @@
-use Rattle.std.proofs.Common.{◌≡◌}
-use Rattle.act_code_ends.specs.FoundEnds.{AreEnds}
+use Rattle.act_code_ends.proofs.Common.{◌≡◌, AreEnds}
 use Rattle.act_code_ends.proofs.ends.explore.Given as goal
 
 -- what was found so far are ends

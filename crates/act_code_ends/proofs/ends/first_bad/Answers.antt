@@ -1,10 +1,4 @@
-use Rattle.std.proofs.Common.{subst}
-use Rattle.std.specs.Prelude.{All}
-use Rattle.std.proofs.lemmas.List.{take_all}
-use Rattle.std.proofs.lemmas.List.Elements.{All-more}
-use Rattle.act_world.specs.View.{world_view}
-use Rattle.act_code_ends.specs.declared.certified.Played.{Played}
-use Rattle.act_code_ends.specs.Ends.{SaysAt}
+use Rattle.act_code_ends.proofs.Common.{subst, All, take_all, All-more, world_view, Played, SaysAt}
 use Rattle.act_code_ends.proofs.ends.first_bad.Goals as goal
 
 pub loop-end-preserved : goal.loop-end-preserved

@@ -1,8 +1,4 @@
-use Rattle.std.proofs.Common.{take}
-use Rattle.std.specs.Prelude.{All}
-use Rattle.act_world.specs.View.{world_view}
-use Rattle.act_code_ends.specs.declared.certified.Played.{Played}
-use Rattle.act_code_ends.specs.Ends.{SaysAt}
+use Rattle.act_code_ends.proofs.Common.{take, All, world_view, Played, SaysAt}
 use Rattle.act_code_ends.proofs.ends.first_bad.Given as goal
 
 -- the ends so far are good

@@ -1,5 +1,4 @@
-use Rattle.std.proofs.Common.{◌≢◌, ℕ, List, Option, Some, All, AllPairs, sym, subst, ◌∙◌}
-use Rattle.act_world.proofs.OpenedOwners.{actors_differ, limits_fit}
+use Rattle.act_code_ends.proofs.Common.{◌≢◌, ℕ, List, Option, Some, All, AllPairs, sym, subst, ◌∙◌, actors_differ, limits_fit}
 use Rattle.act_code_ends.proofs.rehearsed.new_owner.Goals as goal
 
 pub open_with-requires : goal.open_with-requires

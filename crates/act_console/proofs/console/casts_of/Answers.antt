@@ -1,9 +1,5 @@
-use Rattle.std.proofs.Common.{rules, ◌≡◌, ◌≤◌, ◌++◌, [], List, length, map, ap, sym, ◌∙◌, arith}
-use Rattle.std.specs.Vec.Iter.{into_iter_items}
-use Rattle.std.proofs.lemmas.List.{nil_from_length}
-use Rattle.act_rules.specs.declared.script.Role.{Role}
-use Rattle.act_rules.specs.Scripts.{actor_spec_of}
-use Rattle.act_actor.specs.Casts.{actor_spec}
+use Rattle.act_console.proofs.Common.{rules, ◌≡◌, ◌≤◌, ◌++◌, [], List, length, map, ap, sym, ◌∙◌, arith, into_iter_items, nil_from_length, Role, actor_spec_of}
+use Rattle.act_console.proofs.Common.{actor_spec}
 use Rattle.act_console.proofs.Stocked.{fewer, one_of, one_made, all_made, found_cast}
 use Rattle.act_console.proofs.console.casts_of.Goals as goal
 

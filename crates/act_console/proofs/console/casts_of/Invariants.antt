@@ -1,8 +1,4 @@
-use Rattle.std.proofs.Common.{◌≡◌, ◌++◌, length, map}
-use Rattle.std.specs.Vec.Iter.{into_iter_items, into_iter_len}
-use Rattle.act_rules.specs.Scripts.{actor_spec_of}
-use Rattle.act_actor.specs.Casts.{actor_spec}
-use Rattle.act_console.specs.Stock.{HasEach}
+use Rattle.act_console.proofs.Common.{◌≡◌, ◌++◌, length, map, into_iter_items, into_iter_len, actor_spec_of, actor_spec, HasEach}
 use Rattle.act_console.proofs.console.casts_of.Given as goal
 
 -- the casts so far with those of the roles that are left, for each of which the stock has a kind

@@ -1,11 +1,5 @@
-use Rattle.std.proofs.Common.{List, map, arith, refl}
+use Rattle.act_console.proofs.Common.{List, map, arith, refl, IfOk-weaker, Event, ActorSpec, opening, report, actor_spec_of, actor_spec}
 use Rattle.std.specs.String.{string_bytes}
-use Rattle.std.proofs.lemmas.Result.{IfOk-weaker}
-use Rattle.act_rules.specs.declared.event.Event.{Event}
-use Rattle.act_rules.specs.History.{ActorSpec, opening}
-use Rattle.act_rules.specs.Report.{report}
-use Rattle.act_rules.specs.Scripts.{actor_spec_of}
-use Rattle.act_actor.specs.Casts.{actor_spec}
 use Rattle.act_console.proofs.Roles.{casts_fit}
 use Rattle.act_console.proofs.Shown.{told_of_same}
 use Rattle.act_console.proofs.console.report_on.Goals as goal

@@ -1,7 +1,5 @@
-use Rattle.std.proofs.Common.{◌≡◌, ◌∙◌, [], ◌∷◌, List, ℕ, ◌-◌, take, reverse, ap, sym, string_bytes}
-use Rattle.std.proofs.lemmas.List.{append-nil, reverse-append, reverse-reverse}
-use Rattle.act_rules.specs.declared.event.Event.{Event}
-use Rattle.act_world.specs.View.{world_view}
+use Rattle.act_console.proofs.Common.{◌≡◌, ◌∙◌, [], ◌∷◌, List, ℕ, ◌-◌, take, reverse, ap, sym, string_bytes, append-nil, reverse-append, reverse-reverse, Event}
+use Rattle.act_console.proofs.Common.{world_view}
 use Rattle.act_console.proofs.Playing.{begins, goes_on, ends}
 use Rattle.act_console.proofs.report.play_all.Goals as goal
 

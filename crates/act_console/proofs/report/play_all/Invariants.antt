@@ -1,5 +1,4 @@
-use Rattle.std.proofs.Common.{reverse, string_bytes, vec_len}
-use Rattle.act_world.specs.View.{world_view}
+use Rattle.act_console.proofs.Common.{reverse, string_bytes, vec_len, world_view}
 use Rattle.act_console.proofs.Playing.{Playing}
 use Rattle.act_console.proofs.report.play_all.Given as goal
 

@@ -1,6 +1,4 @@
-use Rattle.std.proofs.Common.{[], ◌∙◌, refl, sym, subst, string_bytes}
-use Rattle.act_world.specs.IsReachedBy.{IsReachedBy}
-use Rattle.act_world.specs.View.{world_view}
+use Rattle.act_console.proofs.Common.{[], ◌∙◌, refl, sym, subst, string_bytes, IsReachedBy, world_view}
 use Rattle.act_console.proofs.Shown.{all_parts, report_is}
 use Rattle.act_console.proofs.report.play_and_report.Goals as goal
 

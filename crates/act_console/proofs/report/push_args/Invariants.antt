@@ -1,6 +1,4 @@
-use Rattle.std.proofs.Common.{◌≡◌, ◌++◌, take, string_bytes}
-use Rattle.std.specs.List.{flat_map}
-use Rattle.act_types.specs.Texts.{space, settled_text}
+use Rattle.act_console.proofs.Common.{◌≡◌, ◌++◌, take, string_bytes, flat_map, space, settled_text}
 use Rattle.act_console.proofs.report.push_args.Given as goal
 
 -- the arguments so far are written

@@ -1,6 +1,4 @@
-use Rattle.std.proofs.Common.{◌++◌, List, ℕ, string_bytes, option_copied, ap, sym, ◌∙◌}
-use Rattle.std.proofs.lemmas.List.{append-nil}
-use Rattle.act_world.specs.View.{world_view}
+use Rattle.act_console.proofs.Common.{◌++◌, List, ℕ, string_bytes, option_copied, ap, sym, ◌∙◌, append-nil, world_view}
 use Rattle.act_console.proofs.Shown.{no_owner, one_owner}
 use Rattle.act_console.proofs.report.push_caller.Goals as goal
 

@@ -1,8 +1,4 @@
-use Rattle.std.proofs.Common.{◌≡◌, ◌++◌, string_bytes}
-use Rattle.std.specs.List.{flat_map}
-use Rattle.act_rules.specs.Report.{one_to}
-use Rattle.act_world.specs.View.{world_view}
-use Rattle.act_console.specs.Parts.{caller_lines}
+use Rattle.act_console.proofs.Common.{◌≡◌, ◌++◌, string_bytes, flat_map, one_to, world_view, caller_lines}
 use Rattle.act_console.proofs.report.push_callers.Given as goal
 
 -- the lines so far are written

@@ -1,6 +1,4 @@
-use Rattle.std.proofs.Common.{◌<◌, ◌≤◌, ◌++◌, length, string_bytes, ap, ◌∙◌, arith}
-use Rattle.act_rules.specs.Report.{future_line}
-use Rattle.act_console.specs.Parts.{owner_line}
+use Rattle.act_console.proofs.Common.{◌<◌, ◌≤◌, ◌++◌, length, string_bytes, ap, ◌∙◌, arith, future_line, owner_line}
 use Rattle.act_console.proofs.Placed.{goes_on_found, is_done}
 use Rattle.act_console.proofs.report.push_futures.Goals as goal
 

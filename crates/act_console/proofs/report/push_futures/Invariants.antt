@@ -1,6 +1,4 @@
-use Rattle.std.proofs.Common.{◌≡◌, ◌++◌, drop, string_bytes}
-use Rattle.act_rules.specs.Report.{numbered_lines, future_line}
-use Rattle.act_console.specs.Parts.{owner_lines}
+use Rattle.act_console.proofs.Common.{◌≡◌, ◌++◌, drop, string_bytes, numbered_lines, future_line, owner_lines}
 use Rattle.act_console.proofs.report.push_futures.Given as goal
 
 -- what is written so far, and what is still to be written

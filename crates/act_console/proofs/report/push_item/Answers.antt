@@ -1,6 +1,4 @@
-use Rattle.std.proofs.Common.{rules, append_assoc}
-use Rattle.std.proofs.lemmas.Result.{IfOk-equal}
-use Rattle.std.proofs.lemmas.List.Folds.{flat_map-map}
+use Rattle.act_console.proofs.Common.{rules, append_assoc, IfOk-equal, flat_map-map}
 use Rattle.act_console.proofs.report.push_item.Goals as goal
 
 pub returns : goal.returns

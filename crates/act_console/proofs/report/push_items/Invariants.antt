@@ -1,5 +1,4 @@
-use Rattle.std.proofs.Common.{◌≡◌, ◌++◌, drop, string_bytes}
-use Rattle.act_rules.specs.Report.{numbered_lines, item_line}
+use Rattle.act_console.proofs.Common.{◌≡◌, ◌++◌, drop, string_bytes, numbered_lines, item_line}
 use Rattle.act_console.proofs.report.push_items.Given as goal
 
 -- what is written so far, and what is still to be written

@@ -1,5 +1,4 @@
-use Rattle.std.proofs.Common.{string_bytes}
-use Rattle.act_rules.specs.Report.{outcome_line}
+use Rattle.act_console.proofs.Common.{string_bytes, outcome_line}
 use Rattle.act_console.proofs.Placed.{goes_on_at, is_done}
 use Rattle.act_console.proofs.report.push_outcomes.Goals as goal
 

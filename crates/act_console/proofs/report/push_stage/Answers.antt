@@ -1,10 +1,5 @@
-use Rattle.std.proofs.Common.{◌++◌, List, ℕ, string_bytes, option_map, ap, sym, ◌∙◌, append_assoc}
-use Rattle.std.proofs.lemmas.List.{append-nil}
-use Rattle.act_types.specs.Texts.{space, actor_text}
-use Rattle.act_rules.specs.declared.history.RunItem.{RunItem}
-use Rattle.act_rules.specs.Report.{line, numbered_lines, item_line}
-use Rattle.act_world.specs.View.{world_view, stage_view}
-use Rattle.act_console.specs.Parts.{standing_text}
+use Rattle.act_console.proofs.Common.{◌++◌, List, ℕ, string_bytes, option_map, ap, sym, ◌∙◌, append_assoc, append-nil, space, actor_text, RunItem, line}
+use Rattle.act_console.proofs.Common.{numbered_lines, item_line, world_view, stage_view, standing_text}
 use Rattle.act_console.proofs.Shown.{no_stage, one_stage}
 use Rattle.act_console.proofs.report.push_stage.Goals as goal
 

@@ -1,6 +1,4 @@
-use Rattle.std.proofs.Common.{string_bytes}
-use Rattle.act_world.specs.View.{world_view}
-use Rattle.act_console.specs.Parts.{stage_lines}
+use Rattle.act_console.proofs.Common.{string_bytes, world_view, stage_lines}
 use Rattle.act_console.proofs.Shown.{next_lines}
 use Rattle.act_console.proofs.report.push_stages.Goals as goal
 

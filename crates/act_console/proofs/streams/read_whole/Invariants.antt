@@ -1,5 +1,4 @@
-use Rattle.std.proofs.Common.{◌≡◌, ◌≤◌, ◌-◌, length, vec_len}
-use Rattle.std.specs.Io.KnownBytes.{Consumes}
+use Rattle.act_console.proofs.Common.{◌≡◌, ◌≤◌, ◌-◌, length, vec_len, Consumes}
 use Rattle.act_console.proofs.streams.read_whole.Given as goal
 
 -- what was read so far

@@ -1,5 +1,4 @@
-use Rattle.std.proofs.Common.{◌≡◌, List, ℕ, ◌++◌, length}
-use Rattle.std.specs.Io.KnownBytes.{Appends}
+use Rattle.act_console.proofs.Common.{◌≡◌, List, ℕ, ◌++◌, length, Appends}
 use Rattle.act_console.proofs.streams.write_whole.Given as goal
 
 -- a prefix of the text is written, and the rest is left

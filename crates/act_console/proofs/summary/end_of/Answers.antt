@@ -1,6 +1,4 @@
-use Rattle.std.proofs.Common.{sym}
-use Rattle.act_serve.specs.Served.{end_view}
-use Rattle.act_serve.specs.declared.turn.Finished.{Finished}
+use Rattle.act_console.proofs.Common.{sym, end_view, Finished}
 use Rattle.act_console.proofs.Joined.{none_view, one_view}
 use Rattle.act_console.proofs.summary.end_of.Goals as goal
 

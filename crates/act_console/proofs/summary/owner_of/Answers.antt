@@ -1,7 +1,4 @@
-use Rattle.std.proofs.Common.{◌==◌, Some, ap, sym, ◌∙◌}
-use Rattle.act_owner.specs.Owner.{OwnerView}
-use Rattle.act_plans.proofs.Taking.{find_some}
-use Rattle.act_rules.proofs.Finding.{find-None}
+use Rattle.act_console.proofs.Common.{◌==◌, Some, ap, sym, ◌∙◌, OwnerView, find_some, find-None}
 use Rattle.act_console.proofs.summary.owner_of.Goals as goal
 
 pub returns-in_err-place : goal.returns-in_err-place

@@ -1,11 +1,5 @@
-use Rattle.std.proofs.Common.{◌≡◌, ◌++◌, List, ℕ, map, string_bytes, option_copied, option_map, ap, sym, ◌∙◌}
-use Rattle.std.proofs.lemmas.List.{append-nil}
-use Rattle.act_types.specs.Texts.{space, actor_text}
-use Rattle.act_rules.specs.declared.history.RunItem.{RunItem}
-use Rattle.act_rules.specs.Report.{line, numbered_lines, item_line}
-use Rattle.act_serve.specs.Served.{end_view}
-use Rattle.act_serve.specs.declared.turn.Finished.{Finished}
-use Rattle.act_console.specs.Threads.{end_text}
+use Rattle.act_console.proofs.Common.{◌≡◌, ◌++◌, List, ℕ, map, string_bytes, option_copied, option_map, ap, sym, ◌∙◌, append-nil, space, actor_text, RunItem}
+use Rattle.act_console.proofs.Common.{line, numbered_lines, item_line, end_view, Finished, end_text}
 use Rattle.act_console.proofs.Joined.{no_end, one_end, two_parts}
 use Rattle.act_console.proofs.summary.push_ended.Goals as goal
 

@@ -1,7 +1,4 @@
-use Rattle.std.proofs.Common.{map, string_bytes}
-use Rattle.act_serve.specs.Served.{end_view}
-use Rattle.act_serve.specs.declared.turn.Finished.{Finished}
-use Rattle.act_console.specs.Threads.{end_lines_in}
+use Rattle.act_console.proofs.Common.{map, string_bytes, end_view, Finished, end_lines_in}
 use Rattle.act_console.proofs.Shown.{next_lines}
 use Rattle.act_console.proofs.summary.push_ends.Goals as goal
 

@@ -1,9 +1,4 @@
-use Rattle.std.proofs.Common.{◌≡◌, ◌++◌, map, string_bytes}
-use Rattle.std.specs.List.{flat_map}
-use Rattle.act_serve.specs.Served.{end_view}
-use Rattle.act_serve.specs.declared.turn.Finished.{Finished}
-use Rattle.act_rules.specs.Report.{one_to}
-use Rattle.act_console.specs.Threads.{end_lines_in}
+use Rattle.act_console.proofs.Common.{◌≡◌, ◌++◌, map, string_bytes, flat_map, end_view, Finished, one_to, end_lines_in}
 use Rattle.act_console.proofs.summary.push_ends.Given as goal
 
 -- the lines so far are written

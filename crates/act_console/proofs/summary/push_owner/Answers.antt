@@ -1,5 +1,4 @@
-use Rattle.std.proofs.Common.{◌≡◌, ◌++◌, List, ℕ, string_bytes, option_copied, ap, sym, ◌∙◌}
-use Rattle.std.proofs.lemmas.List.{append-nil}
+use Rattle.act_console.proofs.Common.{◌≡◌, ◌++◌, List, ℕ, string_bytes, option_copied, ap, sym, ◌∙◌, append-nil}
 use Rattle.act_console.proofs.Joined.{no_owner, one_owner}
 use Rattle.act_console.proofs.summary.push_owner.Goals as goal
 

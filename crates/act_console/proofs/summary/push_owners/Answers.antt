@@ -1,5 +1,4 @@
-use Rattle.std.proofs.Common.{string_bytes}
-use Rattle.act_console.specs.Threads.{owner_lines_in}
+use Rattle.act_console.proofs.Common.{string_bytes, owner_lines_in}
 use Rattle.act_console.proofs.Shown.{next_lines}
 use Rattle.act_console.proofs.summary.push_owners.Goals as goal
 

@@ -1,7 +1,4 @@
-use Rattle.std.proofs.Common.{◌≡◌, ◌++◌, string_bytes}
-use Rattle.std.specs.List.{flat_map}
-use Rattle.act_rules.specs.Report.{one_to}
-use Rattle.act_console.specs.Threads.{owner_lines_in}
+use Rattle.act_console.proofs.Common.{◌≡◌, ◌++◌, string_bytes, flat_map, one_to, owner_lines_in}
 use Rattle.act_console.proofs.summary.push_owners.Given as goal
 
 -- the lines so far are written

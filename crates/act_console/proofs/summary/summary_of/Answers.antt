@@ -1,6 +1,4 @@
-use Rattle.std.proofs.Common.{map, string_bytes}
-use Rattle.act_serve.specs.Served.{end_view}
-use Rattle.act_serve.specs.declared.turn.Finished.{Finished}
+use Rattle.act_console.proofs.Common.{map, string_bytes, end_view, Finished}
 use Rattle.act_console.proofs.Joined.{both_parts}
 use Rattle.act_console.proofs.summary.summary_of.Goals as goal
 

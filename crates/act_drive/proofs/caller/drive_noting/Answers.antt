@@ -1,5 +1,4 @@
-use Rattle.std.proofs.Common.{refl}
-use Rattle.act_handles.specs.Handles.{actors_in}
+use Rattle.act_drive.proofs.Common.{refl, actors_in}
 use Rattle.act_drive.proofs.Done.{fresh_calling, fresh_follows, driven_of, unset_flags}
 use Rattle.act_drive.proofs.Tracing.{fresh_tracing}
 use Rattle.act_drive.proofs.caller.drive_noting.Goals as goal

@@ -1,7 +1,4 @@
-use Rattle.std.proofs.Common.{subst, refl, sym}
-use Rattle.act_owner.specs.Owner.{OwnerView}
-use Rattle.act_drive.specs.Driven.{IsFreshCaller}
-use Rattle.act_drive.specs.Coded.{HasRunCode}
+use Rattle.act_drive.proofs.Common.{subst, refl, sym, OwnerView, IsFreshCaller, HasRunCode}
 use Rattle.act_drive.proofs.Done.{fresh_calling, fresh_follows, unset_flags}
 use Rattle.act_drive.proofs.Worked.{run_code}
 use Rattle.act_drive.proofs.coded.drive_code.Goals as goal

@@ -1,7 +1,4 @@
-use Rattle.std.proofs.Common.{◌≡◌}
-use Rattle.act_handles.specs.Handles.{actors_in}
-use Rattle.act_drive.specs.declared.driver.CallerLines.{CallerLines}
-use Rattle.act_drive.specs.declared.driver.Driver.{Driver}
+use Rattle.act_drive.proofs.Common.{◌≡◌, actors_in, CallerLines, Driver}
 use Rattle.act_drive.proofs.coded.drive_code.Given as goal
 
 abbrev pub ghosts-work : goal.ghosts-work

@@ -1,6 +1,4 @@
-use Rattle.std.proofs.Common.{rules, subst}
-use Rattle.act_drive.specs.declared.driver.CallerLines.{CallerLines}
-use Rattle.act_drive.specs.Driven.{IsCalling}
+use Rattle.act_drive.proofs.Common.{rules, subst, CallerLines, IsCalling}
 use Rattle.act_drive.proofs.AtWork.{work_begun}
 use Rattle.act_drive.proofs.Worked.{has_worked}
 use Rattle.act_drive.proofs.coded.work.Goals as goal

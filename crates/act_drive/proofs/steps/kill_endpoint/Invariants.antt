@@ -1,5 +1,4 @@
-use Rattle.std.proofs.Common.{All, take}
-use Rattle.act_drive.specs.Driven.{IsElsewhere}
+use Rattle.act_drive.proofs.Common.{All, take, IsElsewhere}
 use Rattle.act_drive.proofs.steps.kill_endpoint.Given as goal
 
 abbrev pub invariant-loop-at : goal.invariant-loop-at

@@ -1,4 +1,4 @@
-use Rattle.std.proofs.Common.{refl, ap}
+use Rattle.std.proofs.Common.{refl}
 use Rattle.act_ends.proofs.Scripted.{planned_as}
 use Rattle.act_ends.proofs.planned.planned_of.Goals as goal
 

@@ -1,9 +1,4 @@
-use Rattle.std.proofs.Common.{◌≡◌, ℕ, map, sym, subst}
-use Rattle.act_actor.specs.Casts.{actor_spec}
-use Rattle.act_executor.specs.declared.run.RunFault.{RunFault}
-use Rattle.act_executor.specs.ByCode.{code_of}
-use Rattle.act_executor.specs.Conducts.{does_code}
-use Rattle.act_executor.specs.Runs.{plan_view, IsFault, IsThreadFault}
+use Rattle.act_executor.proofs.Common.{◌≡◌, ℕ, map, sym, subst, actor_spec, RunFault, code_of, does_code, plan_view, IsFault, IsThreadFault}
 use Rattle.act_executor.proofs.Faults.{err_only, of_threads}
 use Rattle.act_executor.proofs.Joining.{is_joined_by, is_played_by, is_played_of_steps}
 use Rattle.act_executor.proofs.by_code.run_callers.Goals as goal

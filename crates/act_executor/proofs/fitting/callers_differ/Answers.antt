@@ -1,5 +1,4 @@
-use Rattle.std.proofs.Common.{◌≢◌, ℕ, true≢false, sym, ◌∙◌, refl}
-use Rattle.act_actor.proofs.Pairs.{differ_more, differ_not, pairs_all}
+use Rattle.act_executor.proofs.Common.{◌≢◌, ℕ, true≢false, sym, ◌∙◌, refl, differ_more, differ_not, pairs_all}
 use Rattle.act_executor.proofs.fitting.callers_differ.Goals as goal
 
 pub returns-then-has_code : goal.returns-then-has_code

@@ -1,8 +1,5 @@
-use Rattle.std.proofs.Common.{◌≡◌, ℕ, ◌==◌, not, Bool, true, false, true≢false, refl, ap, sym, ◌∙◌}
-use Rattle.std.specs.List.{list_any}
-use Rattle.std.proofs.lemmas.List.Sums.{list_all-from_AllPass, AllPass-from_list_all}
-use Rattle.std.specs.Global.{Vec}
-use Rattle.act_rules.specs.declared.script.Step.{Step}
+use Rattle.act_executor.proofs.Common.{◌≡◌, ℕ, ◌==◌, not, Bool, true, false, true≢false, refl, ap, sym, ◌∙◌, list_any, list_all-from_AllPass}
+use Rattle.act_executor.proofs.Common.{AllPass-from_list_all, Vec, Step}
 use Rattle.act_executor.proofs.fitting.codes_fit.Goals as goal
 use Rattle.act_executor.proofs.fitting.codes_fit.Goals.{then-callers_differ, else-callers_differ}
 

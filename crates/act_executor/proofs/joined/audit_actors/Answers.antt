@@ -1,10 +1,5 @@
-use Rattle.std.proofs.Common.{◌≡◌, ◌<◌, List, length, map, get_or, All, ap, sym, ◌∙◌, subst, arith}
-use Rattle.std.proofs.Math.Seq.{map-set_same}
-use Rattle.act_mailbox.specs.Notices.{ReplyExecView}
-use Rattle.act_mailbox.specs.declared.thread.Endpoint.{Endpoint}
-use Rattle.act_serve.specs.declared.turn.Finished.{Finished}
-use Rattle.act_drive.specs.declared.caller.Driven.{Driven}
-use Rattle.act_executor.specs.Audits.{SitsAtReplies, NoticeTold, ActorLeft, left_of}
+use Rattle.act_executor.proofs.Common.{◌≡◌, ◌<◌, List, length, map, get_or, All, ap, sym, ◌∙◌, subst, arith, map-set_same, ReplyExecView, Endpoint, Finished}
+use Rattle.act_executor.proofs.Common.{Driven, SitsAtReplies, NoticeTold, ActorLeft, left_of}
 use Rattle.act_executor.proofs.Lists.{told_next, any_default, same_place}
 use Rattle.act_executor.proofs.joined.audit_actors.Goals as goal
 

@@ -1,6 +1,4 @@
-use Rattle.std.proofs.Common.{◌≡◌, ℕ, ◌<◌, map, get_or, All}
-use Rattle.act_serve.specs.declared.turn.Finished.{Finished}
-use Rattle.act_executor.specs.Audits.{NoticeTold, left_of}
+use Rattle.act_executor.proofs.Common.{◌≡◌, ℕ, ◌<◌, map, get_or, All, Finished, NoticeTold, left_of}
 use Rattle.act_executor.proofs.joined.audit_actors.Given as goal
 
 abbrev pub invariant-loop-at : goal.invariant-loop-at

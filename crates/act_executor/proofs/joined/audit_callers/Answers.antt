@@ -1,11 +1,5 @@
-use Rattle.std.proofs.Common.{rules, ◌≡◌, ◌++◌, List, map, All, ap, sym, ◌∙◌, subst, refl}
-use Rattle.std.specs.Vec.Iter.{into_iter_items}
-use Rattle.act_mailbox.specs.Mails.{MailView}
-use Rattle.act_mailbox.specs.Controls.{ControlView}
-use Rattle.act_owner.specs.Owner.{OwnerView}
-use Rattle.act_serve.specs.declared.turn.Finished.{Finished}
-use Rattle.act_drive.specs.declared.caller.Driven.{Driven}
-use Rattle.act_executor.specs.Audits.{SitsAtMail, SitsAtControl, LetterTold, KillTold, HasEndpoints, CallerTold}
+use Rattle.act_executor.proofs.Common.{rules, ◌≡◌, ◌++◌, List, map, All, ap, sym, ◌∙◌, subst, refl, into_iter_items, MailView, ControlView, OwnerView, Finished}
+use Rattle.act_executor.proofs.Common.{Driven, SitsAtMail, SitsAtControl, LetterTold, KillTold, HasEndpoints, CallerTold}
 use Rattle.act_executor.proofs.Lists.{all_head, all_tail, all_cons, append_over}
 use Rattle.act_executor.proofs.joined.audit_callers.Goals as goal
 

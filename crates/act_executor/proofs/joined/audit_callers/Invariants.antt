@@ -1,7 +1,4 @@
-use Rattle.std.proofs.Common.{◌≡◌, ◌++◌, map, All}
-use Rattle.std.specs.Vec.Iter.{into_iter_items}
-use Rattle.act_drive.specs.declared.caller.Driven.{Driven}
-use Rattle.act_executor.specs.Audits.{HasEndpoints, CallerTold}
+use Rattle.act_executor.proofs.Common.{◌≡◌, ◌++◌, map, All, into_iter_items, Driven, HasEndpoints, CallerTold}
 use Rattle.act_executor.proofs.joined.audit_callers.Given as goal
 
 abbrev pub invariant-loop-caller : goal.invariant-loop-caller

@@ -1,6 +1,4 @@
-use Rattle.std.proofs.Common.{sym, ap, ◌∙◌}
-use Rattle.act_mailbox.specs.Controls.{ControlView}
-use Rattle.act_serve.specs.declared.turn.Finished.{Finished}
+use Rattle.act_executor.proofs.Common.{sym, ap, ◌∙◌, ControlView, Finished}
 use Rattle.act_executor.proofs.Lists.{same_at}
 use Rattle.act_executor.proofs.joined.audit_kill.Goals as goal
 

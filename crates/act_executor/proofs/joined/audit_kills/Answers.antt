@@ -1,7 +1,4 @@
-use Rattle.std.proofs.Common.{List, map, ap, sym, ◌∙◌, subst, refl, All}
-use Rattle.act_mailbox.specs.declared.thread.Endpoint.{Endpoint}
-use Rattle.act_serve.specs.declared.turn.Finished.{Finished}
-use Rattle.act_executor.specs.Audits.{SitsAtControl, KillTold}
+use Rattle.act_executor.proofs.Common.{List, map, ap, sym, ◌∙◌, subst, refl, All, Endpoint, Finished, SitsAtControl, KillTold}
 use Rattle.act_executor.proofs.Lists.{all_head, all_tail, all_cons}
 use Rattle.act_executor.proofs.joined.audit_kills.Goals as goal
 

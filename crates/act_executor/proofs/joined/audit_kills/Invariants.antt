@@ -1,6 +1,4 @@
-use Rattle.std.proofs.Common.{◌≡◌, All}
-use Rattle.std.specs.Vec.Iter.{into_iter_items}
-use Rattle.act_executor.specs.Audits.{SitsAtControl, KillTold}
+use Rattle.act_executor.proofs.Common.{◌≡◌, All, into_iter_items, SitsAtControl, KillTold}
 use Rattle.act_executor.proofs.joined.audit_kills.Given as goal
 
 abbrev pub invariant-loop-endpoint : goal.invariant-loop-endpoint

@@ -1,10 +1,5 @@
-use Rattle.std.proofs.Common.{◌≡◌, ℕ, ◌<◌, length, zip, sym, ap, ◌∙◌, subst, arith}
-use Rattle.std.proofs.lemmas.List.{length-map}
-use Rattle.act_rules.specs.Consistent.{IsPrefix}
-use Rattle.act_mailbox.specs.declared.mail.Letter.{Letter}
-use Rattle.act_mailbox.specs.Lines.{items_from}
-use Rattle.act_mailbox.specs.Mails.{MailView, caller_of}
-use Rattle.act_serve.specs.declared.turn.Finished.{Finished}
+use Rattle.act_executor.proofs.Common.{◌≡◌, ℕ, ◌<◌, length, zip, sym, ap, ◌∙◌, subst, arith, length-map, IsPrefix, Letter, items_from, MailView, caller_of}
+use Rattle.act_executor.proofs.Common.{Finished}
 use Rattle.act_executor.proofs.Lists.{same_at, any_default}
 use Rattle.act_executor.proofs.joined.audit_letter.Goals as goal
 

@@ -1,6 +1,4 @@
-use Rattle.std.proofs.Common.{◌≡◌, All}
-use Rattle.std.specs.Vec.Iter.{into_iter_items}
-use Rattle.act_executor.specs.Audits.{SitsAtMail, LetterTold}
+use Rattle.act_executor.proofs.Common.{◌≡◌, All, into_iter_items, SitsAtMail, LetterTold}
 use Rattle.act_executor.proofs.joined.audit_letters.Given as goal
 
 abbrev pub invariant-loop-endpoint : goal.invariant-loop-endpoint

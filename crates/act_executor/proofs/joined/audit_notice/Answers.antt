@@ -1,6 +1,4 @@
-use Rattle.std.proofs.Common.{sym, ap, ◌∙◌}
-use Rattle.act_mailbox.specs.Notices.{RepliesView}
-use Rattle.act_drive.specs.declared.caller.Driven.{Driven}
+use Rattle.act_executor.proofs.Common.{sym, ap, ◌∙◌, RepliesView, Driven}
 use Rattle.act_executor.proofs.Lists.{same_at}
 use Rattle.act_executor.proofs.joined.audit_notice.Goals as goal
 

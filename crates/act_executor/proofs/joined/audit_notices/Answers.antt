@@ -1,9 +1,4 @@
-use Rattle.std.proofs.Common.{◌≡◌, ◌<◌, List, length, get_or, set, ap, ◌∙◌, subst, arith}
-use Rattle.std.proofs.lemmas.List.{set-get_or}
-use Rattle.act_mailbox.specs.Notices.{ReplyExecView}
-use Rattle.act_mailbox.specs.declared.thread.Endpoint.{Endpoint}
-use Rattle.act_drive.specs.declared.caller.Driven.{Driven}
-use Rattle.act_executor.specs.Audits.{NoticeTold}
+use Rattle.act_executor.proofs.Common.{◌≡◌, ◌<◌, List, length, get_or, set, ap, ◌∙◌, subst, arith, set-get_or, ReplyExecView, Endpoint, Driven, NoticeTold}
 use Rattle.act_executor.proofs.Lists.{told_next, any_default}
 use Rattle.act_executor.proofs.joined.audit_notices.Goals as goal
 

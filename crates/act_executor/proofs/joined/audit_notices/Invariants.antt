@@ -1,7 +1,4 @@
-use Rattle.std.proofs.Common.{◌≡◌, ℕ, ◌<◌, get_or}
-use Rattle.act_mailbox.specs.Notices.{ReplyExecView}
-use Rattle.act_mailbox.specs.declared.thread.Endpoint.{Endpoint}
-use Rattle.act_executor.specs.Audits.{NoticeTold}
+use Rattle.act_executor.proofs.Common.{◌≡◌, ℕ, ◌<◌, get_or, ReplyExecView, Endpoint, NoticeTold}
 use Rattle.act_executor.proofs.joined.audit_notices.Given as goal
 
 abbrev pub invariant-loop-at : goal.invariant-loop-at

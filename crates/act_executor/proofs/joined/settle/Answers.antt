@@ -1,11 +1,5 @@
-use Rattle.std.proofs.Common.{rules, List, map, All, ap, sym, ◌∙◌, subst}
-use Rattle.act_mailbox.specs.Controls.{ControlView}
-use Rattle.act_mailbox.specs.Notices.{RepliesView}
-use Rattle.act_serve.specs.declared.turn.Finished.{Finished}
-use Rattle.act_drive.specs.declared.caller.Driven.{Driven}
-use Rattle.act_executor.specs.Audits.{SitsAtReplies, SitsAtControl, HasEndpoints, KillTold, CallerTold, ActorLeft, left_of}
-use Rattle.act_serve.specs.Served.{end_view}
-use Rattle.act_executor.specs.Joined.{is_starved}
+use Rattle.act_executor.proofs.Common.{rules, List, map, All, ap, sym, ◌∙◌, subst, ControlView, RepliesView, Finished, Driven, SitsAtReplies, SitsAtControl}
+use Rattle.act_executor.proofs.Common.{HasEndpoints, KillTold, CallerTold, ActorLeft, left_of, end_view, is_starved}
 use Rattle.act_executor.proofs.Settled.{seen_through, none_any}
 use Rattle.act_executor.proofs.joined.settle.Goals as goal
 

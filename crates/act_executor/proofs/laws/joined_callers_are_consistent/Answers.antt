@@ -1,7 +1,4 @@
-use Rattle.std.proofs.Common.{List}
-use Rattle.act_rules.specs.declared.script.Step.{Step}
-use Rattle.act_drive.specs.declared.caller.Driven.{Driven}
-use Rattle.act_executor.specs.ByCode.{IsDrivenBy}
+use Rattle.act_executor.proofs.Common.{List, Step, Driven, IsDrivenBy}
 use Rattle.act_executor.proofs.Elements.{all_in, all_by_places}
 use Rattle.act_executor.proofs.ByCode.{is_joined_by}
 use Rattle.act_executor.proofs.laws.joined_callers_are_consistent.Goals as goal

@@ -1,6 +1,4 @@
-use Rattle.std.proofs.Common.{◌≡◌, ℕ, ◌++◌, ◌<◌, length, map, get_or}
-use Rattle.std.specs.Vec.Iter.{into_iter_items}
-use Rattle.act_executor.specs.Groups.{endpoint_at, items_of_vec, group_of}
+use Rattle.act_executor.proofs.Common.{◌≡◌, ℕ, ◌++◌, ◌<◌, length, map, get_or, into_iter_items, endpoint_at, items_of_vec, group_of}
 use Rattle.act_executor.proofs.open.deal.Given as goal
 
 abbrev pub invariant-loop-pass : goal.invariant-loop-pass

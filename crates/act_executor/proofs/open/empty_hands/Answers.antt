@@ -1,6 +1,4 @@
-use Rattle.std.proofs.Common.{[], get_or, ℕ}
-use Rattle.std.proofs.lemmas.List.{get_or_default}
-use Rattle.act_executor.specs.Groups.{items_of_vec, group_of}
+use Rattle.act_executor.proofs.Common.{[], get_or, ℕ, get_or_default, items_of_vec, group_of}
 use Rattle.act_executor.proofs.Endpoints.{one_more, next_taken}
 use Rattle.act_executor.proofs.open.empty_hands.Goals as goal
 

@@ -1,5 +1,4 @@
-use Rattle.std.proofs.Common.{[], take}
-use Rattle.act_executor.specs.Groups.{AreHands}
+use Rattle.act_executor.proofs.Common.{[], take, AreHands}
 use Rattle.act_executor.proofs.open.empty_hands.Given as goal
 
 abbrev pub invariant-loop : goal.invariant-loop

@@ -1,8 +1,4 @@
-use Rattle.std.proofs.Common.{rules, length, map, inl, inr, refl, ap, sym, ◌∙◌, arith}
-use Rattle.std.specs.Vec.Iter.{into_iter_items}
-use Rattle.act_mailbox.specs.declared.thread.Endpoint.{Endpoint}
-use Rattle.act_serve.specs.declared.turn.ExecPasses.{ExecPasses}
-use Rattle.act_executor.specs.Groups.{items_of_vec}
+use Rattle.act_executor.proofs.Common.{rules, length, map, inl, inr, refl, ap, sym, ◌∙◌, arith, into_iter_items, Endpoint, ExecPasses, items_of_vec}
 use Rattle.act_executor.proofs.Pairs.{one_done, all_done, used_up, placed}
 use Rattle.act_executor.proofs.open.exec_passes.Goals as goal
 

@@ -1,7 +1,4 @@
-use Rattle.std.proofs.Common.{◌≡◌, ◌++◌, length, map}
-use Rattle.std.specs.List.{range_with_len}
-use Rattle.std.specs.Vec.Iter.{into_iter_items, into_iter_len}
-use Rattle.act_executor.specs.Groups.{items_of_vec}
+use Rattle.act_executor.proofs.Common.{◌≡◌, ◌++◌, length, map, range_with_len, into_iter_items, into_iter_len, items_of_vec}
 use Rattle.act_executor.proofs.open.exec_passes.Given as goal
 
 abbrev pub invariant-loop-letters : goal.invariant-loop-letters

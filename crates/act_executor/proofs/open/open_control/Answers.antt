@@ -1,13 +1,5 @@
-use Rattle.std.proofs.Common.{◌≡◌, ℕ, ◌<◌, List, [], ◌∷◌, All, arith, length, map, take, ap, sym, ◌∙◌, subst}
-use Rattle.std.proofs.lemmas.List.{length-take-le}
-use Rattle.std.proofs.lemmas.List.Elements.{All-push}
-use Rattle.std.proofs.lemmas.Result.{IfOk-weaker}
-use Rattle.act_actor.specs.declared.cast.Cast.{Cast}
-use Rattle.act_mailbox.specs.Controls.{ControlView, ControlExecView, starter}
-use Rattle.act_mailbox.specs.Passes.{PutterView, new_putter}
-use Rattle.act_mailbox.specs.declared.control.Asked.{Asked}
-use Rattle.act_mailbox.specs.declared.thread.Endpoint.{Endpoint}
-use Rattle.act_executor.specs.Groups.{AreHands}
+use Rattle.act_executor.proofs.Common.{◌≡◌, ℕ, ◌<◌, List, [], ◌∷◌, All, arith, length, map, take, ap, sym, ◌∙◌, subst, length-take-le, All-push, IfOk-weaker}
+use Rattle.act_executor.proofs.Common.{Cast, ControlView, ControlExecView, starter, PutterView, new_putter, Asked, Endpoint, AreHands}
 use Rattle.act_executor.proofs.Places.{as_long}
 use Rattle.act_executor.proofs.Gathered.{hands_long, dealt_more}
 use Rattle.act_executor.proofs.Endpoints.{endpoints_more, one_more, next_taken, next_pushed}

@@ -1,5 +1,4 @@
-use Rattle.std.proofs.Common.{take}
-use Rattle.act_executor.specs.SoFar.{AreControls}
+use Rattle.act_executor.proofs.Common.{take, AreControls}
 use Rattle.act_executor.proofs.open.open_controls.Given as goal
 
 abbrev pub invariant-loop-place : goal.invariant-loop-place

@@ -1,20 +1,6 @@
-use Rattle.std.proofs.Common.{rules, ◌≡◌, ℕ, List, [], length, map, ap, sym, ◌∙◌, subst}
-use Rattle.std.proofs.lemmas.List.{length-map}
-use Rattle.act_actor.specs.Cast.{CallersDiffer}
-use Rattle.act_actor.specs.declared.cast.Cast.{Cast}
-use Rattle.act_mailbox.specs.Passes.{PutterView, TakerView}
-use Rattle.act_mailbox.specs.Mails.{MailView}
-use Rattle.act_mailbox.specs.Controls.{ControlExecView}
-use Rattle.act_mailbox.specs.Notices.{RepliesView, ReplyExecView}
-use Rattle.act_mailbox.specs.declared.mail.Letter.{Letter}
-use Rattle.act_mailbox.specs.declared.control.Asked.{Asked}
-use Rattle.act_types.specs.declared.call.Notice.{Notice}
-use Rattle.act_rules.specs.declared.history.RunItem.{RunItem}
-use Rattle.act_mailbox.specs.declared.thread.Endpoint.{Endpoint}
-use Rattle.act_serve.specs.declared.turn.ExecPasses.{ExecPasses}
-use Rattle.act_drive.specs.declared.driver.CallerPasses.{CallerPasses}
-use Rattle.act_plans.specs.declared.rising.CallerSetup.{CallerSetup}
-use Rattle.act_executor.specs.Groups.{items_of_vec, group_of}
+use Rattle.act_executor.proofs.Common.{rules, ◌≡◌, ℕ, List, [], length, map, ap, sym, ◌∙◌, subst, length-map, CallersDiffer, Cast, PutterView, TakerView}
+use Rattle.act_executor.proofs.Common.{MailView, ControlExecView, RepliesView, ReplyExecView, Letter, Asked, Notice, RunItem, Endpoint, ExecPasses}
+use Rattle.act_executor.proofs.Common.{CallerPasses, CallerSetup, items_of_vec, group_of}
 use Rattle.act_executor.proofs.Places.{as_long, all_through, map_apart}
 use Rattle.act_executor.proofs.Gathered.{hands_long, dealt_by, by_way}
 use Rattle.act_executor.proofs.Dealt.{AreDealt, are_opened}

@@ -1,13 +1,5 @@
-use Rattle.std.proofs.Common.{◌≡◌, ℕ, ◌<◌, List, [], All, arith, length, map, take, ap, sym, ◌∙◌, subst}
-use Rattle.std.proofs.lemmas.List.{length-take-le}
-use Rattle.std.proofs.lemmas.List.Elements.{All-push}
-use Rattle.std.proofs.lemmas.Result.{IfOk-weaker}
-use Rattle.act_actor.specs.declared.cast.Cast.{Cast}
-use Rattle.act_mailbox.specs.declared.mail.Letter.{Letter}
-use Rattle.act_mailbox.specs.Mails.{MailView}
-use Rattle.act_mailbox.specs.Passes.{PutterView, TakerView, new_putter}
-use Rattle.act_mailbox.specs.declared.thread.Endpoint.{Endpoint}
-use Rattle.act_executor.specs.Groups.{AreHands}
+use Rattle.act_executor.proofs.Common.{◌≡◌, ℕ, ◌<◌, List, [], All, arith, length, map, take, ap, sym, ◌∙◌, subst, length-take-le, All-push, IfOk-weaker, Cast}
+use Rattle.act_executor.proofs.Common.{Letter, MailView, PutterView, TakerView, new_putter, Endpoint, AreHands}
 use Rattle.act_executor.proofs.Places.{as_long}
 use Rattle.act_executor.proofs.Gathered.{hands_long, dealt_more}
 use Rattle.act_executor.proofs.Endpoints.{endpoints_more, one_more, next_taken, next_pushed}

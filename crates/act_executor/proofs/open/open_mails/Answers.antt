@@ -1,7 +1,4 @@
-use Rattle.std.proofs.Common.{rules, List, arith, subst}
-use Rattle.std.proofs.lemmas.List.{take_all}
-use Rattle.act_actor.specs.declared.cast.Cast.{Cast}
-use Rattle.act_executor.specs.SoFar.{AreMails}
+use Rattle.act_executor.proofs.Common.{rules, List, arith, subst, take_all, Cast, AreMails}
 use Rattle.act_executor.proofs.open.open_mails.Goals as goal
 
 pub loop-place-init : goal.loop-place-init

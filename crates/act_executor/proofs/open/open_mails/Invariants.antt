@@ -1,5 +1,4 @@
-use Rattle.std.proofs.Common.{take}
-use Rattle.act_executor.specs.SoFar.{AreMails}
+use Rattle.act_executor.proofs.Common.{take, AreMails}
 use Rattle.act_executor.proofs.open.open_mails.Given as goal
 
 abbrev pub invariant-loop-place : goal.invariant-loop-place

@@ -1,7 +1,4 @@
-use Rattle.std.proofs.Common.{rules, List, arith, subst}
-use Rattle.std.proofs.lemmas.List.{take_all}
-use Rattle.act_plans.specs.declared.rising.CallerSetup.{CallerSetup}
-use Rattle.act_executor.specs.SoFar.{AreReplies}
+use Rattle.act_executor.proofs.Common.{rules, List, arith, subst, take_all, CallerSetup, AreReplies}
 use Rattle.act_executor.proofs.open.open_replies.Goals as goal
 
 pub loop-place-init : goal.loop-place-init

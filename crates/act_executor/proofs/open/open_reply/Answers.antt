@@ -1,14 +1,5 @@
-use Rattle.std.proofs.Common.{◌≡◌, ℕ, ◌<◌, List, [], All, arith, length, map, take, ap, sym, ◌∙◌, subst}
-use Rattle.std.proofs.lemmas.List.{length-take-le}
-use Rattle.std.proofs.lemmas.List.Elements.{All-push}
-use Rattle.std.proofs.lemmas.Result.{IfOk-weaker}
-use Rattle.act_types.specs.declared.call.Notice.{Notice}
-use Rattle.act_rules.specs.declared.history.RunItem.{RunItem}
-use Rattle.act_mailbox.specs.Notices.{RepliesView, ReplyExecView, new_exec}
-use Rattle.act_mailbox.specs.Passes.{TakerView}
-use Rattle.act_plans.specs.declared.rising.CallerSetup.{CallerSetup}
-use Rattle.act_mailbox.specs.declared.thread.Endpoint.{Endpoint}
-use Rattle.act_executor.specs.Groups.{AreHands}
+use Rattle.act_executor.proofs.Common.{◌≡◌, ℕ, ◌<◌, List, [], All, arith, length, map, take, ap, sym, ◌∙◌, subst, length-take-le, All-push, IfOk-weaker, Notice}
+use Rattle.act_executor.proofs.Common.{RunItem, RepliesView, ReplyExecView, new_exec, TakerView, CallerSetup, Endpoint, AreHands}
 use Rattle.act_executor.proofs.Places.{as_long}
 use Rattle.act_executor.proofs.Gathered.{hands_long, dealt_more}
 use Rattle.act_executor.proofs.Endpoints.{endpoints_more, one_more, next_taken, next_pushed}

@@ -1,12 +1,6 @@
-use Rattle.std.proofs.Common.{◌≡◌, List, map, slice_get, sym, ap, ◌∙◌}
-use Rattle.std.specs.Prelude.{filter_map}
-use Rattle.act_actor.specs.Casts.{actor_spec}
-use Rattle.act_plans.specs.declared.rising.CallerSetup.{CallerSetup}
-use Rattle.act_plans.specs.Prepared.{bad_of_setup}
-use Rattle.act_plans.proofs.ActorSpecs.{bad_view}
-use Rattle.act_executor.specs.declared.run.RunFault.{RunFault}
+use Rattle.act_executor.proofs.Common.{◌≡◌, List, map, slice_get, sym, ap, ◌∙◌, filter_map, actor_spec, CallerSetup, bad_of_setup, bad_view, RunFault}
+use Rattle.act_executor.proofs.Common.{plan_view, IsFault}
 use Rattle.act_executor.specs.declared.run.RunFault.TheVariants as fault
-use Rattle.act_executor.specs.Runs.{plan_view, IsFault}
 use Rattle.act_executor.proofs.Faults.{err_only, want_of_memory, none_left, all_good}
 use Rattle.act_executor.proofs.run.prepare_good.Goals as goal
 

@@ -1,8 +1,4 @@
-use Rattle.std.proofs.Common.{◌≡◌, map, sym, subst}
-use Rattle.act_actor.specs.Casts.{actor_spec}
-use Rattle.act_executor.specs.declared.run.RunFault.{RunFault}
-use Rattle.act_executor.specs.Conducts.{does_plan}
-use Rattle.act_executor.specs.Runs.{plan_view, IsFault, IsThreadFault}
+use Rattle.act_executor.proofs.Common.{◌≡◌, map, sym, subst, actor_spec, RunFault, does_plan, plan_view, IsFault, IsThreadFault}
 use Rattle.act_executor.proofs.Faults.{err_only, of_threads}
 use Rattle.act_executor.proofs.Joining.{is_joined, is_played, is_played_as_planned}
 use Rattle.act_executor.proofs.run.run_plans_noting.Goals as goal

@@ -1,10 +1,4 @@
-use Rattle.std.proofs.Common.{◌≡◌, List, sym, subst}
-use Rattle.act_tasks.specs.Each.{Each}
-use Rattle.act_serve.specs.declared.turn.Finished.{Finished}
-use Rattle.act_drive.specs.declared.caller.Driven.{Driven}
-use Rattle.act_executor.specs.Work.{IsServedBy, IsDrivenTo}
-use Rattle.act_executor.specs.declared.run.RunFault.{RunFault}
-use Rattle.act_executor.specs.Runs.{IsThreadFault, fault_of}
+use Rattle.act_executor.proofs.Common.{◌≡◌, List, sym, subst, Each, Finished, Driven, IsServedBy, IsDrivenTo, RunFault, IsThreadFault, fault_of}
 use Rattle.act_executor.proofs.Faults.{err_only, refused}
 use Rattle.act_executor.proofs.Tasks.{each_first}
 use Rattle.act_executor.proofs.run.run_tasks.Goals as goal

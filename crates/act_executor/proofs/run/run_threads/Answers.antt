@@ -1,10 +1,5 @@
-use Rattle.std.proofs.Common.{ℕ, List, map, sym, ap, ◌∙◌, subst}
-use Rattle.std.proofs.lemmas.Result.{IfOk-weaker}
-use Rattle.act_mailbox.specs.declared.control.Asked.{Asked}
-use Rattle.act_mailbox.specs.Passes.{PutterView, new_putter}
-use Rattle.act_mailbox.specs.Controls.{ControlView, starter}
-use Rattle.act_mailbox.specs.declared.thread.Endpoint.{Endpoint}
-use Rattle.act_executor.specs.Joins.{AreStarters}
+use Rattle.act_executor.proofs.Common.{ℕ, List, map, sym, ap, ◌∙◌, subst, IfOk-weaker, Asked, PutterView, new_putter, ControlView, starter, Endpoint}
+use Rattle.act_executor.proofs.Common.{AreStarters}
 use Rattle.act_executor.proofs.Tasks.{all_served, all_driven}
 use Rattle.act_executor.proofs.run.run_threads.Goals as goal
 

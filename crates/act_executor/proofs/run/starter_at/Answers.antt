@@ -1,10 +1,4 @@
-use Rattle.std.proofs.Common.{rules, ◌≡◌, [], ℕ, refl, sym, ◌∙◌}
-use Rattle.std.specs.Vec.Iter.{into_iter_items}
-use Rattle.std.proofs.lemmas.List.{nil_from_length}
-use Rattle.act_mailbox.specs.declared.control.Asked.{Asked}
-use Rattle.act_mailbox.specs.Passes.{PutterView}
-use Rattle.act_mailbox.specs.declared.thread.Endpoint.{Endpoint}
-use Rattle.act_executor.specs.Joins.{AreStarters}
+use Rattle.act_executor.proofs.Common.{rules, ◌≡◌, [], ℕ, refl, sym, ◌∙◌, into_iter_items, nil_from_length, Asked, PutterView, Endpoint, AreStarters}
 use Rattle.act_executor.proofs.Pairs.{one_done, all_done, placed}
 use Rattle.act_executor.proofs.Prepared.{starters_sit}
 use Rattle.act_executor.proofs.Starters.{are_starters}

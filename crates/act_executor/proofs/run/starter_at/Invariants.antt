@@ -1,6 +1,4 @@
-use Rattle.std.proofs.Common.{◌≡◌, ◌++◌, length, map}
-use Rattle.std.specs.List.{range_with_len}
-use Rattle.std.specs.Vec.Iter.{into_iter_items, into_iter_len}
+use Rattle.act_executor.proofs.Common.{◌≡◌, ◌++◌, length, map, range_with_len, into_iter_items, into_iter_len}
 use Rattle.act_executor.proofs.run.starter_at.Given as goal
 
 abbrev pub invariant-loop-pass : goal.invariant-loop-pass

@@ -1,5 +1,4 @@
-use Rattle.std.proofs.Common.{[], ◌∷◌, ◌++◌, List, map, ap, sym, ◌∙◌, append_assoc}
-use Rattle.std.specs.Vec.Iter.{into_iter_items}
+use Rattle.act_executor.proofs.Common.{[], ◌∷◌, ◌++◌, List, map, ap, sym, ◌∙◌, append_assoc, into_iter_items}
 use Rattle.act_executor.proofs.run.unzip.Goals as goal
 
 pub loop-pair-preserved : goal.loop-pair-preserved

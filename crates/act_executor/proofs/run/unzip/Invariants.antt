@@ -1,5 +1,4 @@
-use Rattle.std.proofs.Common.{◌≡◌, ◌++◌, map}
-use Rattle.std.specs.Vec.Iter.{into_iter_items}
+use Rattle.act_executor.proofs.Common.{◌≡◌, ◌++◌, map, into_iter_items}
 use Rattle.act_executor.proofs.run.unzip.Given as goal
 
 abbrev pub invariant-loop-pair : goal.invariant-loop-pair

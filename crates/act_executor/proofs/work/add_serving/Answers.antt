@@ -1,6 +1,4 @@
-use Rattle.std.proofs.Common.{[], ◌∷◌, ◌++◌, map, All, ap, sym, ◌∙◌, subst}
-use Rattle.std.proofs.lemmas.List.Elements.{All-push}
-use Rattle.act_executor.specs.Work.{CanServe, serving_start}
+use Rattle.act_executor.proofs.Common.{[], ◌∷◌, ◌++◌, map, All, ap, sym, ◌∙◌, subst, All-push, CanServe, serving_start}
 use Rattle.act_executor.proofs.Endpoints.{next_pushed}
 use Rattle.act_executor.proofs.work.add_serving.Goals as goal
 

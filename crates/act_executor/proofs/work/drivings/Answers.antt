@@ -1,15 +1,7 @@
-use Rattle.std.proofs.Common.{rules, ◌≡◌, ◌≢◌, suc, ◌<◌, ◌++◌, ◌∷◌, List, length, map, zip, get_or, All, AllPairs, None, ◌⊎◌, inl, inr, ap, sym, ◌∙◌, subst, refl, arith}
-use Rattle.std.specs.Vec.Iter.{into_iter_items}
+use Rattle.act_executor.proofs.Common.{rules, ◌≡◌, ◌≢◌, suc, ◌<◌, ◌++◌, ◌∷◌, List, length, map, zip, get_or, All, AllPairs, None, ◌⊎◌, inl, inr, ap, sym, ◌∙◌}
+use Rattle.act_executor.proofs.Common.{subst, refl, arith, into_iter_items, first_bad, Endpoint, CallerPasses, CallersDiffer, Each, CallerSetup, HasLimits}
+use Rattle.act_executor.proofs.Common.{IsCaller, driving_start, setup_start}
 use Rattle.std.proofs.lemmas.List.{append-nil}
-use Rattle.act_rules.specs.Plans.{first_bad}
-use Rattle.act_mailbox.specs.declared.thread.Endpoint.{Endpoint}
-use Rattle.act_drive.specs.declared.driver.CallerPasses.{CallerPasses}
-use Rattle.act_actor.specs.Cast.{CallersDiffer}
-use Rattle.act_tasks.specs.Each.{Each}
-use Rattle.act_plans.specs.declared.rising.CallerSetup.{CallerSetup}
-use Rattle.act_plans.specs.Setups.{HasLimits}
-use Rattle.act_executor.specs.Opened.{IsCaller}
-use Rattle.act_executor.specs.Work.{driving_start, setup_start}
 use Rattle.act_executor.proofs.Lists.{all_head, all_tail, each_pop, append_over, nothing_zips}
 use Rattle.act_executor.proofs.work.drivings.Goals as goal
 

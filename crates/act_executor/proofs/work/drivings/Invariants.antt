@@ -1,11 +1,5 @@
-use Rattle.std.proofs.Common.{◌≡◌, ◌≢◌, ◌<◌, ◌++◌, length, map, zip, All, AllPairs, None}
-use Rattle.std.specs.Vec.Iter.{into_iter_items, into_iter_len}
-use Rattle.act_rules.specs.Plans.{first_bad}
-use Rattle.act_actor.specs.Cast.{CallersDiffer}
-use Rattle.act_tasks.specs.Each.{Each}
-use Rattle.act_plans.specs.Setups.{HasLimits}
-use Rattle.act_executor.specs.Opened.{IsCaller}
-use Rattle.act_executor.specs.Work.{CanDrive, driving_start, setup_start}
+use Rattle.act_executor.proofs.Common.{◌≡◌, ◌≢◌, ◌<◌, ◌++◌, length, map, zip, All, AllPairs, None, into_iter_items, into_iter_len, first_bad, CallersDiffer}
+use Rattle.act_executor.proofs.Common.{Each, HasLimits, IsCaller, CanDrive, driving_start, setup_start}
 use Rattle.act_executor.proofs.work.drivings.Given as goal
 
 abbrev pub invariant-loop-setup : goal.invariant-loop-setup

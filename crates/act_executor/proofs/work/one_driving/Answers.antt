@@ -1,9 +1,5 @@
-use Rattle.std.proofs.Common.{rules, ◌≡◌, ◌≢◌, ℕ, List, AllPairs, Option, get_or, ap, sym, ◌∙◌, subst}
-use Rattle.act_mailbox.specs.Mails.{MailView}
-use Rattle.act_mailbox.specs.Controls.{ControlView}
-use Rattle.act_mailbox.specs.Notices.{RepliesView}
-use Rattle.act_drive.specs.Driven.{IsUnusedCaller}
-use Rattle.act_owner.specs.Owner.{opened_with}
+use Rattle.act_executor.proofs.Common.{rules, ◌≡◌, ◌≢◌, ℕ, List, AllPairs, Option, get_or, ap, sym, ◌∙◌, subst, MailView, ControlView, RepliesView}
+use Rattle.act_executor.proofs.Common.{IsUnusedCaller, opened_with}
 use Rattle.act_executor.proofs.Owners.{can_drive, opened_for_setup, limits_differ}
 use Rattle.act_executor.proofs.work.one_driving.Goals as goal
 

@@ -1,5 +1,4 @@
-use Rattle.std.proofs.Common.{◌∙◌, ap}
-use Rattle.act_actor.specs.View.{LiveView}
+use Rattle.act_executor.proofs.Common.{◌∙◌, ap, LiveView}
 use Rattle.act_executor.proofs.work.one_serving.Goals as goal
 
 pub returns-clause-start : goal.returns-clause-start

@@ -1,13 +1,6 @@
-use Rattle.std.proofs.Common.{rules, ◌≡◌, ◌<◌, ◌++◌, ◌∷◌, List, length, map, zip, All, ◌⊎◌, inl, inr, ap, sym, ◌∙◌, subst}
-use Rattle.std.specs.Vec.Iter.{into_iter_items}
+use Rattle.act_executor.proofs.Common.{rules, ◌≡◌, ◌<◌, ◌++◌, ◌∷◌, List, length, map, zip, All, ◌⊎◌, inl, inr, ap, sym, ◌∙◌, subst, into_iter_items, Endpoint}
+use Rattle.act_executor.proofs.Common.{ExecPasses, Cast, CallersDiffer, Each, IsExec, serving_start, cast_start}
 use Rattle.std.proofs.lemmas.List.{append-nil}
-use Rattle.act_mailbox.specs.declared.thread.Endpoint.{Endpoint}
-use Rattle.act_serve.specs.declared.turn.ExecPasses.{ExecPasses}
-use Rattle.act_actor.specs.declared.cast.Cast.{Cast}
-use Rattle.act_actor.specs.Cast.{CallersDiffer}
-use Rattle.act_tasks.specs.Each.{Each}
-use Rattle.act_executor.specs.Opened.{IsExec}
-use Rattle.act_executor.specs.Work.{serving_start, cast_start}
 use Rattle.act_executor.proofs.Lists.{all_head, all_tail, each_pop, append_over, nothing_zips}
 use Rattle.act_executor.proofs.work.servings.Goals as goal
 

@@ -1,9 +1,5 @@
-use Rattle.std.proofs.Common.{◌≡◌, ◌<◌, ◌++◌, length, map, zip, All}
-use Rattle.std.specs.Vec.Iter.{into_iter_items, into_iter_len}
-use Rattle.act_actor.specs.Cast.{CallersDiffer}
-use Rattle.act_tasks.specs.Each.{Each}
-use Rattle.act_executor.specs.Opened.{IsExec}
-use Rattle.act_executor.specs.Work.{CanServe, serving_start, cast_start}
+use Rattle.act_executor.proofs.Common.{◌≡◌, ◌<◌, ◌++◌, length, map, zip, All, into_iter_items, into_iter_len, CallersDiffer, Each, IsExec, CanServe}
+use Rattle.act_executor.proofs.Common.{serving_start, cast_start}
 use Rattle.act_executor.proofs.work.servings.Given as goal
 
 abbrev pub invariant-loop-cast : goal.invariant-loop-cast

@@ -1,7 +1,4 @@
-use Rattle.std.proofs.Common.{ℕ, ◌==◌, ap, sym, ◌∙◌, Some}
-use Rattle.std.specs.Prelude.{option_map}
-use Rattle.act_plans.proofs.Taking.{find_some, others_stay}
-use Rattle.act_rules.proofs.Finding.{find-None}
+use Rattle.act_executor.proofs.Common.{ℕ, ◌==◌, ap, sym, ◌∙◌, Some, option_map, find_some, others_stay, find-None}
 use Rattle.act_executor.proofs.work.take_code.Goals as goal
 
 pub returns-in_err-place-clause-taken : goal.returns-in_err-place-clause-taken

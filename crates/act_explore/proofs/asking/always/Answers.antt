@@ -1,8 +1,4 @@
-use Rattle.std.proofs.Common.{map, None, refl, sym, subst}
-use Rattle.act_rules.specs.History.{History}
-use Rattle.act_rules.specs.Laws.{history}
-use Rattle.act_executor.specs.Runs.{plan_view}
-use Rattle.act_explore.specs.Ends.{HasPassed}
+use Rattle.act_explore.proofs.Common.{map, None, refl, sym, subst, History, history, plan_view, HasPassed}
 use Rattle.act_explore.proofs.Answering.{each_end_weaker, each_run_weaker}
 use Rattle.act_explore.proofs.Oks.{some_weaker, not_none}
 use Rattle.act_explore.proofs.asking.always.Goals as goal

@@ -1,10 +1,4 @@
-use Rattle.std.proofs.Common.{map, sym, subst, All}
-use Rattle.std.proofs.lemmas.List.Elements.{All-nil}
-use Rattle.act_plans.specs.Runs.{plan_of}
-use Rattle.act_executor.specs.Runs.{plan_view}
-use Rattle.act_explore.specs.declared.exploring.Found.{Found}
-use Rattle.act_explore.specs.Ends.{LeadsToEnd, HasPassed}
-use Rattle.act_explore.specs.Found.{IsFoundBy, IsFound}
+use Rattle.act_explore.proofs.Common.{map, sym, subst, All, All-nil, plan_of, plan_view, Found, LeadsToEnd, HasPassed, IsFoundBy, IsFound}
 use Rattle.act_explore.proofs.Answering.{each_end_weaker, each_run_weaker}
 use Rattle.act_explore.proofs.Collecting.{passed_found}
 use Rattle.act_explore.proofs.exploring.explore.Goals as goal

@@ -1,8 +1,5 @@
-use Rattle.std.proofs.Common.{arith, ◌≡◌, ◌+◌, ◌++◌, [], ◌∷◌, flat_map, ap, sym, ◌∙◌, append-nil}
-use Rattle.act_rules.specs.Report.{one_to}
-use Rattle.std.proofs.lemmas.Grind.{flat_map-append}
-use Rattle.act_plans.proofs.Numbers.{one_more}
-use Rattle.act_explore.specs.Paths.{part_of, key_of}
+use Rattle.act_explore.proofs.Common.{arith, ◌≡◌, ◌+◌, ◌++◌, [], ◌∷◌, flat_map, ap, sym, ◌∙◌, append-nil, one_to, flat_map-append, one_more, part_of}
+use Rattle.act_explore.specs.Paths.{key_of}
 use Rattle.act_explore.proofs.key.key_of.Goals as goal
 
 pub loop-before-preserved : goal.loop-before-preserved

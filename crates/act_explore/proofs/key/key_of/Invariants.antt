@@ -1,6 +1,4 @@
-use Rattle.std.proofs.Common.{◌≡◌, string_bytes, flat_map}
-use Rattle.act_rules.specs.Report.{one_to}
-use Rattle.act_explore.specs.Paths.{part_of}
+use Rattle.act_explore.proofs.Common.{◌≡◌, string_bytes, flat_map, one_to, part_of}
 use Rattle.act_explore.proofs.key.key_of.Given as goal
 
 -- the parts of the actors so far

@@ -1,7 +1,4 @@
-use Rattle.std.proofs.Common.{subst}
-use Rattle.std.proofs.lemmas.List.{take_all}
-use Rattle.std.proofs.lemmas.List.Elements.{All-more}
-use Rattle.act_explore.specs.Paths.{HasNumber}
+use Rattle.act_explore.proofs.Common.{subst, take_all, All-more, HasNumber}
 use Rattle.act_explore.proofs.key.know_numbers.Goals as goal
 
 pub loop-choice-preserved : goal.loop-choice-preserved

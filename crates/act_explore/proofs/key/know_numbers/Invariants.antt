@@ -1,5 +1,4 @@
-use Rattle.std.proofs.Common.{All, take}
-use Rattle.act_explore.specs.Paths.{HasNumber}
+use Rattle.act_explore.proofs.Common.{All, take, HasNumber}
 use Rattle.act_explore.proofs.key.know_numbers.Given as goal
 
 -- the choices so far are

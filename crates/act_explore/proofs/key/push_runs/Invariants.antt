@@ -1,5 +1,4 @@
-use Rattle.std.proofs.Common.{◌≡◌, ◌++◌, map, take, string_bytes}
-use Rattle.act_explore.specs.Paths.{runs_in, letter_of}
+use Rattle.act_explore.proofs.Common.{◌≡◌, ◌++◌, map, take, string_bytes, runs_in, letter_of}
 use Rattle.act_explore.proofs.key.push_runs.Given as goal
 
 -- the letters of the choices so far are added

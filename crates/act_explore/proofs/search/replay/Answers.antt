@@ -1,8 +1,4 @@
-use Rattle.std.proofs.Common.{◌≡◌, ◌+◌, List, [], ◌∷◌, ◌++◌, take, map, ap, ◌∙◌, sym, subst}
-use Rattle.std.proofs.lemmas.List.{take_all, take_more}
-use Rattle.act_actor.specs.Casts.{actor_spec}
-use Rattle.act_plan_plays.specs.declared.choice.Choice.{Choice}
-use Rattle.act_explore.specs.Paths.{HasMade}
+use Rattle.act_explore.proofs.Common.{◌≡◌, ◌+◌, List, [], ◌∷◌, ◌++◌, take, map, ap, ◌∙◌, sym, subst, take_all, take_more, actor_spec, Choice, HasMade}
 use Rattle.act_explore.proofs.Paths.{made_more, made_none}
 use Rattle.act_explore.proofs.search.replay.Goals as goal
 

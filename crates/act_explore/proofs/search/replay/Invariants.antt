@@ -1,10 +1,4 @@
-use Rattle.std.proofs.Common.{ℕ, List, take, map}
-use Rattle.act_rules.specs.declared.script.Step.{Step}
-use Rattle.act_actor.specs.Casts.{actor_spec}
-use Rattle.act_early.specs.Plays.{At}
-use Rattle.act_early.specs.Early.{IsQuiescent}
-use Rattle.act_plan_plays.specs.Play.{HoldPlans, StandsAt, play_view}
-use Rattle.act_explore.specs.Paths.{HasMade}
+use Rattle.act_explore.proofs.Common.{ℕ, List, take, map, Step, actor_spec, At, IsQuiescent, HoldPlans, StandsAt, play_view, HasMade}
 use Rattle.act_explore.proofs.search.replay.Given as goal
 
 -- the choices so far are made

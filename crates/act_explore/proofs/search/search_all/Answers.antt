@@ -1,8 +1,5 @@
-use Rattle.std.proofs.Common.{◌≡◌, List, [], ◌∷◌, ◌++◌, map, sym, ap, ◌∙◌, subst, refl, length, arith, eqb-true}
-use Rattle.std.proofs.lemmas.List.{map_push}
-use Rattle.std.specs.Global.{Vec}
-use Rattle.act_plan_plays.specs.declared.choice.Choice.{Choice}
-use Rattle.act_explore.specs.Searches.{Left, left_of, HasSearched}
+use Rattle.act_explore.proofs.Common.{◌≡◌, List, [], ◌∷◌, ◌++◌, map, sym, ap, ◌∙◌, subst, refl, length, arith, eqb-true, map_push, Vec, Choice, Left, left_of}
+use Rattle.act_explore.proofs.Common.{HasSearched}
 use Rattle.act_explore.proofs.Looking.{opened}
 use Rattle.act_explore.proofs.Closing.{searched_all}
 use Rattle.act_explore.proofs.search.search_all.Goals as goal

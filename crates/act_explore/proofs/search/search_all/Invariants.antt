@@ -1,8 +1,4 @@
-use Rattle.std.proofs.Common.{ℕ, List}
-use Rattle.act_rules.specs.declared.script.Step.{Step}
-use Rattle.act_early.specs.Plays.{At}
-use Rattle.act_plan_plays.specs.Play.{HoldPlans}
-use Rattle.act_explore.specs.Searches.{left_of, HasSearched}
+use Rattle.act_explore.proofs.Common.{ℕ, List, Step, At, HoldPlans, left_of, HasSearched}
 use Rattle.act_explore.proofs.search.search_all.Given as goal
 
 -- the states so far were looked at, and what the visit kept it keeps

@@ -1,9 +1,4 @@
-use Rattle.std.proofs.Common.{◌≡◌, true, false, List, All, ap, sym, ◌∙◌, subst}
-use Rattle.std.specs.Prelude.{IsOk}
-use Rattle.act_rules.specs.declared.event.Event.{Event}
-use Rattle.act_rules.specs.History.{opening}
-use Rattle.act_rules.specs.Laws.{history}
-use Rattle.act_rules.specs.Rules.{outcomes}
+use Rattle.act_explore.proofs.Common.{◌≡◌, true, false, List, All, ap, sym, ◌∙◌, subst, IsOk, Event, opening, history, outcomes}
 use Rattle.act_explore.proofs.Moved.{moved}
 use Rattle.act_explore.proofs.Oks.{ok_weaker}
 use Rattle.act_explore.proofs.search.visit_end.Goals as goal

@@ -1,19 +1,6 @@
-use Rattle.std.proofs.Common.{◌≡◌, ℕ, true, false, List, map, slice_get, None, refl, sym, ap, ◌∙◌, subst}
-use Rattle.std.specs.Prelude.{filter_map}
-use Rattle.std.specs.Global.{Vec}
-use Rattle.act_rules.specs.declared.script.Step.{Step}
-use Rattle.act_rules.specs.History.{ActorSpec}
-use Rattle.act_actor.specs.declared.cast.Cast.{Cast}
-use Rattle.act_plans.specs.declared.rising.CallerSetup.{CallerSetup}
-use Rattle.act_plans.specs.Prepared.{bad_of_setup}
-use Rattle.act_plans.specs.Runs.{plan_of, first_bad_plan}
-use Rattle.act_plans.specs.Setups.{PlansFit}
-use Rattle.act_plans.proofs.ActorSpecs.{bad_view}
-use Rattle.act_plan_plays.specs.Play.{HoldPlans}
-use Rattle.act_executor.specs.Runs.{plan_view}
-use Rattle.act_thread_ends.specs.ThreadEnds.{AreOfARun}
-use Rattle.act_thread_ends.proofs.Fitting.{of_a_run}
-use Rattle.act_explore.specs.Plans.{AreSuited}
+use Rattle.act_explore.proofs.Common.{◌≡◌, ℕ, true, false, List, map, slice_get, None, refl, sym, ap, ◌∙◌, subst, filter_map, Vec, Step, ActorSpec, Cast}
+use Rattle.act_explore.proofs.Common.{CallerSetup, bad_of_setup, plan_of, first_bad_plan, PlansFit, bad_view, HoldPlans, plan_view, AreOfARun, of_a_run}
+use Rattle.act_explore.proofs.Common.{AreSuited}
 use Rattle.act_explore.proofs.Holding.{holding, suited, fits}
 use Rattle.act_explore.proofs.Paths.{none_left}
 use Rattle.act_explore.proofs.setups.setups_of.Goals as goal

@@ -1,8 +1,4 @@
-use Rattle.std.proofs.Common.{List, map, sym, subst}
-use Rattle.act_plans.specs.declared.rising.CallerSetup.{CallerSetup}
-use Rattle.act_plans.specs.Runs.{plan_of}
-use Rattle.act_plan_plays.specs.Play.{HoldPlans}
-use Rattle.act_executor.specs.Runs.{plan_view}
+use Rattle.act_explore.proofs.Common.{List, map, sym, subst, CallerSetup, plan_of, HoldPlans, plan_view}
 use Rattle.act_explore.proofs.Answering.{each_end, each_run}
 use Rattle.act_explore.proofs.visits.visit_ends.Goals as goal
 

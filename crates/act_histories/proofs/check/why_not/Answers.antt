@@ -1,7 +1,4 @@
-use Rattle.std.proofs.Common.{◌<◌, length, arith}
-use Rattle.std.proofs.lemmas.Result.{IfOk-weaker}
-use Rattle.act_types.specs.declared.limits.TheConstants.{MAX_SCRIPT_BYTES}
-use Rattle.act_console.specs.Plans.{script_of}
+use Rattle.act_histories.proofs.Common.{◌<◌, length, arith, IfOk-weaker, MAX_SCRIPT_BYTES, script_of}
 use Rattle.act_histories.proofs.Verdicts.{is_long}
 use Rattle.act_histories.proofs.check.why_not.Goals as goal
 

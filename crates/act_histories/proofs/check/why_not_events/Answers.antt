@@ -1,8 +1,4 @@
-use Rattle.std.proofs.Common.{map, arith}
-use Rattle.std.proofs.lemmas.Result.{IfOk-weaker}
-use Rattle.act_rules.specs.Scripts.{actor_spec_of}
-use Rattle.act_actor.specs.Casts.{actor_spec}
-use Rattle.act_console.proofs.Roles.{casts_fit}
+use Rattle.act_histories.proofs.Common.{map, arith, IfOk-weaker, actor_spec_of, actor_spec, casts_fit}
 use Rattle.act_histories.proofs.Verdicts.{ends_same}
 use Rattle.act_histories.proofs.check.why_not_events.Goals as goal
 

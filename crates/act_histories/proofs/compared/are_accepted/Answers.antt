@@ -1,5 +1,4 @@
-use Rattle.std.proofs.Common.{arith}
-use Rattle.std.specs.Prelude.{IsOk}
+use Rattle.act_histories.proofs.Common.{arith, IsOk}
 use Rattle.act_histories.proofs.Calls.{each_more, each}
 use Rattle.act_histories.proofs.compared.are_accepted.Goals as goal
 

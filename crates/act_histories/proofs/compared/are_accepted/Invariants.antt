@@ -1,5 +1,4 @@
-use Rattle.std.proofs.Common.{take}
-use Rattle.std.specs.Prelude.{All, IsOk}
+use Rattle.act_histories.proofs.Common.{take, All, IsOk}
 use Rattle.act_histories.proofs.compared.are_accepted.Given as goal
 
 -- those so far were accepted

@@ -1,10 +1,4 @@
-use Rattle.std.proofs.Common.{ℕ, ◌≤◌, List}
-use Rattle.act_rules.specs.declared.event.Event.{Event}
-use Rattle.act_rules.specs.History.{ActorSpec}
-use Rattle.act_rules.specs.Laws.{history}
-use Rattle.act_world.specs.IsReachedBy.{IsReachedBy}
-use Rattle.act_world.specs.View.{world_view}
-use Rattle.act_histories.specs.Play.{HasCalls}
+use Rattle.act_histories.proofs.Common.{ℕ, ◌≤◌, List, Event, ActorSpec, history, IsReachedBy, world_view, HasCalls}
 use Rattle.act_histories.proofs.compared.has_all_calls.Given as goal
 
 -- the callers so far have their calls

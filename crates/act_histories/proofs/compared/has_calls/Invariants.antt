@@ -1,5 +1,4 @@
-use Rattle.std.proofs.Common.{take}
-use Rattle.act_histories.specs.Play.{calls_of_steps, BeginsWith}
+use Rattle.act_histories.proofs.Common.{take, calls_of_steps, BeginsWith}
 use Rattle.act_histories.proofs.compared.has_calls.Given as goal
 
 -- the first calls are those of the steps so far

@@ -1,5 +1,4 @@
-use Rattle.std.proofs.Common.{◌≡◌, [], take}
-use Rattle.act_histories.specs.Play.{calls_of_steps}
+use Rattle.act_histories.proofs.Common.{◌≡◌, [], take, calls_of_steps}
 use Rattle.act_histories.proofs.compared.has_none.Given as goal
 
 -- the steps so far submit nothing of the caller's

@@ -1,6 +1,4 @@
-use Rattle.std.proofs.Common.{[], List, sym, subst}
-use Rattle.std.specs.Prelude.{All, IsOk}
-use Rattle.act_rules.specs.Rules.{Outcome}
+use Rattle.act_histories.proofs.Common.{List, subst, All, IsOk, Outcome}
 use Rattle.act_histories.proofs.compared.play_in.Goals as goal
 
 pub returns-then-in_order-clause-accepted : goal.returns-then-in_order-clause-accepted

@@ -1,5 +1,4 @@
-use Rattle.std.proofs.Common.{◌∙◌, sym, string_bytes}
-use Rattle.act_world.specs.View.{world_view}
+use Rattle.act_histories.proofs.Common.{◌∙◌, sym, string_bytes, world_view}
 use Rattle.act_histories.proofs.Shown.{shown}
 use Rattle.act_histories.proofs.compared.shows.Goals as goal
 

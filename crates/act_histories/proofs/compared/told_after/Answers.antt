@@ -1,7 +1,4 @@
-use Rattle.std.proofs.Common.{◌≡◌, ◌==◌, true, List, ◌∙◌, ap, subst, rules, tests}
-use Rattle.act_types.specs.declared.call.Arg.{Arg}
-use Rattle.act_rules.specs.declared.script.Step.{Step}
-use Rattle.act_histories.specs.Play.{call_of, IsNext}
+use Rattle.act_histories.proofs.Common.{◌≡◌, ◌==◌, true, List, ◌∙◌, ap, subst, rules, tests, Arg, Step, call_of, IsNext}
 use Rattle.act_histories.proofs.Calls.{front_more, of_own}
 use Rattle.act_histories.proofs.compared.told_after.Goals as goal
 

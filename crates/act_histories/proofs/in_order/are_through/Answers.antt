@@ -1,5 +1,4 @@
-use Rattle.std.proofs.Common.{◌≡◌, ℕ, true}
-use Rattle.act_histories.specs.Play.{awaits, DoesSteps}
+use Rattle.act_histories.proofs.Common.{◌≡◌, ℕ, true, awaits, DoesSteps}
 use Rattle.act_histories.proofs.Places.{one_further}
 use Rattle.act_histories.proofs.in_order.are_through.Goals as goal
 

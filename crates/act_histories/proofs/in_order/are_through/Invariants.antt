@@ -1,10 +1,4 @@
-use Rattle.std.proofs.Common.{◌≡◌, ℕ, ◌≤◌, true, List}
-use Rattle.act_rules.specs.declared.event.Event.{Event}
-use Rattle.act_rules.specs.History.{ActorSpec}
-use Rattle.act_world.specs.View.{world_view}
-use Rattle.act_world.specs.IsReachedBy.{IsReachedBy}
-use Rattle.act_histories.specs.Play.{awaits, DoesSteps}
-use Rattle.act_histories.specs.Order.{HaveDone}
+use Rattle.act_histories.proofs.Common.{◌≡◌, ℕ, ◌≤◌, true, List, Event, ActorSpec, world_view, IsReachedBy, awaits, DoesSteps, HaveDone}
 use Rattle.act_histories.proofs.in_order.are_through.Given as goal
 
 -- the callers so far did all their lines

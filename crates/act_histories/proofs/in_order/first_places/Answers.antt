@@ -1,5 +1,4 @@
-use Rattle.std.proofs.Common.{ℕ, ◌≡◌, ◌<◌, ◌+◌, List, length, take, Option, Some, sym, ap, ◌∙◌, subst, arith}
-use Rattle.std.specs.Prelude.{slice_set}
+use Rattle.act_histories.proofs.Common.{ℕ, ◌<◌, ◌+◌, List, length, take, Option, Some, sym, ap, ◌∙◌, subst, arith, slice_set}
 use Rattle.act_histories.proofs.Places.{AreFirst, first-other, first-await, long_set}
 use Rattle.act_histories.proofs.in_order.first_places.Goals as goal
 use Rattle.act_histories.proofs.in_order.first_places.Goals.{then-is_await, else-is_await}

@@ -1,6 +1,4 @@
-use Rattle.std.proofs.Common.{ℕ, ◌≡◌, ◌==◌, ◌<◌, false, List, [], ◌∷◌, ◌++◌, length, None, Some, sym, subst, arith}
-use Rattle.act_executor.specs.PlanPlays.{step_of}
-use Rattle.act_histories.specs.Order.{HasDone}
+use Rattle.act_histories.proofs.Common.{ℕ, ◌≡◌, ◌==◌, ◌<◌, false, [], ◌∷◌, ◌++◌, length, None, Some, sym, subst, arith, step_of, HasDone}
 use Rattle.act_histories.proofs.Places.{at_place, have-by, have-free, have-next}
 use Rattle.act_histories.proofs.in_order.is_next.Goals as goal
 

@@ -1,6 +1,4 @@
-use Rattle.std.proofs.Common.{ℕ, ◌<◌, length, Option, Some, ap, ◌∙◌, subst, sym, arith, get_or, None}
-use Rattle.std.proofs.lemmas.Bool.{leb-true}
-use Rattle.act_histories.specs.Order.{HasDoneTo}
+use Rattle.act_histories.proofs.Common.{ℕ, ◌<◌, length, Option, Some, ap, ◌∙◌, subst, sym, arith, get_or, None, leb-true, HasDoneTo}
 use Rattle.act_histories.proofs.Done.{done-whole}
 use Rattle.act_histories.proofs.Places.{at_place}
 use Rattle.act_histories.proofs.in_order.is_through.Goals as goal

@@ -1,9 +1,4 @@
-use Rattle.std.proofs.Common.{List, length, ◌-◌}
-use Rattle.act_rules.specs.declared.event.Event.{Event}
-use Rattle.act_rules.specs.History.{ActorSpec}
-use Rattle.act_world.specs.View.{world_view}
-use Rattle.act_world.specs.IsReachedBy.{IsReachedBy}
-use Rattle.act_histories.specs.Order.{HasDone}
+use Rattle.act_histories.proofs.Common.{List, length, ◌-◌, Event, ActorSpec, world_view, IsReachedBy, HasDone}
 use Rattle.act_histories.proofs.in_order.next_place.Given as goal
 
 -- the lines up to here are done

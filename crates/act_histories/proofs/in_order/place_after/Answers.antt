@@ -1,6 +1,4 @@
-use Rattle.std.proofs.Common.{◌≡◌, ◌==◌, true, [], ◌∷◌, ◌++◌, sym, subst, rules, tests}
-use Rattle.act_rules.specs.declared.event.Event.{Event}
-use Rattle.act_histories.specs.Order.{HasDone}
+use Rattle.act_histories.proofs.Common.{◌≡◌, ◌==◌, true, [], ◌∷◌, ◌++◌, sym, subst, rules, tests, Event, HasDone}
 use Rattle.act_histories.proofs.Done.{done-own, done-let_go}
 use Rattle.act_histories.proofs.in_order.place_after.Goals as goal
 

@@ -1,12 +1,5 @@
-use Rattle.std.proofs.Common.{◌≡◌, ◌+◌, ◌-◌, ℕ, true, false, List, [], ◌∷◌, ◌++◌, length, take, Option, sym, ap, ◌∙◌, subst, arith}
-use Rattle.std.specs.Prelude.{IsTrue}
-use Rattle.std.proofs.lemmas.List.{take_more, take_all}
-use Rattle.act_rules.specs.declared.event.Event.{Event}
-use Rattle.act_rules.specs.History.{ActorSpec}
-use Rattle.act_world.specs.View.{world_view}
-use Rattle.act_world.specs.IsReachedBy.{IsReachedBy, HasRoom}
-use Rattle.act_histories.specs.Play.{DoesSteps}
-use Rattle.act_histories.specs.Order.{HaveDone, Tells}
+use Rattle.act_histories.proofs.Common.{◌≡◌, ◌+◌, ◌-◌, ℕ, true, false, List, [], ◌∷◌, ◌++◌, take, Option, sym, ap, ◌∙◌, subst, arith, IsTrue, take_more}
+use Rattle.act_histories.proofs.Common.{take_all, Event, ActorSpec, world_view, IsReachedBy, HaveDone, Tells}
 use Rattle.act_histories.proofs.in_order.play_in_order.Goals as goal
 use Rattle.act_histories.proofs.in_order.play_in_order.Goals.{then-in_order, else-in_order}
 

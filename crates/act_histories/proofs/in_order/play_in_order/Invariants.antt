@@ -1,9 +1,4 @@
-use Rattle.std.proofs.Common.{◌≡◌, ◌-◌, true, List, [], length, take}
-use Rattle.std.specs.Prelude.{IsTrue}
-use Rattle.act_rules.specs.History.{ActorSpec}
-use Rattle.act_world.specs.View.{world_view}
-use Rattle.act_world.specs.IsReachedBy.{IsReachedBy, HasRoom}
-use Rattle.act_histories.specs.Order.{HaveDone, Tells}
+use Rattle.act_histories.proofs.Common.{◌-◌, List, [], length, take, IsTrue, ActorSpec, world_view, IsReachedBy, HasRoom, HaveDone, Tells}
 use Rattle.act_histories.proofs.in_order.play_in_order.Given as goal
 
 -- the events so far are played, and each caller that awaits did its lines up to its place

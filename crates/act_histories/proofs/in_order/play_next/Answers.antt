@@ -1,5 +1,4 @@
-use Rattle.std.proofs.Common.{sym, ◌∙◌}
-use Rattle.act_world.specs.View.{world_view}
+use Rattle.act_histories.proofs.Common.{sym, ◌∙◌, world_view}
 use Rattle.act_histories.proofs.Places.{tells-next}
 use Rattle.act_histories.proofs.in_order.play_next.Goals as goal
 

@@ -1,7 +1,4 @@
-use Rattle.std.proofs.Common.{◌==◌, List, ℕ, subst, rules, tests}
-use Rattle.std.proofs.lemmas.Iterator.Consumers.{YieldsList-end}
-use Rattle.std.proofs.lemmas.Iterator.Splits.{YieldsList-from_slice_split}
-use Rattle.act_histories.specs.Lines.{Make}
+use Rattle.act_histories.proofs.Common.{◌==◌, List, ℕ, subst, rules, tests, YieldsList-end, YieldsList-from_slice_split, Make}
 use Rattle.act_histories.proofs.Told.{one_more}
 use Rattle.act_histories.proofs.parts.second_part.Goals as goal
 

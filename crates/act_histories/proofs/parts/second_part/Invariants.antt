@@ -1,5 +1,4 @@
-use Rattle.std.proofs.Common.{map}
-use Rattle.act_histories.specs.Lines.{Make}
+use Rattle.act_histories.proofs.Common.{map, Make}
 use Rattle.act_histories.proofs.parts.second_part.Given as goal
 
 -- the lines so far are told

@@ -1,7 +1,4 @@
-use Rattle.std.proofs.Common.{◌≡◌, ◌≤◌, ◌+◌, map, subst, take, arith}
-use Rattle.std.proofs.lemmas.Grind.{common_steps}
-use Rattle.std.proofs.lemmas.List.Elements.{All-more}
-use Rattle.act_inbox.specs.Inbox.{lane_at_first}
+use Rattle.act_inbox.proofs.Common.{◌≡◌, ◌≤◌, ◌+◌, map, subst, take, arith, common_steps, All-more, lane_at_first}
 use Rattle.act_inbox.proofs.inbox.lanes_of.Goals as goal
 
 pub loop-caller-preserved : goal.loop-caller-preserved

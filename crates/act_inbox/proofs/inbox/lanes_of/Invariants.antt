@@ -1,5 +1,4 @@
-use Rattle.std.proofs.Common.{◌≡◌, ◌≤◌, All, map, take}
-use Rattle.act_inbox.specs.Inbox.{lane_at_first}
+use Rattle.act_inbox.proofs.Common.{◌≡◌, ◌≤◌, All, map, take, lane_at_first}
 use Rattle.act_inbox.proofs.inbox.lanes_of.Given as goal
 
 abbrev pub invariant-loop-caller : goal.invariant-loop-caller

@@ -1,5 +1,4 @@
-use Rattle.act_rules.proofs.Sound.{world_sound}
-use Rattle.act_order_plays.specs.Plays.{casts_of}
+use Rattle.act_order_plays.proofs.Common.{world_sound, casts_of}
 use Rattle.act_order_plays.proofs.Fitting.{play_fits}
 use Rattle.act_order_plays.proofs.InOrder.{in_order}
 use Rattle.act_order_plays.proofs.Plays.{play_of}

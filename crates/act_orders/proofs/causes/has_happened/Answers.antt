@@ -1,7 +1,4 @@
-use Rattle.std.proofs.Common.{◌≡◌, sym, subst, IsTrue, length, ◌<◌}
-use Rattle.act_orders.specs.declared.told.Happening.TheVariants.{Ran}
-use Rattle.act_orders.specs.Order.{Happened}
-use Rattle.act_orders.specs.Causes.{call_in}
+use Rattle.act_orders.proofs.Common.{◌≡◌, sym, subst, IsTrue, length, ◌<◌, Ran, Happened, call_in}
 use Rattle.act_orders.proofs.Finding.{run_tells}
 use Rattle.act_orders.proofs.causes.has_happened.Goals as goal
 

@@ -1,5 +1,4 @@
-use Rattle.std.proofs.Common.{◌≡◌, ◌≤◌, ◌<◌, ◌-◌, ◌∙◌, ap, subst, length, get_or, arith}
-use Rattle.act_orders.specs.Causes.{taken_by}
+use Rattle.act_orders.proofs.Common.{◌≡◌, ◌≤◌, ◌<◌, ◌-◌, ◌∙◌, ap, subst, length, get_or, arith, taken_by}
 use Rattle.act_orders.proofs.Causing.{taken_some, taken_none}
 use Rattle.act_orders.proofs.causes.slot_of.Goals as goal
 

@@ -1,5 +1,4 @@
-use Rattle.std.proofs.Common.{◌≡◌, true, is_some, sym, ◌∙◌}
-use Rattle.act_orders.specs.Causes.{place_of}
+use Rattle.act_orders.proofs.Common.{◌≡◌, true, is_some, sym, ◌∙◌, place_of}
 use Rattle.act_orders.proofs.Finding.{has_run, is_some_place}
 use Rattle.act_orders.proofs.ends.fault_of_rest.Goals as goal
 

@@ -1,9 +1,4 @@
-use Rattle.std.proofs.Common.{◌≡◌, ap, sym, ◌∙◌, subst}
-use Rattle.std.proofs.lemmas.List.Sorted.{searched}
-use Rattle.act_orders.specs.declared.told.Actor.{Actor}
-use Rattle.act_orders.specs.declared.told.Call.{Call}
-use Rattle.act_orders.specs.Order.{call_of, actor_of}
-use Rattle.act_orders.specs.Causes.{Rises}
+use Rattle.act_orders.proofs.Common.{◌≡◌, ap, sym, ◌∙◌, subst, searched, Actor, Call, call_of, actor_of, Rises}
 use Rattle.act_orders.proofs.Finding.{found_role}
 use Rattle.act_orders.proofs.ends.may_call.Goals as goal
 

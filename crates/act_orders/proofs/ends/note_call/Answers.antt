@@ -1,8 +1,4 @@
-use Rattle.std.proofs.Common.{◌≡◌, arith, ap, subst, ◌∙◌}
-use Rattle.std.specs.List.{Contains}
-use Rattle.act_orders.specs.declared.told.Call.{Call}
-use Rattle.act_orders.specs.Order.{call_of}
-use Rattle.act_orders.specs.Faults.{Finds, Come}
+use Rattle.act_orders.proofs.Common.{◌≡◌, arith, ap, subst, ◌∙◌, Contains, Call, call_of, Finds, Come}
 use Rattle.act_orders.proofs.Finding.{finds_noted, call_holds}
 use Rattle.act_orders.proofs.ends.note_call.Goals as goal
 

@@ -1,5 +1,4 @@
-use Rattle.std.proofs.Common.{ℕ, ◌<◌, ◌≤◌, length, arith}
-use Rattle.act_orders.specs.Faults.{Come, CallHolds, CallsHold}
+use Rattle.act_orders.proofs.Common.{ℕ, ◌<◌, ◌≤◌, length, arith, Come, CallHolds, CallsHold}
 use Rattle.act_orders.proofs.Finding.{calls_more, finds_both}
 use Rattle.act_orders.proofs.ends.note_calls.Goals as goal
 

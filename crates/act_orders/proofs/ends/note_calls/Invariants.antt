@@ -1,5 +1,4 @@
-use Rattle.std.proofs.Common.{ℕ, ◌<◌}
-use Rattle.act_orders.specs.Faults.{Finds, CallHolds}
+use Rattle.act_orders.proofs.Common.{ℕ, ◌<◌, Finds, CallHolds}
 use Rattle.act_orders.proofs.ends.note_calls.Given as goal
 
 abbrev pub invariant-loop-call : goal.invariant-loop-call

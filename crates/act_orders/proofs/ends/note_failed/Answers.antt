@@ -1,8 +1,4 @@
-use Rattle.std.proofs.Common.{◌≡◌, arith, ◌+◌, ◌≤◌, ℕ, List, length, get_or, take, ap, sym, subst, ◌∙◌}
-use Rattle.std.specs.List.{Contains}
-use Rattle.act_orders.specs.declared.told.Call.{Call}
-use Rattle.act_orders.specs.Order.{call_of}
-use Rattle.act_orders.specs.Faults.{HasFailed, TakesGood}
+use Rattle.act_orders.proofs.Common.{◌≡◌, arith, ◌+◌, ◌≤◌, ℕ, List, length, get_or, take, ap, sym, subst, ◌∙◌, Contains, Call, call_of, HasFailed, TakesGood}
 use Rattle.act_orders.proofs.Finding.{finds_noted, finds_both, finds_then, finds_none, good_none, good_more, good_all, waits_item}
 use Rattle.act_orders.proofs.ends.note_failed.Goals as goal
 

@@ -1,6 +1,4 @@
-use Rattle.std.proofs.Common.{take}
-use Rattle.act_orders.specs.Order.{call_of}
-use Rattle.act_orders.specs.Faults.{Finds, TakesGood}
+use Rattle.act_orders.proofs.Common.{take, call_of, Finds, TakesGood}
 use Rattle.act_orders.proofs.ends.note_failed.Given as goal
 
 abbrev pub invariant-loop-taken : goal.invariant-loop-taken

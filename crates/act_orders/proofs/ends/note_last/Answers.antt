@@ -1,8 +1,4 @@
-use Rattle.std.proofs.Common.{arith, ◌+◌, ◌≡◌, ◌<◌, length, get_or, take, ap, sym, subst}
-use Rattle.std.specs.List.{Contains}
-use Rattle.act_orders.specs.declared.told.Happening.TheVariants.{Answered}
-use Rattle.act_orders.specs.Order.{Happened}
-use Rattle.act_orders.specs.Faults.{Come}
+use Rattle.act_orders.proofs.Common.{arith, ◌+◌, ◌≡◌, ◌<◌, length, get_or, take, ap, sym, subst, Contains, Answered, Happened, Come}
 use Rattle.act_orders.proofs.Finding.{finds_noted, finds_both, come_more, come_none, come_all, finds_none, waits_item}
 use Rattle.act_orders.proofs.ends.note_last.Goals as goal
 

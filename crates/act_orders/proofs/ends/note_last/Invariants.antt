@@ -1,5 +1,4 @@
-use Rattle.std.proofs.Common.{take}
-use Rattle.act_orders.specs.Faults.{Finds, Come}
+use Rattle.act_orders.proofs.Common.{take, Finds, Come}
 use Rattle.act_orders.proofs.ends.note_last.Given as goal
 
 abbrev pub invariant-loop-call : goal.invariant-loop-call

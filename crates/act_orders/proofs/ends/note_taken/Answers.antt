@@ -1,9 +1,4 @@
-use Rattle.std.proofs.Common.{◌≡◌, arith, ap, subst, ◌∙◌}
-use Rattle.std.specs.List.{Contains}
-use Rattle.act_orders.specs.declared.told.Call.{Call}
-use Rattle.act_orders.specs.declared.told.Happening.TheVariants.{Ran}
-use Rattle.act_orders.specs.Order.{call_of, Happened}
-use Rattle.act_orders.specs.Faults.{Come}
+use Rattle.act_orders.proofs.Common.{◌≡◌, arith, ap, subst, ◌∙◌, Contains, Call, Ran, call_of, Happened, Come}
 use Rattle.act_orders.proofs.Finding.{finds_then}
 use Rattle.act_orders.proofs.ends.note_taken.Goals as goal
 

@@ -1,9 +1,5 @@
-use Rattle.std.proofs.Common.{◌≡◌, [], ◌∷◌, ◌+◌, ◌<◌, ap, sym, ◌∙◌, subst, arith, Some, length}
-use Rattle.std.proofs.Math.ListN.{set}
-use Rattle.std.proofs.lemmas.List.{length-set, length-append}
-use Rattle.act_orders.specs.declared.told.Call.{Call}
-use Rattle.act_orders.specs.Order.{call_of}
-use Rattle.act_orders.specs.Causes.{place_of, IsLast}
+use Rattle.act_orders.proofs.Common.{◌≡◌, [], ◌∷◌, ◌+◌, ◌<◌, ap, sym, ◌∙◌, subst, arith, Some, length, set, length-set, length-append, Call, call_of, place_of}
+use Rattle.act_orders.proofs.Common.{IsLast}
 use Rattle.act_orders.proofs.Running.{before_more, last_more}
 use Rattle.act_orders.proofs.runs.calls_before.Goals as goal
 

@@ -1,5 +1,4 @@
-use Rattle.std.proofs.Common.{◌≡◌, ◌<◌, length, ℕ}
-use Rattle.act_orders.specs.Causes.{IsBefore, IsLast, place_of}
+use Rattle.act_orders.proofs.Common.{◌≡◌, ◌<◌, length, ℕ, IsBefore, IsLast, place_of}
 use Rattle.act_orders.proofs.runs.calls_before.Given as goal
 
 abbrev pub invariant-loop-place : goal.invariant-loop-place

@@ -1,7 +1,4 @@
-use Rattle.std.proofs.Common.{◌≡◌, ap, sym, ◌∙◌, refl, Some, None, subst, arith}
-use Rattle.act_orders.specs.declared.told.Run.{Run}
-use Rattle.act_orders.specs.Order.{call_of}
-use Rattle.act_orders.specs.Causes.{place_of, run_of}
+use Rattle.act_orders.proofs.Common.{◌≡◌, ap, sym, ◌∙◌, refl, Some, None, subst, arith, Run, call_of, place_of, run_of}
 use Rattle.act_orders.proofs.Running.{next_run, not_run, before_is, run_at, ran_at}
 use Rattle.act_orders.proofs.runs.fault_of_run.Goals as goal
 

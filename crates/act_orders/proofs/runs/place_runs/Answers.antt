@@ -1,8 +1,4 @@
-use Rattle.std.proofs.Common.{◌≡◌, ◌+◌, ◌<◌, ap, sym, subst, arith, Some, length, take}
-use Rattle.std.proofs.Math.ListN.{set}
-use Rattle.std.proofs.lemmas.Option.{slice_get_within}
-use Rattle.act_orders.specs.declared.told.Run.{Run}
-use Rattle.act_orders.specs.Causes.{HasPlaces, run_of}
+use Rattle.act_orders.proofs.Common.{◌≡◌, ◌+◌, ◌<◌, ap, sym, subst, arith, Some, length, take, set, slice_get_within, Run, HasPlaces, run_of}
 use Rattle.act_orders.proofs.Running.{places_more, noted}
 use Rattle.act_orders.proofs.runs.place_runs.Goals as goal
 

@@ -1,6 +1,5 @@
-use Rattle.std.proofs.Common.{◌≡◌, ◌≤◌, length, take, All}
-use Rattle.act_orders.specs.Causes.{HasPlaces, TurnTo}
-use Rattle.act_orders.specs.Faults.{IsFault}
+use Rattle.act_orders.proofs.Common.{◌≡◌, ◌≤◌, length, take, HasPlaces, TurnTo, IsFault}
+use Rattle.std.proofs.Common.{All}
 use Rattle.act_orders.proofs.runs.place_runs.Given as goal
 
 abbrev pub invariant-loop-place : goal.invariant-loop-place

@@ -1,12 +1,5 @@
-use Rattle.std.proofs.Common.{◌≡◌, ◌<◌, ◌*◌, ℕ, [], length, arith, sym, subst, replicate}
-use Rattle.std.proofs.lemmas.List.{get_or-replicate, length-replicate}
-use Rattle.std.specs.List.{Contains}
-use Rattle.act_orders.specs.declared.told.Happening.{Happening}
-use Rattle.act_orders.specs.declared.told.Happening.TheVariants.{Submitted, Ran, Answered}
-use Rattle.act_orders.specs.Order.{Happened}
-use Rattle.act_orders.specs.Search.{Standing}
-use Rattle.act_orders.specs.Causes.{graph_of, number_of}
-use Rattle.act_orders.specs.declared.search.TheConstants.{DONE}
+use Rattle.act_orders.proofs.Common.{◌≡◌, ◌<◌, ◌*◌, ℕ, [], length, arith, sym, subst, replicate, get_or-replicate, length-replicate, Contains, Happening}
+use Rattle.act_orders.proofs.Common.{Submitted, Ran, Answered, Happened, Standing, graph_of, number_of, DONE}
 use Rattle.act_orders.proofs.Causing.{happened_within, number_below}
 use Rattle.act_orders.proofs.Judging.{covered_more, covered}
 use Rattle.act_orders.proofs.Standing.{unbegun}

@@ -1,10 +1,4 @@
-use Rattle.std.proofs.Common.{ℕ, ◌<◌}
-use Rattle.std.specs.List.{Contains}
-use Rattle.act_orders.specs.declared.told.Happening.TheVariants.{Submitted, Ran, Answered}
-use Rattle.act_orders.specs.Order.{Happened}
-use Rattle.act_orders.specs.Search.{AtRest}
-use Rattle.act_orders.specs.Causes.{graph_of}
-use Rattle.act_orders.specs.declared.search.TheConstants.{DONE}
+use Rattle.act_orders.proofs.Common.{ℕ, ◌<◌, Contains, Submitted, Ran, Answered, Happened, AtRest, graph_of, DONE}
 use Rattle.act_orders.proofs.search.order_of.Given as goal
 
 abbrev pub invariant-loop-call : goal.invariant-loop-call

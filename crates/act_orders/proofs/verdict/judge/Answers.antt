@@ -1,12 +1,5 @@
-use Rattle.std.proofs.Common.{◌≡◌, ◌+◌, [], ◌∷◌, ◌++◌, length, arith, sym, subst, ap, ◌∙◌}
-use Rattle.std.proofs.lemmas.List.{length-append}
-use Rattle.std.proofs.lemmas.List.Elements.{All-push}
-use Rattle.std.specs.List.{All}
-use Rattle.act_orders.specs.declared.fault.Fault.TheVariants.{Circle}
-use Rattle.act_orders.specs.Search.{OrdersNodes}
-use Rattle.act_orders.specs.Causes.{graph_of}
-use Rattle.act_orders.specs.Faults.{IsFault, IsCircle}
-use Rattle.act_orders.specs.Stuck.{TellsCircle}
+use Rattle.act_orders.proofs.Common.{◌≡◌, ◌+◌, [], ◌∷◌, ◌++◌, length, arith, sym, subst, ap, ◌∙◌, length-append, All-push, All, Circle, OrdersNodes, graph_of}
+use Rattle.act_orders.proofs.Common.{IsFault, IsCircle, TellsCircle}
 use Rattle.act_orders.proofs.Judging.{in_order}
 use Rattle.act_orders.proofs.verdict.judge.Goals as goal
 

@@ -1,6 +1,4 @@
-use Rattle.std.proofs.Common.{rules}
-use Rattle.std.proofs.lemmas.List.Sorted.{answers_always}
-use Rattle.act_orders.specs.declared.told.Run.{Run}
+use Rattle.act_orders.proofs.Common.{rules, answers_always, Run}
 use Rattle.act_orders.proofs.Wholes.{rise_told_by}
 use Rattle.act_orders.proofs.whole.actors_rise.Goals as goal
 

@@ -1,7 +1,4 @@
-use Rattle.std.proofs.Common.{◌<◌, length, get_or, arith, refl}
-use Rattle.std.proofs.lemmas.Bool.{false≢true}
-use Rattle.std.proofs.lemmas.List.Elements.{Contains-get_or}
-use Rattle.std.proofs.lemmas.Option.{slice_get_within, get_or_from_slice_get}
+use Rattle.act_orders.proofs.Common.{◌<◌, length, get_or, arith, refl, false≢true, Contains-get_or, slice_get_within, get_or_from_slice_get}
 use Rattle.act_orders.proofs.Lists.{found}
 use Rattle.act_orders.proofs.whole.all_below.Goals as goal
 

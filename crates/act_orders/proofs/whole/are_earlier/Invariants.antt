@@ -1,5 +1,4 @@
-use Rattle.std.proofs.Common.{ℕ, ◌<◌, get_or}
-use Rattle.act_orders.specs.Causes.{IsEarlier}
+use Rattle.act_orders.proofs.Common.{ℕ, ◌<◌, get_or, IsEarlier}
 use Rattle.act_orders.proofs.whole.are_earlier.Given as goal
 
 abbrev pub invariant-loop-call : goal.invariant-loop-call

@@ -1,7 +1,4 @@
-use Rattle.std.proofs.Common.{[], rules}
-use Rattle.std.proofs.lemmas.List.Sorted.{answers_always}
-use Rattle.act_orders.specs.declared.told.Call.{Call}
-use Rattle.act_orders.specs.declared.told.Outcome.TheVariants.{Open}
+use Rattle.act_orders.proofs.Common.{[], rules, answers_always, Call, Open}
 use Rattle.act_orders.proofs.Wholes.{rise_told_by}
 use Rattle.act_orders.proofs.whole.callers_rise.Goals as goal
 

@@ -1,5 +1,4 @@
-use Rattle.std.proofs.Common.{below_more}
-use Rattle.act_orders.specs.Whole.{CallFits}
+use Rattle.act_orders.proofs.Common.{below_more, CallFits}
 use Rattle.act_orders.proofs.whole.calls_fit.Goals as goal
 
 pub loop-place-preserved : goal.loop-place-preserved

@@ -1,5 +1,4 @@
-use Rattle.std.proofs.Common.{arith, sym, subst}
-use Rattle.std.specs.List.{Contains}
+use Rattle.act_orders.proofs.Common.{arith, sym, subst, Contains}
 use Rattle.act_orders.proofs.whole.count_fits.Goals as goal
 
 pub returns-then-count-lt-MANY : goal.returns-then-count-lt-MANY

@@ -1,6 +1,5 @@
 use Rattle.act_orders.proofs.Wholes.{whole_from, numbers_of, rising_of}
-use Rattle.std.proofs.Common.{◌∙◌, sym}
-use Rattle.std.proofs.lemmas.Bool.{false≢true}
+use Rattle.act_orders.proofs.Common.{◌∙◌, sym, false≢true}
 use Rattle.act_orders.proofs.whole.is_whole.Goals as goal
 
 pub returns-then-numbers_fit : goal.returns-then-numbers_fit

@@ -1,7 +1,4 @@
-use Rattle.std.proofs.Common.{◌≡◌, ◌<◌, length, ap, sym, subst, ◌∙◌}
-use Rattle.act_orders.specs.declared.told.Actor.{Actor}
-use Rattle.act_orders.specs.Order.{actor_of}
-use Rattle.act_orders.specs.Causes.{Rises}
+use Rattle.act_orders.proofs.Common.{◌≡◌, ◌<◌, length, ap, sym, subst, ◌∙◌, Actor, actor_of, Rises}
 use Rattle.act_orders.proofs.Wholes.{rise_told, some_items}
 use Rattle.act_orders.proofs.whole.role_fits.Goals as goal
 

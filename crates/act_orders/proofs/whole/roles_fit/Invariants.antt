@@ -1,5 +1,4 @@
-use Rattle.std.proofs.Common.{ℕ, ◌<◌}
-use Rattle.act_orders.specs.Whole.{RoleFits}
+use Rattle.act_orders.proofs.Common.{ℕ, ◌<◌, RoleFits}
 use Rattle.act_orders.proofs.whole.roles_fit.Given as goal
 
 abbrev pub invariant-loop-place : goal.invariant-loop-place

@@ -1,5 +1,4 @@
-use Rattle.std.proofs.Common.{ℕ, ◌<◌}
-use Rattle.act_orders.specs.Whole.{RunFits}
+use Rattle.act_orders.proofs.Common.{ℕ, ◌<◌, RunFits}
 use Rattle.act_orders.proofs.whole.runs_fit.Given as goal
 
 abbrev pub invariant-loop-place : goal.invariant-loop-place

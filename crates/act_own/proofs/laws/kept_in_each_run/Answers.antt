@@ -1,4 +1,3 @@
-use Rattle.act_executor.specs.Joined.{end_of}
 use Rattle.act_own.proofs.Kept.{run_keeps}
 use Rattle.act_own.proofs.laws.kept_in_each_run.Goals as goal
 

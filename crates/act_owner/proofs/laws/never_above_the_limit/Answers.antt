@@ -1,5 +1,4 @@
-use Rattle.std.proofs.Common.{refl, arith}
-use Rattle.act_owner.specs.Owner.{opened_under}
+use Rattle.act_owner.proofs.Common.{refl, arith, opened_under}
 use Rattle.act_owner.proofs.Pending.{under_all}
 use Rattle.act_owner.proofs.laws.never_above_the_limit.Goals as goal
 

@@ -1,6 +1,4 @@
-use Rattle.std.proofs.Common.{refl}
-use Rattle.act_owner.specs.Owner.{opened_under}
-use Rattle.act_owner.specs.Life.{after_changes}
+use Rattle.act_owner.proofs.Common.{refl, opened_under, after_changes}
 use Rattle.act_owner.proofs.Life.{places_all, packet_stays_all, after_all-append}
 use Rattle.act_owner.proofs.laws.one_packet_for_good.Goals as goal
 

@@ -1,6 +1,4 @@
-use Rattle.std.proofs.Common.{refl, []}
-use Rattle.act_owner.specs.Owner.{opened_under}
-use Rattle.act_owner.specs.Life.{after_changes}
+use Rattle.act_owner.proofs.Common.{refl, [], opened_under, after_changes}
 use Rattle.act_owner.proofs.Life.{after_all-append}
 use Rattle.act_owner.proofs.Told.{sent_stays_all, hears_all, hears_opened}
 use Rattle.act_owner.proofs.laws.told_by_notices.Goals as goal

@@ -1,8 +1,5 @@
-use Rattle.std.proofs.Common.{◌≡◌, ◌∙◌, Err, count_by, sym, ap, subst, arith}
-use Rattle.act_types.specs.declared.call.Fault.TheVariants.{ActorDied}
-use Rattle.act_replies.specs.Table.{row_waits_for, rows_after_death}
-use Rattle.act_replies.proofs.Deaths.{death-after_keep, count-after_keep, death-none}
-use Rattle.act_owner.specs.Owner.{KnowsAnswers}
+use Rattle.act_owner.proofs.Common.{◌≡◌, ◌∙◌, Err, count_by, sym, ap, subst, arith, ActorDied, row_waits_for, rows_after_death, death-after_keep}
+use Rattle.act_owner.proofs.Common.{count-after_keep, death-none, KnowsAnswers}
 use Rattle.act_owner.proofs.Deaths.{waits_within, told_step, futures_step, sent_step}
 use Rattle.act_owner.proofs.owner.answer_death.Goals as goal
 

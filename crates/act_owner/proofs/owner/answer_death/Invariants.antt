@@ -1,6 +1,4 @@
-use Rattle.std.proofs.Common.{◌≡◌, count_by, map}
-use Rattle.act_replies.specs.Table.{row_waits_for, rows_after_death}
-use Rattle.act_owner.specs.Owner.{KnowsAnswers}
+use Rattle.act_owner.proofs.Common.{◌≡◌, count_by, map, row_waits_for, rows_after_death, KnowsAnswers}
 use Rattle.act_owner.proofs.owner.answer_death.Given as goal
 
 -- the death still leaves the same, and the resolver was told of these

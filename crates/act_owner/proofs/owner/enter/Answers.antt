@@ -1,7 +1,4 @@
-use Rattle.std.proofs.Common.{◌≡◌, ◌∙◌, ap, sym, length, Err, ◌++◌, ◌∷◌, []}
-use Rattle.act_types.specs.declared.call.Fault.TheVariants.{ActorDied}
-use Rattle.act_replies.specs.Table.{after_keep, unanswered_row}
-use Rattle.act_owner.specs.Owner.{answered_row}
+use Rattle.act_owner.proofs.Common.{◌≡◌, ◌∙◌, ap, sym, length, Err, ◌++◌, ◌∷◌, [], ActorDied, after_keep, unanswered_row, answered_row}
 use Rattle.act_owner.proofs.Answers.{keep_last}
 use Rattle.act_owner.proofs.owner.enter.Goals as goal
 

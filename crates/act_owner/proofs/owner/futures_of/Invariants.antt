@@ -1,5 +1,4 @@
-use Rattle.std.proofs.Common.{◌≡◌, ◌≤◌, length, take}
-use Rattle.act_owner.specs.Owner.{futures_of_args}
+use Rattle.act_owner.proofs.Common.{◌≡◌, ◌≤◌, length, take, futures_of_args}
 use Rattle.act_owner.proofs.owner.futures_of.Given as goal
 
 -- the futures among the arguments so far

@@ -1,6 +1,4 @@
-use Rattle.std.proofs.Common.{◌≡◌, map, take}
-use Rattle.act_rules.specs.Submissions.{settle}
-use Rattle.act_owner.specs.Owner.{answers_of}
+use Rattle.act_owner.proofs.Common.{◌≡◌, map, take, settle, answers_of}
 use Rattle.act_owner.proofs.owner.settle_all.Given as goal
 
 -- the arguments so far are settled

@@ -1,9 +1,4 @@
-use Rattle.std.proofs.Common.{◌≡◌, ℕ, true, Contains}
-use Rattle.act_rules.specs.History.{contains}
-use Rattle.act_plans.specs.declared.rising.CallerSetup.{CallerSetup}
-use Rattle.act_world.specs.View.{world_view}
-use Rattle.act_plan_plays.specs.Moves.{shows_next}
-use Rattle.act_plan_plays.specs.declared.choice.Choice.TheVariants.{Run}
+use Rattle.act_plan_plays.proofs.Common.{◌≡◌, ℕ, true, Contains, contains, CallerSetup, world_view, shows_next, Run}
 use Rattle.act_plan_plays.proofs.Gathered.{has_front}
 use Rattle.act_plan_plays.proofs.Loops.{each_more, each_whole}
 use Rattle.act_plan_plays.proofs.Chosen.{all_runs}

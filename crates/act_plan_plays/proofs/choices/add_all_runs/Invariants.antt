@@ -1,9 +1,4 @@
-use Rattle.std.proofs.Common.{◌≡◌, ℕ, true, take, Contains, All}
-use Rattle.act_rules.specs.History.{contains}
-use Rattle.act_plans.specs.declared.rising.CallerSetup.{CallerSetup}
-use Rattle.act_world.specs.View.{world_view}
-use Rattle.act_plan_plays.specs.Moves.{shows_next}
-use Rattle.act_plan_plays.specs.declared.choice.Choice.TheVariants.{Run}
+use Rattle.act_plan_plays.proofs.Common.{◌≡◌, ℕ, true, take, Contains, All, contains, CallerSetup, world_view, shows_next, Run}
 use Rattle.act_plan_plays.proofs.choices.add_all_runs.Given as goal
 
 -- the runs of the callers so far

@@ -1,9 +1,4 @@
-use Rattle.std.proofs.Common.{◌∙◌, ℕ, ap, sym}
-use Rattle.std.specs.Global.{Vec}
-use Rattle.act_world.specs.View.{world_view}
-use Rattle.act_plan_plays.specs.Moves.{shows_live}
-use Rattle.act_plan_plays.specs.declared.choice.Choice.{Choice}
-use Rattle.act_plan_plays.specs.declared.choice.Choice.TheVariants.{Take}
+use Rattle.act_plan_plays.proofs.Common.{◌∙◌, ℕ, ap, sym, Vec, world_view, shows_live, Choice, Take}
 use Rattle.act_plan_plays.proofs.Gathered.{made_more, made_same, made_whole, front_push, front_same}
 use Rattle.act_plan_plays.proofs.choices.add_kills.Goals as goal
 use Rattle.act_plan_plays.proofs.choices.add_kills.Goals.{then-is_live+in_ok-push, else-is_live}

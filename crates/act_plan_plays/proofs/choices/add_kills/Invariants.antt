@@ -1,9 +1,4 @@
-use Rattle.std.proofs.Common.{◌≡◌, ℕ, true, take, Contains}
-use Rattle.act_rules.specs.Consistent.{IsPrefix}
-use Rattle.act_rules.specs.History.{contains}
-use Rattle.act_world.specs.View.{world_view}
-use Rattle.act_plan_plays.specs.Moves.{shows_live}
-use Rattle.act_plan_plays.specs.declared.choice.Choice.TheVariants.{Take}
+use Rattle.act_plan_plays.proofs.Common.{◌≡◌, ℕ, true, take, Contains, IsPrefix, contains, world_view, shows_live, Take}
 use Rattle.act_plan_plays.proofs.choices.add_kills.Given as goal
 
 -- the kills of the actors so far

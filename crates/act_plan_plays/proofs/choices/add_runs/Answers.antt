@@ -1,9 +1,4 @@
-use Rattle.std.proofs.Common.{◌∙◌, ℕ, List, ap, sym, subst}
-use Rattle.std.specs.Global.{Vec}
-use Rattle.act_world.specs.View.{world_view}
-use Rattle.act_plan_plays.specs.Moves.{shows_next}
-use Rattle.act_plan_plays.specs.declared.choice.Choice.{Choice}
-use Rattle.act_plan_plays.specs.declared.choice.Choice.TheVariants.{Run}
+use Rattle.act_plan_plays.proofs.Common.{◌∙◌, ℕ, List, ap, sym, subst, Vec, world_view, shows_next, Choice, Run}
 use Rattle.act_plan_plays.proofs.Gathered.{HasMade, made_more, made_same, made_whole, front_push, front_same}
 use Rattle.act_plan_plays.proofs.choices.add_runs.Goals as goal
 use Rattle.act_plan_plays.proofs.choices.add_runs.Goals.{then-may_run+in_ok-push, else-may_run}

@@ -1,9 +1,4 @@
-use Rattle.std.proofs.Common.{◌∙◌, ℕ, List, ap, sym, subst}
-use Rattle.act_rules.specs.History.{History, contains}
-use Rattle.act_world.specs.View.{world_view}
-use Rattle.act_world.specs.Refines.{Refines}
-use Rattle.act_plan_plays.specs.declared.choice.Choice.TheVariants.{Run}
-use Rattle.act_plan_plays.specs.Parts.{parts_of}
+use Rattle.act_plan_plays.proofs.Common.{◌∙◌, ℕ, List, ap, sym, subst, History, contains, world_view, Refines, Run, parts_of}
 use Rattle.act_plan_plays.proofs.Gathered.{has_front}
 use Rattle.act_plan_plays.proofs.Chosen.{runs_found, kill_shown}
 use Rattle.act_plan_plays.proofs.choices.choices_of.Goals as goal

@@ -1,8 +1,5 @@
-use Rattle.std.proofs.Common.{sym, ◌∙◌}
+use Rattle.act_plan_plays.proofs.Common.{sym, ◌∙◌, add_event, world_view, parts_of}
 use Rattle.act_rules.specs.declared.event.Event.TheVariants.{Run}
-use Rattle.act_rules.specs.Rules.{add_event}
-use Rattle.act_world.specs.View.{world_view}
-use Rattle.act_plan_plays.specs.Parts.{parts_of}
 use Rattle.act_plan_plays.proofs.Heard.{run_comes}
 use Rattle.act_plan_plays.proofs.choosing.run.Goals as goal
 

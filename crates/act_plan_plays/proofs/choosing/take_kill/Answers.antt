@@ -1,5 +1,4 @@
-use Rattle.act_world.specs.View.{world_view}
-use Rattle.act_plan_plays.specs.Parts.{parts_of}
+use Rattle.act_plan_plays.proofs.Common.{world_view, parts_of}
 use Rattle.act_plan_plays.proofs.Heard.{kill_comes}
 use Rattle.act_plan_plays.proofs.choosing.take_kill.Goals as goal
 

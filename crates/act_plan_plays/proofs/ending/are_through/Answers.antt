@@ -1,7 +1,4 @@
-use Rattle.std.proofs.Common.{◌≡◌, true, false, ◌∙◌, refl, sym, subst}
-use Rattle.act_plans.specs.declared.rising.CallerSetup.{CallerSetup}
-use Rattle.act_plan_plays.specs.Parts.{parts_of}
-use Rattle.act_plan_plays.specs.Play.{IsPart, IsThrough}
+use Rattle.act_plan_plays.proofs.Common.{◌≡◌, true, false, ◌∙◌, refl, sym, subst, CallerSetup, parts_of, IsPart, IsThrough}
 use Rattle.act_plan_plays.proofs.Loops.{each_more, each_whole}
 use Rattle.act_plan_plays.proofs.Ends.{through_all}
 use Rattle.act_plan_plays.proofs.ending.are_through.Goals as goal

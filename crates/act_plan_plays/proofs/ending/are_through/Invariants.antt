@@ -1,10 +1,4 @@
-use Rattle.std.proofs.Common.{ℕ, List, take, All}
-use Rattle.act_rules.specs.declared.script.Step.{Step}
-use Rattle.act_rules.specs.History.{ActorSpec}
-use Rattle.act_plans.specs.declared.rising.CallerSetup.{CallerSetup}
-use Rattle.act_early.specs.Plays.{At}
-use Rattle.act_plan_plays.specs.Parts.{parts_of, Stands}
-use Rattle.act_plan_plays.specs.Play.{IsPart, IsThrough}
+use Rattle.act_plan_plays.proofs.Common.{ℕ, List, take, All, Step, ActorSpec, CallerSetup, At, parts_of, Stands, IsPart, IsThrough}
 use Rattle.act_plan_plays.proofs.ending.are_through.Given as goal
 
 -- the callers so far are through

@@ -1,7 +1,4 @@
-use Rattle.std.proofs.Common.{refl, ap, sym, subst, ◌∙◌}
-use Rattle.act_rules.specs.History.{History, is_caller}
-use Rattle.act_world.specs.View.{world_view}
-use Rattle.act_world.proofs.OneCaller.{IsHere}
+use Rattle.act_plan_plays.proofs.Common.{refl, ap, sym, subst, ◌∙◌, History, is_caller, world_view, IsHere}
 use Rattle.act_plan_plays.proofs.Ends.{answers_tell, stranger}
 use Rattle.act_plan_plays.proofs.ending.is_answered.Goals as goal
 

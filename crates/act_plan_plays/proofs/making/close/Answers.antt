@@ -1,6 +1,4 @@
-use Rattle.std.proofs.Common.{◌<◌, ◌≤◌, length, get_or, arith}
-use Rattle.act_world.specs.View.{world_view}
-use Rattle.act_plan_plays.specs.Parts.{parts_of}
+use Rattle.act_plan_plays.proofs.Common.{◌<◌, ◌≤◌, length, get_or, arith, world_view, parts_of}
 use Rattle.act_plan_plays.proofs.Moving.{done_is, next_none, close_comes}
 use Rattle.act_plan_plays.proofs.making.close.Goals as goal
 

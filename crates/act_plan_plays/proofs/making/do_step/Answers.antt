@@ -1,8 +1,4 @@
-use Rattle.std.proofs.Common.{sym, subst}
-use Rattle.std.specs.Prelude.{OnOk}
-use Rattle.act_rules.specs.declared.script.Step.{Step}
-use Rattle.act_plan_plays.specs.Parts.{parts_of}
-use Rattle.act_plan_plays.specs.Moves.{Does}
+use Rattle.act_plan_plays.proofs.Common.{sym, subst, OnOk, Step, parts_of, Does}
 use Rattle.act_plan_plays.proofs.making.do_step.Goals as goal
 
 pub returns-in-Submit-clause-does : goal.returns-in-Submit-clause-does

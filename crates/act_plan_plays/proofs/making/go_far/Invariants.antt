@@ -1,5 +1,4 @@
-use Rattle.act_plan_plays.specs.Parts.{parts_of}
-use Rattle.act_plan_plays.specs.Moves.{Moves}
+use Rattle.act_plan_plays.proofs.Common.{parts_of, Moves}
 use Rattle.act_plan_plays.proofs.making.go_far.Given as goal
 
 -- the play went on without a choice

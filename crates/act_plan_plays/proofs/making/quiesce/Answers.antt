@@ -1,5 +1,4 @@
-use Rattle.std.proofs.Common.{◌<◌, length, sym, subst}
-use Rattle.act_plan_plays.specs.Play.{IsPart}
+use Rattle.act_plan_plays.proofs.Common.{◌<◌, length, sym, subst, IsPart}
 use Rattle.act_plan_plays.proofs.Moving.{same_trans}
 use Rattle.act_plan_plays.proofs.making.quiesce.Goals as goal
 

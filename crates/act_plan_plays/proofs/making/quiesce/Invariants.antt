@@ -1,10 +1,4 @@
-use Rattle.std.proofs.Common.{ℕ, List}
-use Rattle.act_rules.specs.declared.script.Step.{Step}
-use Rattle.act_rules.specs.History.{ActorSpec}
-use Rattle.act_early.specs.Plays.{At}
-use Rattle.act_early.specs.Fronts.{HaveSameChoices}
-use Rattle.act_plan_plays.specs.Parts.{parts_of, Stands}
-use Rattle.act_plan_plays.specs.Play.{HoldPlans}
+use Rattle.act_plan_plays.proofs.Common.{ℕ, List, Step, ActorSpec, At, HaveSameChoices, parts_of, Stands, HoldPlans}
 use Rattle.act_plan_plays.proofs.making.quiesce.Given as goal
 
 -- the play went on without a choice

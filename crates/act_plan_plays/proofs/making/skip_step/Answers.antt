@@ -1,10 +1,4 @@
-use Rattle.std.proofs.Common.{◌≡◌, ◌<◌, ◌∙◌, sym, ap, subst, Some, get_or, arith}
-use Rattle.std.specs.Prelude.{slice_get}
-use Rattle.act_rules.specs.declared.script.Step.{Step}
-use Rattle.act_rules.specs.History.{History}
-use Rattle.act_world.specs.View.{world_view}
-use Rattle.act_world.specs.Refines.{Refines, IsOwnerOf}
-use Rattle.act_plan_plays.specs.Parts.{parts_of}
+use Rattle.act_plan_plays.proofs.Common.{◌≡◌, ◌<◌, ◌∙◌, sym, ap, subst, Some, get_or, arith, slice_get, Step, History, world_view, Refines, IsOwnerOf, parts_of}
 use Rattle.act_plan_plays.proofs.Seen.{left_out}
 use Rattle.act_plan_plays.proofs.Moving.{done_is, read_is, next_is, skip_comes}
 use Rattle.act_plan_plays.proofs.making.skip_step.Goals as goal

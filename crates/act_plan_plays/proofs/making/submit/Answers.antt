@@ -1,8 +1,4 @@
-use Rattle.std.proofs.Common.{List, subst}
-use Rattle.act_types.specs.declared.call.Arg.{Arg}
-use Rattle.act_rules.specs.declared.script.Step.TheVariants.{Submit}
-use Rattle.act_plan_plays.specs.Parts.{Parts, parts_of}
-use Rattle.act_plan_plays.specs.Moves.{HasDone}
+use Rattle.act_plan_plays.proofs.Common.{List, subst, Arg, Submit, Parts, parts_of, HasDone}
 use Rattle.act_plan_plays.proofs.making.submit.Goals as goal
 
 pub returns-clause-does : goal.returns-clause-does

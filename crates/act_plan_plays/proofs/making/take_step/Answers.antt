@@ -1,6 +1,4 @@
-use Rattle.std.proofs.Common.{◌≡◌, ◌<◌, Some, get_or, arith}
-use Rattle.std.specs.Prelude.{slice_get}
-use Rattle.act_plan_plays.specs.Parts.{parts_of}
+use Rattle.act_plan_plays.proofs.Common.{◌≡◌, ◌<◌, Some, get_or, arith, slice_get, parts_of}
 use Rattle.act_plan_plays.proofs.Moving.{done_is, read_is, next_is, step_comes}
 use Rattle.act_plan_plays.proofs.making.take_step.Goals as goal
 

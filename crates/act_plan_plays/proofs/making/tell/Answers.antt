@@ -1,8 +1,4 @@
-use Rattle.std.proofs.Common.{◌∙◌, sym}
-use Rattle.act_rules.specs.declared.event.Event.TheVariants.{Tell}
-use Rattle.act_rules.specs.Rules.{add_event}
-use Rattle.act_world.specs.View.{world_view}
-use Rattle.act_plan_plays.specs.Parts.{parts_of}
+use Rattle.act_plan_plays.proofs.Common.{◌∙◌, sym, Tell, add_event, world_view, parts_of}
 use Rattle.act_plan_plays.proofs.Moving.{told_place, tell_comes}
 use Rattle.act_plan_plays.proofs.making.tell.Goals as goal
 

@@ -1,7 +1,4 @@
-use Rattle.act_plans.specs.declared.rising.CallerSetup.{CallerSetup}
-use Rattle.act_plan_plays.specs.Parts.{parts_of}
-use Rattle.act_plan_plays.specs.Play.{IsPart}
-use Rattle.act_plan_plays.specs.Moves.{IsDone}
+use Rattle.act_plan_plays.proofs.Common.{CallerSetup, parts_of, IsPart, IsDone}
 use Rattle.act_plan_plays.proofs.Loops.{no_move, each_more, each_whole}
 use Rattle.act_plan_plays.proofs.Quiet.{quiet}
 use Rattle.act_plan_plays.proofs.moves.find_move.Goals as goal

@@ -1,7 +1,4 @@
-use Rattle.std.proofs.Common.{◌∙◌, ℕ, ◌&&◌, not, sym}
-use Rattle.act_owner.specs.Owner.{is_known_dead}
-use Rattle.act_world.specs.View.{world_view}
-use Rattle.act_plan_plays.specs.Moves.{shows_dead}
+use Rattle.act_plan_plays.proofs.Common.{◌∙◌, ℕ, ◌&&◌, not, sym, is_known_dead, world_view, shows_dead}
 use Rattle.act_plan_plays.proofs.Loops.{none_more, none_whole}
 use Rattle.act_plan_plays.proofs.moves.first_untold.Goals as goal
 

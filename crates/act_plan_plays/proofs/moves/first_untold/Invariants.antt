@@ -1,8 +1,4 @@
-use Rattle.std.proofs.Common.{◌≡◌, None, take, not, ◌&&◌}
-use Rattle.std.specs.Prelude.{find}
-use Rattle.act_owner.specs.Owner.{is_known_dead}
-use Rattle.act_world.specs.View.{world_view}
-use Rattle.act_plan_plays.specs.Moves.{shows_dead}
+use Rattle.act_plan_plays.proofs.Common.{◌≡◌, None, take, not, ◌&&◌, find, is_known_dead, world_view, shows_dead}
 use Rattle.act_plan_plays.proofs.moves.first_untold.Given as goal
 
 -- none of the actors so far is dead and untold

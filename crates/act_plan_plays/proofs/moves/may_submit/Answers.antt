@@ -1,6 +1,4 @@
-use Rattle.std.proofs.Common.{◌∙◌, ap}
-use Rattle.std.specs.Prelude.{Option, is_none}
-use Rattle.act_rules.specs.declared.outcome.SubmitRefusal.{SubmitRefusal}
+use Rattle.act_plan_plays.proofs.Common.{◌∙◌, ap, Option, is_none, SubmitRefusal}
 use Rattle.act_plan_plays.proofs.Seen.{none_not}
 use Rattle.act_plan_plays.proofs.moves.may_submit.Goals as goal
 

@@ -1,5 +1,4 @@
-use Rattle.std.proofs.Common.{◌∙◌, ap, sym}
-use Rattle.act_plan_plays.specs.Moves.{may_take}
+use Rattle.act_plan_plays.proofs.Common.{◌∙◌, ap, sym, may_take}
 use Rattle.act_plan_plays.proofs.moves.may_take.Goals as goal
 
 pub returns-in-Submit : goal.returns-in-Submit

@@ -1,12 +1,5 @@
-use Rattle.std.proofs.Common.{◌≡◌, ◌<◌, ◌&&◌, not, ℕ, refl, sym, subst, None, List, get_or, arith}
-use Rattle.std.specs.Prelude.{find, slice_get}
-use Rattle.act_owner.specs.Owner.{is_known_dead}
-use Rattle.act_plan_plays.specs.Moves.{shows_dead}
-use Rattle.act_rules.specs.History.{History}
-use Rattle.act_world.specs.View.{world_view}
-use Rattle.act_world.specs.Refines.{Refines}
-use Rattle.act_world.proofs.OneCaller.{IsHere}
-use Rattle.act_plan_plays.specs.Parts.{parts_of}
+use Rattle.act_plan_plays.proofs.Common.{◌≡◌, ◌<◌, ◌&&◌, not, ℕ, refl, sym, subst, None, List, get_or, arith, find, slice_get, is_known_dead, shows_dead}
+use Rattle.act_plan_plays.proofs.Common.{History, world_view, Refines, IsHere, parts_of}
 use Rattle.act_plan_plays.proofs.Done.{done_of}
 use Rattle.act_plan_plays.proofs.Moving.{done_is, next_is}
 use Rattle.act_plan_plays.proofs.moves.next_move.Goals as goal

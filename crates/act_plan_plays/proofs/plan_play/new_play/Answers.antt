@@ -1,6 +1,4 @@
-use Rattle.std.proofs.Common.{map}
-use Rattle.act_actor.specs.Casts.{actor_spec}
-use Rattle.act_world.specs.View.{world_view}
+use Rattle.act_plan_plays.proofs.Common.{map, actor_spec, world_view}
 use Rattle.act_plan_plays.proofs.Opened.{opens}
 use Rattle.act_plan_plays.proofs.plan_play.new_play.Goals as goal
 

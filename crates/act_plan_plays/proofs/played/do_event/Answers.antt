@@ -1,7 +1,4 @@
-use Rattle.std.proofs.Common.{◌∙◌, sym, subst}
-use Rattle.act_rules.specs.History.{History}
-use Rattle.act_world.specs.View.{world_view}
-use Rattle.act_plan_plays.specs.Parts.{IsBehind}
+use Rattle.act_plan_plays.proofs.Common.{◌∙◌, sym, subst, History, world_view, IsBehind}
 use Rattle.act_plan_plays.proofs.Events.{done_of}
 use Rattle.act_plan_plays.proofs.played.do_event.Goals as goal
 

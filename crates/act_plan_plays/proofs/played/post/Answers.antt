@@ -1,5 +1,4 @@
-use Rattle.act_world.specs.View.{world_view}
-use Rattle.act_rules.specs.Rules.{add_event}
+use Rattle.act_plan_plays.proofs.Common.{world_view, add_event}
 use Rattle.act_plan_plays.proofs.Events.{post_mail, post_none}
 use Rattle.act_plan_plays.proofs.played.post.Goals as goal
 

@@ -1,10 +1,4 @@
-use Rattle.std.proofs.Common.{List, sym, ◌∙◌, ap, subst}
-use Rattle.std.specs.Global.{Vec}
-use Rattle.act_rules.specs.declared.event.Event.{Event}
-use Rattle.act_rules.specs.History.{History}
-use Rattle.act_rules.specs.Rules.{outcome_of, after}
-use Rattle.act_world.specs.View.{world_view}
-use Rattle.act_plan_plays.specs.Parts.{IsBehind}
+use Rattle.act_plan_plays.proofs.Common.{List, sym, ◌∙◌, ap, subst, Vec, Event, History, outcome_of, after, world_view, IsBehind}
 use Rattle.act_plan_plays.proofs.Events.{behind_more, behind_same}
 use Rattle.act_plan_plays.proofs.played.try_event.Goals as goal
 use Rattle.act_plan_plays.proofs.played.try_event.Goals.{then-is_ok+in_ok-push, else-is_ok}

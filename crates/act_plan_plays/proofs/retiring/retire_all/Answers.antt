@@ -1,5 +1,4 @@
-use Rattle.std.proofs.Common.{arith}
-use Rattle.act_world.specs.View.{world_view}
+use Rattle.act_plan_plays.proofs.Common.{arith, world_view}
 use Rattle.act_plan_plays.proofs.RetiredAll.{over_more, over_all}
 use Rattle.act_plan_plays.proofs.retiring.retire_all.Goals as goal
 

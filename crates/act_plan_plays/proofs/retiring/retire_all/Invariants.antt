@@ -1,9 +1,4 @@
-use Rattle.std.proofs.Common.{ℕ, List}
-use Rattle.act_rules.specs.declared.script.Step.{Step}
-use Rattle.act_rules.specs.History.{ActorSpec}
-use Rattle.act_early.specs.Plays.{At}
-use Rattle.act_world.specs.View.{world_view}
-use Rattle.act_plan_plays.specs.Retired.{IsRetiredFrom}
+use Rattle.act_plan_plays.proofs.Common.{ℕ, List, Step, ActorSpec, At, world_view, IsRetiredFrom}
 use Rattle.act_plan_plays.proofs.RetiredAll.{AreOver}
 use Rattle.act_plan_plays.proofs.retiring.retire_all.Given as goal
 

@@ -1,5 +1,4 @@
-use Rattle.std.proofs.Common.{◌≡◌, sym, ◌∙◌}
-use Rattle.act_world.specs.View.{world_view}
+use Rattle.act_plan_plays.proofs.Common.{◌≡◌, sym, ◌∙◌, world_view}
 use Rattle.act_plan_plays.proofs.RetiredAll.{behind_of, retired_more, retired_before}
 use Rattle.act_plan_plays.proofs.retiring.retire_one.Goals as goal
 

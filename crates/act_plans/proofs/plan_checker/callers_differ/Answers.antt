@@ -1,7 +1,4 @@
-use Rattle.std.proofs.Common.{◌≢◌, ℕ, true≢false, sym, ◌∙◌, refl}
-use Rattle.std.specs.Global.{Vec}
-use Rattle.act_rules.specs.declared.script.Step.{Step}
-use Rattle.act_actor.proofs.Pairs.{differ_more, differ_not, pairs_all}
+use Rattle.act_plans.proofs.Common.{◌≢◌, ℕ, true≢false, sym, ◌∙◌, refl, Vec, Step, differ_more, differ_not, pairs_all}
 use Rattle.act_plans.proofs.plan_checker.callers_differ.Goals as goal
 
 pub returns-then-has_plan : goal.returns-then-has_plan

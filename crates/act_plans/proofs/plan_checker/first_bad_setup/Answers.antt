@@ -1,6 +1,4 @@
-use Rattle.std.proofs.Common.{ℕ, sym, ◌∙◌, ap}
-use Rattle.std.specs.Prelude.{option_map}
-use Rattle.act_plans.specs.Prepared.{bad_of_setup}
+use Rattle.act_plans.proofs.Common.{ℕ, sym, ◌∙◌, ap, option_map, bad_of_setup}
 use Rattle.act_plans.proofs.Finding.{first_found, none_more}
 use Rattle.act_plans.proofs.plan_checker.first_bad_setup.Goals as goal
 

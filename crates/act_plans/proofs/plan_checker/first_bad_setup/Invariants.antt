@@ -1,6 +1,4 @@
-use Rattle.std.proofs.Common.{◌≡◌, [], take}
-use Rattle.std.specs.Prelude.{filter_map}
-use Rattle.act_plans.specs.Prepared.{bad_of_setup}
+use Rattle.act_plans.proofs.Common.{◌≡◌, [], take, filter_map, bad_of_setup}
 use Rattle.act_plans.proofs.plan_checker.first_bad_setup.Given as goal
 
 -- no part so far has such a step

@@ -1,5 +1,4 @@
-use Rattle.std.proofs.Common.{true≢false, sym, ◌∙◌}
-use Rattle.std.proofs.lemmas.List.Sums.{list_all-from_AllPass}
+use Rattle.act_plans.proofs.Common.{true≢false, sym, ◌∙◌, list_all-from_AllPass}
 use Rattle.act_plans.proofs.plan_checker.plans_fit.Goals as goal
 use Rattle.act_plans.proofs.plan_checker.plans_fit.Goals.{then-callers_differ, else-callers_differ}
 

@@ -1,5 +1,4 @@
 use Rattle.std.proofs.Common.{◌≡◌, ℕ, List, map, None, Ok, ap, sym, ◌∙◌, subst}
-use Rattle.act_rules.specs.declared.event.Event.{Event}
 use Rattle.act_rules.specs.declared.script.Role.{Role}
 use Rattle.act_rules.specs.declared.script.Step.{Step}
 use Rattle.act_rules.specs.History.{ActorSpec}

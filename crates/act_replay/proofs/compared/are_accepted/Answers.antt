@@ -1,5 +1,4 @@
-use Rattle.std.proofs.Common.{arith}
-use Rattle.std.specs.Prelude.{IsOk}
+use Rattle.act_replay.proofs.Common.{arith, IsOk}
 use Rattle.act_replay.proofs.Each.{each_more, not_each, each}
 use Rattle.act_replay.proofs.compared.are_accepted.Goals as goal
 

@@ -1,8 +1,4 @@
-use Rattle.std.proofs.Common.{map}
-use Rattle.act_rules.specs.Laws.{history}
-use Rattle.act_serve.specs.declared.turn.Finished.{Finished}
-use Rattle.act_serve.specs.Served.{end_view}
-use Rattle.act_executor.specs.Plays.{IsEndIn}
+use Rattle.act_replay.proofs.Common.{map, history, Finished, end_view, IsEndIn}
 use Rattle.act_replay.proofs.Each.{over_map}
 use Rattle.act_replay.proofs.Playing.{not_accepted, not_callers, play_is}
 use Rattle.act_replay.proofs.compared.ends_so.Goals as goal

@@ -1,6 +1,4 @@
-use Rattle.act_rules.specs.Laws.{history}
-use Rattle.act_serve.specs.Served.{end_view}
-use Rattle.act_world.specs.View.{stage_view}
+use Rattle.act_replay.proofs.Common.{history, end_view, stage_view}
 use Rattle.act_replay.proofs.Playing.{no_end_in, end_in}
 use Rattle.act_replay.proofs.compared.has_end.Goals as goal
 

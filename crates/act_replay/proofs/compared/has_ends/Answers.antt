@@ -1,8 +1,4 @@
-use Rattle.std.proofs.Common.{arith}
-use Rattle.act_rules.specs.Laws.{history}
-use Rattle.act_serve.specs.declared.turn.Finished.{Finished}
-use Rattle.act_serve.specs.Served.{end_view}
-use Rattle.act_executor.specs.Plays.{IsEndIn}
+use Rattle.act_replay.proofs.Common.{arith, history, Finished, end_view, IsEndIn}
 use Rattle.act_replay.proofs.Each.{each_more, not_each, each}
 use Rattle.act_replay.proofs.compared.has_ends.Goals as goal
 

@@ -1,6 +1,4 @@
-use Rattle.std.proofs.Common.{arith}
-use Rattle.act_rules.specs.Laws.{history}
-use Rattle.act_executor.specs.Plays.{IsOwnerIn}
+use Rattle.act_replay.proofs.Common.{arith, history, IsOwnerIn}
 use Rattle.act_replay.proofs.Each.{each_more, not_each, each}
 use Rattle.act_replay.proofs.compared.has_owners.Goals as goal
 

@@ -1,11 +1,4 @@
-use Rattle.std.proofs.Common.{List, take}
-use Rattle.std.specs.Prelude.{All}
-use Rattle.act_rules.specs.declared.event.Event.{Event}
-use Rattle.act_rules.specs.History.{ActorSpec}
-use Rattle.act_rules.specs.Laws.{history}
-use Rattle.act_world.specs.IsReachedBy.{IsReachedBy}
-use Rattle.act_world.specs.View.{world_view}
-use Rattle.act_executor.specs.Plays.{IsOwnerIn}
+use Rattle.act_replay.proofs.Common.{List, take, All, Event, ActorSpec, history, IsReachedBy, world_view, IsOwnerIn}
 use Rattle.act_replay.proofs.compared.has_owners.Given as goal
 
 -- the world has the callers so far

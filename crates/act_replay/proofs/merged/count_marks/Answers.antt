@@ -1,7 +1,4 @@
-use Rattle.std.proofs.Common.{rules, ◌≡◌, ◌+◌, true, length, ap, subst, arith}
-use Rattle.std.proofs.lemmas.List.Elements.{All-more}
-use Rattle.std.proofs.lemmas.List.Sums.{sum_by_more}
-use Rattle.act_mailbox.specs.declared.thread.Page.{Page}
+use Rattle.act_replay.proofs.Common.{rules, ◌≡◌, ◌+◌, true, length, ap, subst, arith, All-more, sum_by_more, Page}
 use Rattle.act_replay.proofs.merged.count_marks.Goals as goal
 
 pub loop-page-preserved : goal.loop-page-preserved

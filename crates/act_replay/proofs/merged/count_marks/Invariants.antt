@@ -1,5 +1,4 @@
-use Rattle.std.proofs.Common.{◌≡◌, take}
-use Rattle.act_replay.specs.Notes.{AreWhole, marks_of}
+use Rattle.act_replay.proofs.Common.{◌≡◌, take, AreWhole, marks_of}
 use Rattle.act_replay.proofs.merged.count_marks.Given as goal
 
 -- the pages so far are whole, and their marks are counted

@@ -1,10 +1,4 @@
-use Rattle.std.proofs.Common.{List, map, subst}
-use Rattle.act_rules.specs.History.{ActorSpec}
-use Rattle.act_actor.specs.Casts.{actor_spec}
-use Rattle.act_serve.specs.declared.turn.Finished.{Finished}
-use Rattle.act_serve.specs.Served.{end_view}
-use Rattle.act_executor.specs.Runs.{plan_view}
-use Rattle.act_executor.specs.Plays.{IsPlayOf}
+use Rattle.act_replay.proofs.Common.{List, map, subst, ActorSpec, actor_spec, Finished, end_view, plan_view, IsPlayOf}
 use Rattle.act_replay.proofs.Faults.{play_fault}
 use Rattle.act_replay.proofs.Twins.{twins_fit}
 use Rattle.act_replay.proofs.recorded.run_recorded.Goals as goal

@@ -1,6 +1,4 @@
-use Rattle.std.proofs.Common.{List, map, ap}
-use Rattle.act_serve.specs.declared.turn.Finished.{Finished}
-use Rattle.act_serve.specs.Served.{end_view}
+use Rattle.act_replay.proofs.Common.{List, map, ap, Finished, end_view}
 use Rattle.act_replay.proofs.Playing.{play_same}
 use Rattle.act_replay.proofs.run.check_play.Goals as goal
 

@@ -1,7 +1,4 @@
-use Rattle.std.proofs.Common.{refl}
-use Rattle.std.proofs.lemmas.List.{map-set}
-use Rattle.std.proofs.Math.Seq.{map-set_same}
-use Rattle.act_replies.specs.declared.table.Link.{Link}
+use Rattle.act_replies.proofs.Common.{refl, map-set, map-set_same, Link}
 use Rattle.act_replies.proofs.table.set_before.Goals as goal
 
 pub returns-in-Some-clause-actors : goal.returns-in-Some-clause-actors

@@ -1,5 +1,4 @@
-use Rattle.std.proofs.lemmas.Result.{err_from_is_err_and}
-use Rattle.act_rules.specs.Words.{arg_at}
+use Rattle.act_scripts.proofs.Common.{err_from_is_err_and, arg_at}
 use Rattle.act_scripts.proofs.Each.{goes_on, ends, is_done}
 use Rattle.act_scripts.proofs.forms.args_of.Goals as goal
 

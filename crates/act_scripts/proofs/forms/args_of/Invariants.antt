@@ -1,5 +1,4 @@
-use Rattle.std.proofs.Common.{◌≡◌, map, drop}
-use Rattle.act_rules.specs.Grammar.{args_at}
+use Rattle.act_scripts.proofs.Common.{◌≡◌, map, drop, args_at}
 use Rattle.act_scripts.proofs.Each.{with_front}
 use Rattle.act_scripts.proofs.forms.args_of.Given as goal
 

@@ -1,6 +1,4 @@
-use Rattle.std.proofs.Common.{sym, subst}
-use Rattle.act_rules.specs.Grammar.{add_line}
-use Rattle.act_scripts.specs.Spelled.{LeavesScript, spelled_script}
+use Rattle.act_scripts.proofs.Common.{sym, subst, add_line, LeavesScript, spelled_script}
 use Rattle.act_scripts.proofs.script.add.Goals as goal
 
 pub returns-in-Role-clause-read : goal.returns-in-Role-clause-read

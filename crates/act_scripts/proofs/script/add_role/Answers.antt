@@ -1,8 +1,4 @@
-use Rattle.std.proofs.Common.{map, List, sym, ◌∙◌, subst}
-use Rattle.act_rules.specs.declared.script.Role.{Role}
-use Rattle.act_rules.specs.Scripts.{actor_spec_of}
-use Rattle.act_scripts.specs.Spelled.{spelled_script}
-use Rattle.act_scripts.specs.Roles.{AreSound}
+use Rattle.act_scripts.proofs.Common.{map, List, sym, ◌∙◌, subst, Role, actor_spec_of, spelled_script, AreSound}
 use Rattle.act_scripts.proofs.Roles.{unrefused, one_role_more}
 use Rattle.act_scripts.proofs.script.add_role.Goals as goal
 

@@ -1,5 +1,4 @@
-use Rattle.std.proofs.Common.{◌≡◌, ℕ, ◌+◌, ◌<◌, List, [], ◌∷◌, ◌++◌, length, take, drop, map, sym, ap, ◌∙◌, arith, take_all}
-use Rattle.std.proofs.lemmas.Bool.Decides.{nat_tests}
+use Rattle.act_scripts.proofs.Common.{◌≡◌, ℕ, ◌+◌, ◌<◌, List, [], ◌∷◌, ◌++◌, length, take, drop, map, sym, ap, ◌∙◌, arith, take_all, nat_tests}
 use Rattle.act_scripts.proofs.Cutting.{word_plain, seen_word, line_ends, line_fails, plain_more, word_ends, word_goes_on, too_long, lines_last}
 use Rattle.act_scripts.proofs.script.cut.Goals.{then-byte-le32+else-byte-eq10+else-byte-ne32+in_ok-push_word-2, else-byte-le32+else-byte-gt126}
 use Rattle.act_scripts.proofs.script.cut.Goals as goal

@@ -1,6 +1,4 @@
-use Rattle.std.proofs.Common.{◌≡◌, ◌∷◌, [], ◌++◌, ◌≤◌, map, take, drop, true}
-use Rattle.std.specs.List.{list_all}
-use Rattle.act_rules.specs.Grammar.{is_plain_byte, words_in}
+use Rattle.act_scripts.proofs.Common.{◌≡◌, ◌∷◌, [], ◌++◌, ◌≤◌, map, take, drop, true, list_all, is_plain_byte, words_in}
 use Rattle.act_scripts.proofs.script.cut.Given as goal
 
 -- the bytes so far are plain, and their last word is not yet pushed

@@ -1,5 +1,4 @@
-use Rattle.std.proofs.Common.{◌≡◌, drop}
-use Rattle.act_rules.specs.Grammar.{has_twice}
+use Rattle.act_scripts.proofs.Common.{◌≡◌, drop, has_twice}
 use Rattle.act_scripts.proofs.script.names_twice.Given as goal
 
 abbrev pub invariant-loop-at : goal.invariant-loop-at

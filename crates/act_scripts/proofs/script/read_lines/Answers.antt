@@ -1,6 +1,4 @@
-use Rattle.std.proofs.Common.{◌+◌}
-use Rattle.act_rules.specs.Grammar.{forms_of, lines_in}
-use Rattle.act_scripts.specs.Spelled.{spelled_script}
+use Rattle.act_scripts.proofs.Common.{◌+◌, forms_of, lines_in, spelled_script}
 use Rattle.act_scripts.proofs.Cutting.{first_of}
 use Rattle.act_scripts.proofs.Lines.{not_plain, ends}
 use Rattle.act_scripts.proofs.script.read_lines.Goals as goal

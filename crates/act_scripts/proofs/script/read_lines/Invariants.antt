@@ -1,8 +1,5 @@
-use Rattle.std.proofs.Common.{◌≡◌, ◌+◌, ◌≤◌, length, map}
-use Rattle.act_rules.specs.Grammar.{forms_of, no_lines, lines_in, spelled_from}
-use Rattle.act_rules.specs.Scripts.{actor_spec_of}
-use Rattle.act_scripts.specs.Roles.{AreSound}
-use Rattle.act_scripts.specs.Spelled.{mode_of, count_of, spelled_script}
+use Rattle.act_scripts.proofs.Common.{◌≡◌, ◌+◌, ◌≤◌, length, map, forms_of, no_lines, lines_in, spelled_from, actor_spec_of, AreSound, mode_of, count_of}
+use Rattle.act_scripts.proofs.Common.{spelled_script}
 use Rattle.act_scripts.proofs.script.read_lines.Given as goal
 
 -- the script so far, and what is still to be read

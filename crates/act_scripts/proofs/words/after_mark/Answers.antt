@@ -1,5 +1,4 @@
-use Rattle.std.proofs.Common.{Some, None}
-use Rattle.std.proofs.lemmas.Str.Pattern.{strip_prefix_char}
+use Rattle.act_scripts.proofs.Common.{Some, None, strip_prefix_char}
 use Rattle.act_scripts.proofs.Marks.{marked_some, marked_none}
 use Rattle.act_scripts.proofs.words.after_mark.Goals as goal
 

@@ -1,5 +1,4 @@
-use Rattle.std.proofs.Common.{Some, None}
-use Rattle.std.proofs.lemmas.Str.Pattern.{strip_suffix_char}
+use Rattle.act_scripts.proofs.Common.{Some, None, strip_suffix_char}
 use Rattle.act_scripts.proofs.Marks.{closed_some, closed_none}
 use Rattle.act_scripts.proofs.words.before_mark.Goals as goal
 

@@ -1,5 +1,4 @@
-use Rattle.std.proofs.Common.{rules, sym, true}
-use Rattle.act_serve.specs.Turns.{is_endpoint_of}
+use Rattle.act_serve.proofs.Common.{rules, sym, true, is_endpoint_of}
 use Rattle.act_serve.proofs.Nexts.{position_here, position_nowhere}
 use Rattle.act_serve.proofs.AtOnce.{endpoint_is}
 use Rattle.act_serve.proofs.letter.endpoint_of.Goals as goal

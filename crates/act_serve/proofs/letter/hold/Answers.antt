@@ -1,7 +1,4 @@
-use Rattle.std.proofs.Common.{◌≡◌, [], ◌∷◌, ◌++◌, ap, sym, subst}
-use Rattle.act_actor.specs.View.{LiveView}
-use Rattle.act_mailbox.specs.declared.mail.Letter.TheVariants.{Call}
-use Rattle.act_serve.specs.Turns.{IsFed}
+use Rattle.act_serve.proofs.Common.{◌≡◌, [], ◌∷◌, ◌++◌, ap, sym, subst, LiveView, Call, IsFed}
 use Rattle.act_serve.proofs.Logs.{fed_arrive}
 use Rattle.act_serve.proofs.Serving.{on_err}
 use Rattle.act_serve.proofs.letter.hold.Goals as goal

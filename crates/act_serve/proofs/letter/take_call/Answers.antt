@@ -1,11 +1,5 @@
-use Rattle.std.proofs.Common.{List, [], ◌∷◌, ◌++◌, map, ap, sym, ◌∙◌, subst, refl, All}
-use Rattle.act_actor.specs.Actor.{with_packet}
-use Rattle.act_mailbox.specs.declared.mail.Letter.TheVariants.{Call}
-use Rattle.act_mailbox.specs.Notices.{ReplyExecView}
-use Rattle.act_mailbox.specs.declared.thread.Endpoint.{Endpoint}
-use Rattle.act_serve.specs.ActorTraces.{exec_clock}
-use Rattle.act_serve.specs.Served.{without_given}
-use Rattle.act_serve.specs.Turns.{IsAtItsEndpoint, IsServing}
+use Rattle.act_serve.proofs.Common.{List, [], ◌∷◌, ◌++◌, map, ap, sym, ◌∙◌, subst, refl, All, with_packet, Call, ReplyExecView, Endpoint, exec_clock}
+use Rattle.act_serve.proofs.Common.{without_given, IsAtItsEndpoint, IsServing}
 use Rattle.act_serve.proofs.AtOnce.{serving_held, serving_refused, goes_on, endpoints_on, endpoints_given, bare_given, serving_given, found}
 use Rattle.act_serve.proofs.Nexts.{replied_place}
 use Rattle.act_serve.proofs.Serving.{serving_in}

@@ -1,9 +1,5 @@
-use Rattle.std.proofs.Common.{◌≡◌, IfOk, List, [], ◌∷◌, ◌++◌, ap, sym, ◌∙◌, subst}
-use Rattle.act_actor.specs.View.{LiveView}
-use Rattle.act_mailbox.specs.declared.mail.Letter.{Letter}
-use Rattle.act_mailbox.specs.declared.mail.Letter.TheVariants.{Call, Note}
-use Rattle.act_serve.specs.declared.turn.ExecPasses.{ExecPasses}
-use Rattle.act_serve.specs.Turns.{IsFed, IsServing, IsTracedSoFar, HasCome}
+use Rattle.act_serve.proofs.Common.{◌≡◌, IfOk, List, [], ◌∷◌, ◌++◌, ap, sym, ◌∙◌, subst, LiveView, Letter, Call, Note, ExecPasses, IsFed, IsServing}
+use Rattle.act_serve.proofs.Common.{IsTracedSoFar, HasCome}
 use Rattle.act_serve.proofs.Logs.{fed_note}
 use Rattle.act_serve.proofs.Nexts.{came_some}
 use Rattle.act_serve.proofs.Serving.{serving_in}

@@ -1,5 +1,4 @@
-use Rattle.std.proofs.Common.{rules, length, get_or, arith}
-use Rattle.act_serve.specs.Turns.{has_next}
+use Rattle.act_serve.proofs.Common.{rules, length, get_or, arith, has_next}
 use Rattle.act_serve.proofs.Nexts.{none_more, position_here, position_nowhere, next_is}
 use Rattle.act_serve.proofs.AtOnce.{none_next}
 use Rattle.act_serve.proofs.turn.next_endpoint.Goals as goal

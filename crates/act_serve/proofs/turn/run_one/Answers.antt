@@ -1,12 +1,6 @@
-use Rattle.std.proofs.Common.{rules, ◌≡◌, ◌<◌, ◌∙◌, List, map, ap, sym, subst, refl, length, get_or, is_some, true, false, true≢false, All}
-use Rattle.std.specs.Prelude.{position}
-use Rattle.std.proofs.lemmas.List.{get_or_default}
-use Rattle.act_actor.specs.Actor.{next_call}
-use Rattle.act_mailbox.specs.Notices.{ReplyExecView}
-use Rattle.act_mailbox.specs.declared.thread.Endpoint.{Endpoint}
-use Rattle.act_serve.specs.ActorTraces.{exec_clock}
-use Rattle.act_serve.specs.Served.{without_given, caller_at}
-use Rattle.act_serve.specs.Turns.{IsAtItsEndpoint, IsServing, HasReplied, has_next}
+use Rattle.act_serve.proofs.Common.{rules, ◌≡◌, ◌<◌, ◌∙◌, List, map, ap, sym, subst, refl, length, get_or, is_some, true, false, true≢false, All, position}
+use Rattle.act_serve.proofs.Common.{get_or_default, next_call, ReplyExecView, Endpoint, exec_clock, without_given, caller_at, IsAtItsEndpoint, IsServing}
+use Rattle.act_serve.proofs.Common.{HasReplied, has_next}
 use Rattle.act_serve.proofs.AtOnce.{goes_on, endpoints_on, endpoints_given, bare_given, serving_given}
 use Rattle.act_serve.proofs.Serving.{caller_here}
 use Rattle.act_serve.proofs.Nexts.{next_is, nowhere, somewhere, replied_place}

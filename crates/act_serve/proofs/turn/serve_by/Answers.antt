@@ -1,15 +1,6 @@
-use Rattle.std.proofs.Common.{rules, ◌≡◌, ◌≤◌, ◌<◌, ◌∙◌, Bool, false, ap, sym, subst, refl, length, map}
-use Rattle.act_rules.specs.RunList.{has_terminated, NothingFollowsAnEnd}
-use Rattle.act_actor.specs.Actor.{MayRetire}
-use Rattle.act_actor.specs.View.{LiveView, DeadView}
-use Rattle.act_actor.specs.StateViews.{retired_view}
-use Rattle.act_mailbox.specs.declared.mail.Letter.{Letter}
-use Rattle.act_mailbox.specs.Controls.{ControlExecView}
-use Rattle.act_mailbox.specs.Passes.{TakerView}
-use Rattle.act_serve.specs.declared.turn.ExecPasses.{ExecPasses}
-use Rattle.act_serve.specs.ActorTraces.{exec_clock}
-use Rattle.act_serve.specs.Served.{endpoint_callers, without_given, KillsOfDead}
-use Rattle.act_serve.specs.Turns.{PassesFit, IsServing, IsTracedSoFar, HasLooked, with_death_given}
+use Rattle.act_serve.proofs.Common.{rules, ◌≡◌, ◌≤◌, ◌<◌, ◌∙◌, Bool, false, ap, sym, subst, refl, length, map, has_terminated, NothingFollowsAnEnd, MayRetire}
+use Rattle.act_serve.proofs.Common.{LiveView, DeadView, retired_view, Letter, ControlExecView, TakerView, ExecPasses, exec_clock, endpoint_callers}
+use Rattle.act_serve.proofs.Common.{without_given, KillsOfDead, PassesFit, IsServing, IsTracedSoFar, HasLooked, with_death_given}
 use Rattle.act_serve.proofs.Serving.{stay_on, look_on, still_untaken, kept_kills, looked_on, looked_past, step_fit, killed_served, starved_served, retired_served, fresh_serving}
 use Rattle.act_serve.proofs.Traces.{traced_over, traced_told, traced_looked, traced_fresh}
 use Rattle.act_serve.proofs.turn.serve_by.Goals as goal

@@ -1,8 +1,4 @@
-use Rattle.std.proofs.Common.{◌≡◌}
-use Rattle.act_rules.specs.RunList.{NothingFollowsAnEnd}
-use Rattle.act_serve.specs.ActorTraces.{exec_clock}
-use Rattle.act_serve.specs.Turns.{PassesOf, IsServing, IsTracedSoFar}
-use Rattle.act_serve.specs.Served.{endpoint_callers, IsUntaken, ExecPassesStay}
+use Rattle.act_serve.proofs.Common.{◌≡◌, NothingFollowsAnEnd, exec_clock, PassesOf, IsServing, IsTracedSoFar, endpoint_callers, IsUntaken, ExecPassesStay}
 use Rattle.act_serve.proofs.turn.serve_by.Given as goal
 
 abbrev pub invariant-loop : goal.invariant-loop

@@ -1,8 +1,4 @@
-use Rattle.std.proofs.Common.{List, ap, sym, ◌∙◌, subst}
-use Rattle.act_mailbox.specs.declared.mail.Letter.{Letter}
-use Rattle.act_mailbox.specs.Passes.{TakerView}
-use Rattle.act_serve.specs.Turns.{IsServing, HasCome}
-use Rattle.act_serve.specs.declared.letter.Received.TheVariants.{Nothing}
+use Rattle.act_serve.proofs.Common.{List, ap, sym, ◌∙◌, subst, Letter, TakerView, IsServing, HasCome, Nothing}
 use Rattle.act_serve.proofs.Nexts.{idle_turn}
 use Rattle.act_serve.proofs.turn.take_turn.Goals as goal
 

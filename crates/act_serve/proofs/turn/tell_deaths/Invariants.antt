@@ -1,5 +1,4 @@
-use Rattle.std.proofs.Common.{◌≡◌, ◌++◌, map, take, drop}
-use Rattle.act_serve.specs.Turns.{with_death_given}
+use Rattle.act_serve.proofs.Common.{◌≡◌, ◌++◌, map, take, drop, with_death_given}
 use Rattle.act_serve.proofs.turn.tell_deaths.Given as goal
 
 abbrev pub invariant-loop-endpoint : goal.invariant-loop-endpoint

@@ -1,14 +1,7 @@
-use Rattle.std.proofs.Common.{◌≡◌, List, map, Some, inl, inr, ap, sym, ◌∙◌, subst}
-use Rattle.act_rules.specs.History.{ActorSpec}
-use Rattle.act_actor.specs.Casts.{actor_spec}
-use Rattle.act_executor.specs.Runs.{plan_view}
-use Rattle.act_epochs.specs.Epochs.{casts_left}
-use Rattle.act_service.specs.declared.epochs.EpochFault.{EpochFault}
+use Rattle.act_service.proofs.Common.{◌≡◌, List, map, Some, inl, inr, ap, sym, ◌∙◌, subst, ActorSpec, actor_spec, plan_view, casts_left, EpochFault, shape_of}
+use Rattle.act_service.proofs.Common.{LeadsOn, IsUnderWay, IsFaultAt, IsOfService}
 use Rattle.act_service.specs.declared.epochs.EpochFault.TheVariants as fault
 use Rattle.act_executor.specs.declared.run.RunFault.TheVariants as run
-use Rattle.act_service.specs.Shapes.{shape_of}
-use Rattle.act_service.specs.Services.{LeadsOn, IsUnderWay}
-use Rattle.act_service.specs.Faults.{IsFaultAt, IsOfService}
 use Rattle.act_service.proofs.Leading.{carried, epoch, is_epoch, leads, left_is}
 use Rattle.act_service.proofs.Fits.{left_fits}
 use Rattle.act_service.proofs.Faults.{err_only, without_plans, want_of_memory, of_run, of_service}

@@ -1,8 +1,4 @@
-use Rattle.std.proofs.Common.{◌≡◌, List, map, sym, subst}
-use Rattle.act_actor.specs.declared.cast.Cast.{Cast}
-use Rattle.act_actor.specs.Casts.{actor_spec}
-use Rattle.act_service.specs.declared.epochs.EpochFault.{EpochFault}
-use Rattle.act_service.specs.Faults.{IsEpochFault, IsFaultOfCodes}
+use Rattle.act_service.proofs.Common.{◌≡◌, List, map, sym, subst, Cast, actor_spec, EpochFault, IsEpochFault, IsFaultOfCodes}
 use Rattle.act_service.proofs.Faults.{err_only, of_codes}
 use Rattle.act_service.proofs.epochs.run_epochs.Goals as goal
 

@@ -1,7 +1,4 @@
-use Rattle.std.proofs.Common.{map}
-use Rattle.act_actor.specs.Cast.{IsFitting}
-use Rattle.act_actor.specs.Casts.{actor_spec}
-use Rattle.act_service.specs.Services.{HaveLed}
+use Rattle.act_service.proofs.Common.{map, IsFitting, actor_spec, HaveLed}
 use Rattle.act_service.proofs.epochs.run_epochs.Given as goal
 
 -- the epochs so far led to the casts, which fit

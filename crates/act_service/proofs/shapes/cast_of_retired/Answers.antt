@@ -1,9 +1,4 @@
-use Rattle.std.proofs.Common.{◌≡◌, ℕ, ◌==◌, Some, None, ap, sym, ◌∙◌, subst}
-use Rattle.std.specs.Prelude.{position, option_map}
-use Rattle.act_rules.proofs.Finding.{find-None}
-use Rattle.act_plans.proofs.Taking.{find_some}
-use Rattle.act_service.specs.declared.shapes.Shape.{Shape}
-use Rattle.act_service.specs.Shapes.{opened_in}
+use Rattle.act_service.proofs.Common.{◌≡◌, ℕ, ◌==◌, Some, None, ap, sym, ◌∙◌, subst, position, option_map, find-None, find_some, Shape, opened_in}
 use Rattle.act_service.proofs.shapes.cast_of_retired.Goals as goal
 
 pub returns-in_default : goal.returns-in_default

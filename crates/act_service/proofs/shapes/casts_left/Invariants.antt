@@ -1,9 +1,4 @@
-use Rattle.std.proofs.Common.{◌≡◌, ◌++◌, map}
-use Rattle.std.specs.Prelude.{filter_map}
-use Rattle.std.specs.Vec.Iter.{into_iter_items}
-use Rattle.act_actor.specs.Casts.{actor_spec}
-use Rattle.act_serve.specs.Served.{end_view}
-use Rattle.act_service.specs.Shapes.{cast_left_by}
+use Rattle.act_service.proofs.Common.{◌≡◌, ◌++◌, map, filter_map, into_iter_items, actor_spec, end_view, cast_left_by}
 use Rattle.act_service.proofs.shapes.casts_left.Given as goal
 
 -- what is left so far, and what is left of those that come

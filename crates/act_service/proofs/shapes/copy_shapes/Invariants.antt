@@ -1,5 +1,4 @@
-use Rattle.std.proofs.Common.{◌≡◌, map, take}
-use Rattle.act_service.specs.Shapes.{shape_of}
+use Rattle.act_service.proofs.Common.{◌≡◌, map, take, shape_of}
 use Rattle.act_service.proofs.shapes.copy_shapes.Given as goal
 
 abbrev pub invariant-loop-cast : goal.invariant-loop-cast

@@ -1,7 +1,4 @@
-use Rattle.std.proofs.Common.{◌==◌, sym, ◌∙◌}
-use Rattle.act_rules.proofs.Finding.{position_or_len-Some}
-use Rattle.act_serve.specs.Served.{end_view, end_id}
-use Rattle.act_serve.specs.declared.turn.Finished.{Finished}
+use Rattle.act_told.proofs.Common.{◌==◌, sym, ◌∙◌, position_or_len-Some, end_view, end_id, Finished}
 use Rattle.act_told.proofs.Places.{place_mapped, place_missing}
 use Rattle.act_told.proofs.actors.actor_place.Goals as goal
 

@@ -1,7 +1,4 @@
-use Rattle.std.proofs.Common.{◌≡◌, map, take}
-use Rattle.act_serve.specs.Served.{end_view}
-use Rattle.act_serve.specs.declared.turn.Finished.{Finished}
-use Rattle.act_told.specs.Told.{actor_told}
+use Rattle.act_told.proofs.Common.{◌≡◌, map, take, end_view, Finished, actor_told}
 use Rattle.act_told.proofs.actors.actors_of.Given as goal
 
 -- those so far are told

@@ -1,5 +1,4 @@
-use Rattle.std.proofs.Common.{◌≡◌, take}
-use Rattle.act_told.specs.Told.{callers_told}
+use Rattle.act_told.proofs.Common.{◌≡◌, take, callers_told}
 use Rattle.act_told.proofs.actors.callers_of.Given as goal
 
 -- those so far are told

@@ -1,6 +1,4 @@
-use Rattle.std.proofs.Common.{◌≡◌, map, take}
-use Rattle.act_serve.specs.Served.{end_view, end_id}
-use Rattle.act_serve.specs.declared.turn.Finished.{Finished}
+use Rattle.act_told.proofs.Common.{◌≡◌, map, take, end_view, end_id, Finished}
 use Rattle.act_told.proofs.actors.numbers_of.Given as goal
 
 -- those so far are told

@@ -1,9 +1,4 @@
-use Rattle.std.proofs.Common.{map, [], ◌∷◌, ◌++◌, ◌∙◌, sym, ap, length, ◌<◌, ◌^◌, subst, arith}
-use Rattle.std.proofs.lemmas.List.Elements.{All-push}
-use Rattle.act_serve.specs.Served.{end_view}
-use Rattle.act_serve.specs.declared.turn.Finished.{Finished}
-use Rattle.act_told.specs.Told.{calls_from}
-use Rattle.act_told.specs.Starts.{AreSmall}
+use Rattle.act_told.proofs.Common.{map, [], ◌∷◌, ◌++◌, ◌∙◌, sym, ap, length, ◌<◌, ◌^◌, subst, arith, All-push, end_view, Finished, calls_from, AreSmall}
 use Rattle.act_told.proofs.Going.{caller_more, start_more}
 use Rattle.act_told.proofs.calls.push_all_calls.Goals as goal
 

@@ -1,8 +1,4 @@
-use Rattle.std.proofs.Common.{◌≡◌, ◌++◌, map, drop, length}
-use Rattle.act_serve.specs.Served.{end_view}
-use Rattle.act_serve.specs.declared.turn.Finished.{Finished}
-use Rattle.act_told.specs.Told.{calls_told}
-use Rattle.act_told.specs.Starts.{starts_from, AreSmall}
+use Rattle.act_told.proofs.Common.{◌≡◌, ◌++◌, map, drop, length, end_view, Finished, calls_told, starts_from, AreSmall}
 use Rattle.act_told.proofs.calls.push_all_calls.Given as goal
 
 -- what is told so far, and what is still to be told

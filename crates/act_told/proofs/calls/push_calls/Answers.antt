@@ -1,8 +1,4 @@
-use Rattle.std.proofs.Common.{map, [], ◌∷◌, ◌++◌, ◌∙◌, sym, ap}
-use Rattle.act_owner.specs.Owner.{call_at, submission_of}
-use Rattle.act_serve.specs.Served.{end_view}
-use Rattle.act_serve.specs.declared.turn.Finished.{Finished}
-use Rattle.act_told.specs.Told.{call_told}
+use Rattle.act_told.proofs.Common.{map, [], ◌∷◌, ◌++◌, ◌∙◌, sym, ap, call_at, submission_of, end_view, Finished, call_told}
 use Rattle.act_told.proofs.Going.{call_more}
 use Rattle.act_told.proofs.calls.push_calls.Goals as goal
 

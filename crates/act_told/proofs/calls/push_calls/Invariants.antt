@@ -1,7 +1,4 @@
-use Rattle.std.proofs.Common.{◌≡◌, ◌++◌, map, drop}
-use Rattle.act_serve.specs.Served.{end_view}
-use Rattle.act_serve.specs.declared.turn.Finished.{Finished}
-use Rattle.act_told.specs.Told.{calls_from}
+use Rattle.act_told.proofs.Common.{◌≡◌, ◌++◌, map, drop, end_view, Finished, calls_from}
 use Rattle.act_told.proofs.calls.push_calls.Given as goal
 
 -- what is told so far, and what is still to be told

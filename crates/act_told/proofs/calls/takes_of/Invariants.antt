@@ -1,5 +1,4 @@
-use Rattle.std.proofs.Common.{◌≡◌, take}
-use Rattle.act_told.specs.Told.{takes_told}
+use Rattle.act_told.proofs.Common.{◌≡◌, take, takes_told}
 use Rattle.act_told.proofs.calls.takes_of.Given as goal
 
 -- those so far are told

@@ -1,5 +1,4 @@
-use Rattle.std.proofs.Common.{◌≡◌, ◌++◌, map, take}
-use Rattle.act_told.specs.Starts.{run_by}
+use Rattle.act_told.proofs.Common.{◌≡◌, ◌++◌, map, take, run_by}
 use Rattle.act_told.proofs.runs.push_runs.Given as goal
 
 -- those so far are told

@@ -1,7 +1,4 @@
-use Rattle.std.proofs.Common.{map, ◌++◌, ◌∙◌, ap}
-use Rattle.act_serve.specs.Served.{end_view}
-use Rattle.act_serve.specs.declared.turn.Finished.{Finished}
-use Rattle.act_told.specs.Starts.{run_by}
+use Rattle.act_told.proofs.Common.{map, ◌++◌, ◌∙◌, ap, end_view, Finished, run_by}
 use Rattle.act_told.proofs.Going.{log_more, mapped_here}
 use Rattle.act_told.proofs.runs.runs_of.Goals as goal
 

@@ -1,7 +1,4 @@
-use Rattle.std.proofs.Common.{◌≡◌, ◌++◌, map, drop}
-use Rattle.act_serve.specs.Served.{end_view}
-use Rattle.act_serve.specs.declared.turn.Finished.{Finished}
-use Rattle.act_told.specs.Starts.{runs_by}
+use Rattle.act_told.proofs.Common.{◌≡◌, ◌++◌, map, drop, end_view, Finished, runs_by}
 use Rattle.act_told.proofs.runs.runs_of.Given as goal
 
 -- what is told so far, and what is still to be told

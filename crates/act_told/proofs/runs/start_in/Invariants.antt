@@ -1,5 +1,4 @@
-use Rattle.std.proofs.Common.{◌≡◌, drop}
-use Rattle.act_told.specs.Starts.{start_in}
+use Rattle.act_told.proofs.Common.{◌≡◌, drop, start_in}
 use Rattle.act_told.proofs.runs.start_in.Given as goal
 
 -- none of those so far is the caller

@@ -1,9 +1,4 @@
-use Rattle.std.proofs.Common.{List, map, ◌++◌, ◌∙◌, ap, length}
-use Rattle.act_owner.specs.Owner.{OwnerView}
-use Rattle.act_serve.specs.Served.{end_view}
-use Rattle.act_serve.specs.declared.turn.Finished.{Finished}
-use Rattle.act_told.specs.Told.{calls_told, actor_told}
-use Rattle.act_told.specs.Starts.{starts_from, runs_by}
+use Rattle.act_told.proofs.Common.{List, map, ◌++◌, ◌∙◌, ap, length, OwnerView, end_view, Finished, calls_told, actor_told, starts_from, runs_by}
 use Rattle.act_told.proofs.Going.{told_is}
 use Rattle.act_told.proofs.told.told_of.Goals as goal
 

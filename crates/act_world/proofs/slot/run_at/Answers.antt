@@ -1,9 +1,5 @@
-use Rattle.std.proofs.Common.{◌<◌, ap, sym, ◌∙◌, subst, length, map, slice_set, arith}
-use Rattle.std.specs.Prelude.{IfOk}
-use Rattle.std.proofs.lemmas.List.{set-get_or}
-use Rattle.std.proofs.lemmas.Result.{IfOk-weaker, on_err_weaker}
-use Rattle.act_world.specs.Slots.{IsRun, IsRunAt}
-use Rattle.act_world.specs.View.{slot_view}
+use Rattle.act_world.proofs.Common.{◌<◌, ap, sym, ◌∙◌, subst, length, map, slice_set, arith, IfOk, set-get_or, IfOk-weaker, on_err_weaker, IsRun, IsRunAt}
+use Rattle.act_world.proofs.Common.{slot_view}
 use Rattle.act_world.proofs.Running.{ran_there}
 use Rattle.act_world.proofs.slot.run_at.Goals as goal
 

@@ -1,7 +1,4 @@
-use Rattle.std.proofs.Common.{◌≡◌, refl, ap, sym, ◌∙◌}
-use Rattle.act_actor.specs.StateViews.{live_view}
-use Rattle.act_world.specs.View.{Runs, slot_view}
-use Rattle.act_world.specs.Slots.{bury_ended}
+use Rattle.act_world.proofs.Common.{◌≡◌, refl, ap, sym, ◌∙◌, live_view, Runs, slot_view, bury_ended}
 use Rattle.act_world.proofs.Running.{ran_here}
 use Rattle.act_world.proofs.slot.run_in.Goals.{then-terminated, else-terminated}
 use Rattle.act_world.proofs.slot.run_in.Goals as goal

@@ -1,6 +1,4 @@
-use Rattle.std.proofs.Common.{◌≡◌, ◌<◌, length, map, Some, subst, arith}
-use Rattle.std.specs.Prelude.{slice_get}
-use Rattle.act_world.specs.View.{slot_view}
+use Rattle.act_world.proofs.Common.{◌≡◌, ◌<◌, length, map, Some, subst, arith, slice_get, slot_view}
 use Rattle.act_world.proofs.Changes.{slot_within}
 use Rattle.act_world.proofs.slot.slot_at.Goals as goal
 

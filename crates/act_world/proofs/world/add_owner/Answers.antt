@@ -1,8 +1,4 @@
-use Rattle.std.proofs.Common.{◌++◌, ◌∷◌, [], List, is_some, ap, sym, subst, ◌∙◌}
-use Rattle.std.specs.Prelude.{position}
-use Rattle.act_owner.specs.Owner.{OwnerView}
-use Rattle.act_world.specs.Network.{is_owner}
-use Rattle.act_world.specs.Openings.{HasOwners}
+use Rattle.act_world.proofs.Common.{◌++◌, ◌∷◌, [], List, is_some, ap, sym, subst, ◌∙◌, position, OwnerView, is_owner, HasOwners}
 use Rattle.act_world.proofs.OpenedOwners.{owner_known, owner_new}
 use Rattle.act_world.proofs.world.add_owner.Goals as goal
 

@@ -1,6 +1,4 @@
-use Rattle.std.proofs.Common.{ℕ, List, ◌++◌, take, sym, subst}
-use Rattle.std.proofs.lemmas.List.{append-nil, take_all}
-use Rattle.act_world.specs.Openings.{HasOwners}
+use Rattle.act_world.proofs.Common.{ℕ, List, ◌++◌, take, sym, subst, append-nil, take_all, HasOwners}
 use Rattle.act_world.proofs.OpenedOwners.{one_more}
 use Rattle.act_world.proofs.world.add_owners.Goals as goal
 

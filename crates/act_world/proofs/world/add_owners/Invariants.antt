@@ -1,5 +1,4 @@
-use Rattle.std.proofs.Common.{ℕ, List, ◌++◌, take}
-use Rattle.act_world.specs.Openings.{HasOwners}
+use Rattle.act_world.proofs.Common.{ℕ, List, ◌++◌, take, HasOwners}
 use Rattle.act_world.proofs.world.add_owners.Given as goal
 
 -- those so far are there

@@ -1,6 +1,4 @@
-use Rattle.std.proofs.Common.{◌≡◌, ◌<◌, List, length, map, Some, subst, arith}
-use Rattle.std.specs.Prelude.{◌==◌, if◌then◌else◌, slice_get, slice_set}
-use Rattle.act_world.specs.View.{slot_view}
+use Rattle.act_world.proofs.Common.{◌≡◌, ◌<◌, List, length, map, Some, subst, arith, ◌==◌, if◌then◌else◌, slice_get, slice_set, slot_view}
 use Rattle.act_world.proofs.OpenedSlots.{set_map}
 use Rattle.act_world.proofs.world.fill_slot.Goals as goal
 

@@ -1,10 +1,4 @@
-use Rattle.std.proofs.Common.{List, ◌++◌, take, ap, subst}
-use Rattle.std.specs.Prelude.{find}
-use Rattle.std.proofs.lemmas.List.{take_all}
-use Rattle.act_owner.specs.Owner.{OwnerView}
-use Rattle.act_world.specs.Network.{is_owner}
-use Rattle.act_actor.specs.Casts.{callers_named}
-use Rattle.act_world.specs.Openings.{HasOwners}
+use Rattle.act_world.proofs.Common.{List, ◌++◌, take, ap, subst, find, take_all, OwnerView, is_owner, callers_named, HasOwners}
 use Rattle.act_world.proofs.OpenedOwners.{cast_more}
 use Rattle.act_world.proofs.world.owners_of.Goals as goal
 

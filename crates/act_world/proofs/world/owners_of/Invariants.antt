@@ -1,6 +1,4 @@
-use Rattle.std.proofs.Common.{take}
-use Rattle.act_actor.specs.Casts.{callers_named}
-use Rattle.act_world.specs.Openings.{HasOwners}
+use Rattle.act_world.proofs.Common.{take, callers_named, HasOwners}
 use Rattle.act_world.proofs.world.owners_of.Given as goal
 
 -- the callers of the casts so far are there

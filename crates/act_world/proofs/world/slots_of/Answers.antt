@@ -1,13 +1,5 @@
-use Rattle.std.proofs.Common.{rules, ◌≡◌, [], map, ap, sym, subst, ◌∙◌, refl}
-use Rattle.std.specs.List.{AllByRecursion}
-use Rattle.std.specs.Vec.Iter.{into_iter_items}
-use Rattle.std.proofs.lemmas.List.{nil_from_length}
-use Rattle.act_rules.specs.History.{opening}
-use Rattle.act_actor.specs.Cast.{CallersDiffer}
-use Rattle.act_actor.specs.StateViews.{live_view}
-use Rattle.act_inbox.specs.Inbox.{IsOpened}
-use Rattle.act_world.specs.View.{slot_view}
-use Rattle.act_actor.specs.Casts.{actor_spec}
+use Rattle.act_world.proofs.Common.{rules, ◌≡◌, [], map, ap, sym, subst, ◌∙◌, refl, AllByRecursion, into_iter_items, nil_from_length, opening, CallersDiffer}
+use Rattle.act_world.proofs.Common.{live_view, IsOpened, slot_view, actor_spec}
 use Rattle.act_world.proofs.OpenedSlots.{IsToOpen, AreOpened, to_open, none_opened, one_more}
 use Rattle.act_world.proofs.world.slots_of.Goals as goal
 

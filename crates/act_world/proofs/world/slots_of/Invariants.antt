@@ -1,9 +1,4 @@
-use Rattle.std.proofs.Common.{◌≡◌, length, map}
-use Rattle.std.specs.List.{AllByRecursion}
-use Rattle.std.specs.Vec.Iter.{into_iter_items, into_iter_len}
-use Rattle.act_rules.specs.History.{opening}
-use Rattle.act_world.specs.View.{slot_view}
-use Rattle.act_actor.specs.Casts.{actor_spec}
+use Rattle.act_world.proofs.Common.{◌≡◌, length, map, AllByRecursion, into_iter_items, into_iter_len, opening, slot_view, actor_spec}
 use Rattle.act_world.proofs.OpenedSlots.{IsToOpen, AreOpened}
 use Rattle.act_world.proofs.world.slots_of.Given as goal
 

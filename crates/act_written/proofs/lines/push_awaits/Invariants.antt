@@ -1,6 +1,4 @@
-use Rattle.std.proofs.Common.{◌≡◌, ◌++◌, take, string_bytes}
-use Rattle.std.specs.List.{flat_map}
-use Rattle.act_written.specs.Texts.{await_line}
+use Rattle.act_written.proofs.Common.{◌≡◌, ◌++◌, take, string_bytes, flat_map, await_line}
 use Rattle.act_written.proofs.lines.push_awaits.Given as goal
 
 -- those so far are written

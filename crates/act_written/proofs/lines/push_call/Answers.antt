@@ -1,6 +1,4 @@
-use Rattle.std.proofs.Common.{length, subst, arith}
-use Rattle.std.specs.List.{Contains}
-use Rattle.act_orders.specs.declared.told.Call.{Call}
+use Rattle.act_written.proofs.Common.{length, subst, arith, Contains, Call}
 use Rattle.act_written.proofs.Each.{all_named}
 use Rattle.act_written.proofs.lines.push_call.Goals as goal
 

@@ -1,6 +1,4 @@
-use Rattle.std.proofs.Common.{◌≡◌, ◌++◌, take, string_bytes}
-use Rattle.std.specs.List.{flat_map}
-use Rattle.act_written.specs.Texts.{role_word}
+use Rattle.act_written.proofs.Common.{◌≡◌, ◌++◌, take, string_bytes, flat_map, role_word}
 use Rattle.act_written.proofs.lines.push_callers.Given as goal
 
 -- the callers so far are written

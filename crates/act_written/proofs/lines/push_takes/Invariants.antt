@@ -1,6 +1,4 @@
-use Rattle.std.proofs.Common.{◌≡◌, ◌++◌, take, string_bytes}
-use Rattle.std.specs.List.{flat_map}
-use Rattle.act_written.specs.Texts.{take_word}
+use Rattle.act_written.proofs.Common.{◌≡◌, ◌++◌, take, string_bytes, flat_map, take_word}
 use Rattle.act_written.proofs.lines.push_takes.Given as goal
 
 -- those so far are written

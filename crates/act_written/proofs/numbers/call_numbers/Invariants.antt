@@ -1,5 +1,4 @@
-use Rattle.std.proofs.Common.{◌≡◌, ◌<◌, ◌≤◌, ◌-◌, ℕ, length, slice_index_or}
-use Rattle.act_written.specs.Texts.{call_number}
+use Rattle.act_written.proofs.Common.{◌≡◌, ◌<◌, ◌≤◌, ◌-◌, ℕ, length, slice_index_or, call_number}
 use Rattle.act_written.proofs.numbers.call_numbers.Given as goal
 
 -- the numbers so far, and the last one

@@ -1,5 +1,4 @@
-use Rattle.std.proofs.Common.{length, subst}
-use Rattle.std.specs.List.{Contains}
+use Rattle.act_written.proofs.Common.{length, subst, Contains}
 use Rattle.act_written.proofs.Each.{all_named}
 use Rattle.act_written.proofs.text.history_text.Goals as goal
 

@@ -1,5 +1,4 @@
-use Rattle.std.proofs.Common.{◌≡◌, ◌++◌, string_bytes}
-use Rattle.act_written.specs.Texts.{of_each, actor_lines, IsAt, IsPast}
+use Rattle.act_written.proofs.Common.{◌≡◌, ◌++◌, string_bytes, of_each, actor_lines, IsAt, IsPast}
 use Rattle.act_written.proofs.text.push_actors.Given as goal
 
 -- the lines of the actors so far are written, and their runs are passed

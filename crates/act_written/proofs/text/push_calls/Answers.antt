@@ -1,5 +1,4 @@
-use Rattle.std.proofs.Common.{string_bytes}
-use Rattle.act_written.specs.Texts.{call_lines}
+use Rattle.act_written.proofs.Common.{string_bytes, call_lines}
 use Rattle.act_written.proofs.Each.{each_next}
 use Rattle.act_written.proofs.text.push_calls.Goals as goal
 

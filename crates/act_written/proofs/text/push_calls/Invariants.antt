@@ -1,5 +1,4 @@
-use Rattle.std.proofs.Common.{◌≡◌, ◌++◌, string_bytes}
-use Rattle.act_written.specs.Texts.{of_each, call_lines}
+use Rattle.act_written.proofs.Common.{◌≡◌, ◌++◌, string_bytes, of_each, call_lines}
 use Rattle.act_written.proofs.text.push_calls.Given as goal
 
 -- the lines so far are written

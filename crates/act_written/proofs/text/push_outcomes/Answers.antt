@@ -1,5 +1,4 @@
-use Rattle.std.proofs.Common.{string_bytes}
-use Rattle.act_written.specs.Texts.{outcome_line}
+use Rattle.act_written.proofs.Common.{string_bytes, outcome_line}
 use Rattle.act_written.proofs.Each.{each_next}
 use Rattle.act_written.proofs.text.push_outcomes.Goals as goal
 

@@ -1,5 +1,4 @@
-use Rattle.std.proofs.Common.{◌≡◌, ◌++◌, string_bytes}
-use Rattle.act_written.specs.Texts.{of_each, role_line}
+use Rattle.act_written.proofs.Common.{◌≡◌, ◌++◌, string_bytes, of_each, role_line}
 use Rattle.act_written.proofs.text.push_roles.Given as goal
 
 -- the lines so far are written

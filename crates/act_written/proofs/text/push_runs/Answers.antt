@@ -1,8 +1,4 @@
-use Rattle.std.proofs.Common.{◌≡◌, ◌++◌, ap, sym, ◌∙◌, arith, string_bytes}
-use Rattle.std.proofs.lemmas.List.{append-nil}
-use Rattle.act_orders.specs.declared.told.Run.{Run}
-use Rattle.act_orders.specs.Causes.{run_of}
-use Rattle.act_written.specs.Texts.{of_each, run_line_of}
+use Rattle.act_written.proofs.Common.{◌≡◌, ◌++◌, ap, sym, ◌∙◌, arith, string_bytes, append-nil, Run, run_of, of_each, run_line_of}
 use Rattle.act_written.proofs.Each.{each_next, mine, none_passed, none_left, passed_one, is_past}
 use Rattle.act_written.proofs.text.push_runs.Goals as goal
 

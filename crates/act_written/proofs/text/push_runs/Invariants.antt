@@ -1,6 +1,4 @@
-use Rattle.std.proofs.Common.{◌≡◌, ◌++◌, ◌+◌, ◌-◌, ◌<◌, ◌≤◌, ℕ, length, string_bytes}
-use Rattle.act_orders.specs.Causes.{run_of}
-use Rattle.act_written.specs.Texts.{of_each, run_line_of, IsAt}
+use Rattle.act_written.proofs.Common.{◌≡◌, ◌++◌, ◌+◌, ◌-◌, ◌<◌, ◌≤◌, ℕ, length, string_bytes, run_of, of_each, run_line_of, IsAt}
 use Rattle.act_written.proofs.text.push_runs.Given as goal
 
 -- the runs before this one are written, of which none is a later actor's; those from it on are none of earlier actors'

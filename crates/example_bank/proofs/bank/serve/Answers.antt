@@ -1,6 +1,6 @@
 use Rattle.std.proofs.Common.{map}
 use Rattle.actors.specs.Actors.{actor_spec}
-use Rattle.own_kinds.specs.Bank.{bank_at}
+use Rattle.example_kinds.specs.Bank.{bank_at}
 use Rattle.example_bank.proofs.Serving.{served}
 use Rattle.example_bank.proofs.bank.serve.Goals as goal
 

@@ -1,6 +1,6 @@
 use Rattle.std.proofs.Common.{◌≡◌}
 use Rattle.std.specs.Prelude.{flat_map}
-use Rattle.bench_work.specs.Work.{places}
+use Rattle.ray_bench_work.specs.Work.{places}
 use Rattle.ray_bench.specs.Plans.{steps_at}
 use Rattle.ray_bench.proofs.plans.plan_of.Given as goal
 

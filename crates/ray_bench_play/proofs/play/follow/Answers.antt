@@ -1,9 +1,4 @@
-use Rattle.std.proofs.Common.{List, [], ◌∷◌, subst}
-use Rattle.act_types.specs.declared.call.Arg.{Arg}
-use Rattle.act_world.specs.View.{world_view}
-use Rattle.bench_work.specs.Work.{one_more}
-use Rattle.ray_bench_play.specs.declared.calls.Leg.TheVariants.{Send, Deliver, Run, Collect}
-use Rattle.ray_bench_play.specs.Plays.{StandsAfter, event_of, submission_of}
+use Rattle.ray_bench_play.proofs.Common.{List, [], ◌∷◌, subst, Arg, world_view, one_more, Send, Deliver, Run, Collect, StandsAfter, event_of, submission_of}
 use Rattle.ray_bench_play.proofs.Standing.{stands_both}
 use Rattle.ray_bench_play.proofs.play.follow.Goals as goal
 

@@ -1,7 +1,4 @@
-use Rattle.std.proofs.Common.{◌≡◌, ℕ, subst, arith}
-use Rattle.act_world.specs.View.{world_view}
-use Rattle.ray_bench_play.specs.declared.calls.Call.{Call}
-use Rattle.ray_bench_play.specs.Plays.{StandsAfter, call_at, way_of, ways}
+use Rattle.ray_bench_play.proofs.Common.{◌≡◌, ℕ, subst, arith, world_view, Call, StandsAfter, call_at, way_of, ways}
 use Rattle.ray_bench_play.proofs.Standing.{stands_still, several_next}
 use Rattle.ray_bench_play.proofs.play.follow_all.Goals as goal
 

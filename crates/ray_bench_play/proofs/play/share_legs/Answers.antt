@@ -1,7 +1,4 @@
-use Rattle.std.proofs.Common.{◌++◌}
-use Rattle.act_world.specs.View.{world_view}
-use Rattle.ray_bench_play.specs.declared.calls.Leg.TheVariants.{Send, Deliver, Run, Collect}
-use Rattle.ray_bench_play.specs.Plays.{legs, submissions}
+use Rattle.ray_bench_play.proofs.Common.{◌++◌, world_view, Send, Deliver, Run, Collect, legs, submissions}
 use Rattle.ray_bench_play.proofs.Standing.{stands_both}
 use Rattle.ray_bench_play.proofs.play.share_legs.Goals as goal
 

@@ -1,7 +1,4 @@
-use Rattle.std.proofs.Common.{◌≡◌, ℕ, ◌∷◌, [], subst, arith}
-use Rattle.act_world.specs.View.{world_view}
-use Rattle.ray_bench_play.specs.declared.calls.Call.{Call}
-use Rattle.ray_bench_play.specs.Plays.{StandsAfter, call_at, event_of, legs}
+use Rattle.ray_bench_play.proofs.Common.{◌≡◌, ℕ, ◌∷◌, [], subst, arith, world_view, Call, StandsAfter, call_at, event_of, legs}
 use Rattle.ray_bench_play.proofs.Standing.{stands_still, each_next}
 use Rattle.ray_bench_play.proofs.play.step_all.Goals as goal
 

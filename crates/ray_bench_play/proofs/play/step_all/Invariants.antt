@@ -1,6 +1,4 @@
-use Rattle.act_world.specs.View.{world_view}
-use Rattle.act_world.specs.IsReachedBy.{IsGrownBy}
-use Rattle.ray_bench_play.specs.Plays.{StandsAfter, legs}
+use Rattle.ray_bench_play.proofs.Common.{world_view, IsGrownBy, StandsAfter, legs}
 use Rattle.ray_bench_play.proofs.play.step_all.Given as goal
 
 -- the world stands after the events so far, and no more places are taken than there were events

@@ -1,9 +1,4 @@
-use Rattle.std.proofs.Common.{◌≡◌, ℕ, List, ◌∷◌, [], subst, arith}
-use Rattle.act_types.specs.declared.call.Arg.{Arg}
-use Rattle.act_world.specs.View.{world_view}
-use Rattle.bench_work.specs.Work.{one_more}
-use Rattle.ray_bench_play.specs.declared.calls.Call.{Call}
-use Rattle.ray_bench_play.specs.Plays.{StandsAfter, call_at, submission_of, submissions}
+use Rattle.ray_bench_play.proofs.Common.{◌≡◌, ℕ, List, ◌∷◌, [], subst, arith, Arg, world_view, one_more, Call, StandsAfter, call_at, submission_of, submissions}
 use Rattle.ray_bench_play.proofs.Standing.{stands_still, each_next}
 use Rattle.ray_bench_play.proofs.play.submit_all.Goals as goal
 

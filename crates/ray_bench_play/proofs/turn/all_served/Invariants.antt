@@ -1,7 +1,4 @@
-use Rattle.std.proofs.Common.{◌≡◌}
-use Rattle.std.specs.List.{list_all}
-use Rattle.act_rules.specs.Report.{one_to}
-use Rattle.ray_bench_play.specs.Plays.{is_served_in}
+use Rattle.ray_bench_play.proofs.Common.{◌≡◌, list_all, one_to, is_served_in}
 use Rattle.ray_bench_play.proofs.turn.all_served.Given as goal
 
 -- each caller so far

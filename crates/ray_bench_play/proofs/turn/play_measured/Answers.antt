@@ -1,8 +1,4 @@
-use Rattle.std.proofs.Common.{ℕ, [], map, subst}
-use Rattle.act_actor.specs.Casts.{actor_spec}
-use Rattle.act_world.specs.IsReachedBy.{IsReachedBy}
-use Rattle.act_world.specs.View.{world_view}
-use Rattle.ray_bench_play.specs.Plays.{events_in}
+use Rattle.ray_bench_play.proofs.Common.{ℕ, [], map, subst, actor_spec, IsReachedBy, world_view, events_in}
 use Rattle.ray_bench_play.proofs.turn.play_measured.Goals as goal
 
 pub returns : goal.returns

@@ -1,4 +1,4 @@
-use Rattle.std.proofs.Common.{◌≡◌, ℕ, List, subst, length, OnOk}
+use Rattle.std.proofs.Common.{ℕ, subst, OnOk}
 use Rattle.act_orders.specs.Refused.{TellsFaults}
 use Rattle.ray_orders.specs.Told.{TellsInOrder}
 use Rattle.ray_orders.proofs.Telling.{out_of_order, told_in_order}

@@ -1,4 +1,4 @@
-use Rattle.std.proofs.Common.{List, ℕ, Option, string_bytes}
+use Rattle.std.proofs.Common.{string_bytes}
 use Rattle.ray_orders.proofs.Growing.{grows_both, grows_more}
 use Rattle.ray_orders.proofs.judging.write_each.Goals as goal
 

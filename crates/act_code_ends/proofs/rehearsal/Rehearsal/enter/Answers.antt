@@ -1,5 +1,4 @@
-use Rattle.std.proofs.Common.{◌∙◌, ap}
-use Rattle.act_owner.specs.Owner.{OwnerView}
+use Rattle.act_code_ends.proofs.Common.{◌∙◌, ap, OwnerView}
 use Rattle.act_code_ends.proofs.Taking.{seen_of, submits_seen, later_seen}
 use Rattle.act_code_ends.proofs.rehearsal.Rehearsal.enter.Goals as goal
 

@@ -1,7 +1,4 @@
-use Rattle.std.proofs.Common.{◌≡◌, ◌∙◌, length, subst, sym}
-use Rattle.act_owner.specs.Owner.{OwnerView, after_collect}
-use Rattle.act_drive.specs.Sessions.{SessionView}
-use Rattle.act_code_ends.specs.Rehearsals.{OnlyTakes}
+use Rattle.act_code_ends.proofs.Common.{◌≡◌, ◌∙◌, length, subst, sym, OwnerView, after_collect, SessionView, OnlyTakes}
 use Rattle.act_code_ends.proofs.Taking.{seen_of, places_heard, takes_one}
 use Rattle.act_code_ends.proofs.rehearsal.Rehearsal.take.Goals as goal
 

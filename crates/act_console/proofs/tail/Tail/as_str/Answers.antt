@@ -1,7 +1,4 @@
-use Rattle.std.proofs.Common.{◌≡◌, ◌-◌, take, drop, arith, subst, sym}
-use Rattle.std.specs.Str.{IsAscii}
-use Rattle.std.proofs.lemmas.List.{take_all, length-drop}
-use Rattle.std.proofs.lemmas.Str.{IsUtf8-from_ascii}
+use Rattle.act_console.proofs.Common.{◌≡◌, ◌-◌, take, drop, arith, subst, sym, IsAscii, take_all, length-drop, IsUtf8-from_ascii}
 use Rattle.act_console.proofs.tail.Tail.as_str.Goals as goal
 
 pub from_utf8_unchecked-requires : goal.from_utf8_unchecked-requires

@@ -1,7 +1,4 @@
-use Rattle.std.proofs.Common.{length, decimal, drop, ap, arith, length-append}
-use Rattle.std.proofs.lemmas.List.{length-drop}
-use Rattle.std.proofs.lemmas.Fmt.{length-decimal-le, IsAscii-decimal}
-use Rattle.std.proofs.lemmas.Str.{IsAscii-append}
+use Rattle.act_console.proofs.Common.{length, decimal, drop, ap, arith, length-append, length-drop, length-decimal-le, IsAscii-decimal, IsAscii-append}
 use Rattle.act_console.proofs.tail.Tail.put_number.Goals as goal
 
 pub write_digits-self-inside-requires : goal.write_digits-self-inside-requires

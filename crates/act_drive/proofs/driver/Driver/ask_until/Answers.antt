@@ -1,8 +1,4 @@
-use Rattle.std.proofs.Common.{refl, rules, ◌≡◌, ◌∙◌, ap, true, List}
-use Rattle.act_rules.specs.Submissions.{handle_refusal}
-use Rattle.act_handles.specs.Handles.{copies_in}
-use Rattle.act_handles.specs.declared.handles.Handle.{Handle}
-use Rattle.act_owner.specs.Owner.{OwnerView, is_known_dead}
+use Rattle.act_drive.proofs.Common.{refl, rules, ◌≡◌, ◌∙◌, ap, true, List, handle_refusal, copies_in, Handle, OwnerView, is_known_dead}
 use Rattle.act_drive.proofs.Drivers.{stays_trans, waits_trans}
 use Rattle.act_drive.proofs.Kills.{kill_follows, kills_dead}
 use Rattle.act_drive.proofs.CodeSteps.{on_err}

@@ -1,8 +1,4 @@
-use Rattle.std.proofs.Common.{rules, ◌≡◌, ◌<◌, ◌≤◌, ◌∙◌, ap, sym, length, subst, All, List}
-use Rattle.std.proofs.lemmas.List.{take_all, get_or_default}
-use Rattle.act_rules.specs.Submissions.{copies_held}
-use Rattle.act_handles.specs.Handles.{copies_in}
-use Rattle.act_mailbox.specs.Mails.{MailView}
+use Rattle.act_drive.proofs.Common.{rules, ◌≡◌, ◌<◌, ◌≤◌, ◌∙◌, ap, sym, length, subst, All, List, take_all, get_or_default, copies_held, copies_in, MailView}
 use Rattle.act_drive.proofs.Closing.{winds_trans, none_more}
 use Rattle.act_drive.proofs.Tracing.{closing_trans}
 use Rattle.act_drive.proofs.driver.Driver.close.Goals as goal

@@ -1,8 +1,4 @@
-use Rattle.std.proofs.Common.{◌≡◌, All, take}
-use Rattle.act_rules.specs.Submissions.{copies_held}
-use Rattle.act_handles.specs.Handles.{copies_in}
-use Rattle.act_drive.specs.Driven.{IsCalling, OnlyReleases}
-use Rattle.act_drive.specs.Tracing.{TracesClosing}
+use Rattle.act_drive.proofs.Common.{◌≡◌, All, take, copies_held, copies_in, IsCalling, OnlyReleases, TracesClosing}
 use Rattle.act_drive.proofs.driver.Driver.close.Given as goal
 
 abbrev pub invariant-loop-mail : goal.invariant-loop-mail

@@ -1,11 +1,8 @@
-use Rattle.std.proofs.Common.{refl}
-use Rattle.act_rules.specs.declared.script.Step.TheVariants.{Copy}
-use Rattle.act_owner.specs.Life.{Copied}
+use Rattle.act_drive.proofs.Common.{refl, Copy, Copied, ChangeMade}
 use Rattle.act_drive.proofs.OwnChanges.{calling_step, ended_copied}
 use Rattle.act_drive.proofs.PlanSteps.{copy_follows}
 use Rattle.act_drive.proofs.Notes.{ok_of}
 use Rattle.act_drive.proofs.Keeps.{copy_returns}
-use Rattle.act_drive.specs.CallerSteps.{ChangeMade}
 use Rattle.act_drive.proofs.Tracing.{traces_step}
 use Rattle.act_drive.proofs.driver.Driver.copy.Goals as goal
 

@@ -1,10 +1,5 @@
-use Rattle.std.proofs.Common.{rules, arith, ◌≡◌, ℕ, ◌<◌, true, false, List, length, take, subst, All}
-use Rattle.act_mailbox.specs.Passes.{PutterView}
-use Rattle.act_mailbox.specs.declared.control.Asked.{Asked}
-use Rattle.act_mailbox.specs.declared.thread.Endpoint.{Endpoint}
-use Rattle.act_drive.specs.Driven.{HasEndedAt}
+use Rattle.act_drive.proofs.Common.{rules, arith, ◌≡◌, ℕ, ◌<◌, true, false, List, length, take, subst, All, PutterView, Asked, Endpoint, HasEndedAt, take_all}
 use Rattle.act_drive.proofs.Through.{through_more}
-use Rattle.std.proofs.lemmas.List.{take_all}
 use Rattle.act_drive.proofs.Drivers.{stays_trans}
 use Rattle.act_drive.proofs.Kills.{kills_long}
 use Rattle.act_drive.proofs.driver.Driver.end_all.Goals as goal

@@ -1,5 +1,4 @@
-use Rattle.std.proofs.Common.{◌≡◌, true, take, All}
-use Rattle.act_drive.specs.Driven.{IsCalling, Stays, HasEndedAt}
+use Rattle.act_drive.proofs.Common.{◌≡◌, true, take, All, IsCalling, Stays, HasEndedAt}
 use Rattle.act_drive.proofs.driver.Driver.end_all.Given as goal
 
 abbrev pub invariant-loop-at : goal.invariant-loop-at

@@ -1,7 +1,4 @@
-use Rattle.std.proofs.Common.{rules, arith, ◌≡◌, ◌<◌, ◌∙◌, ap, ◌-◌, List}
-use Rattle.act_rules.specs.Submissions.{copies_held}
-use Rattle.act_handles.specs.Handles.{copies_in}
-use Rattle.act_handles.specs.declared.handles.Handle.{Handle}
+use Rattle.act_drive.proofs.Common.{rules, arith, ◌≡◌, ◌<◌, ◌∙◌, ap, ◌-◌, List, copies_held, copies_in, Handle}
 use Rattle.act_drive.proofs.Closing.{winds_trans, one_gone}
 use Rattle.act_drive.proofs.Tracing.{closing_trans, closing_step}
 use Rattle.act_drive.proofs.driver.Driver.let_go.Goals as goal

@@ -1,8 +1,6 @@
-use Rattle.std.proofs.Common.{refl, rules, ◌≡◌, [], ◌∷◌, ◌++◌, Some, All, true, inl, inr}
+use Rattle.act_drive.proofs.Common.{refl, rules, ◌≡◌, [], ◌∷◌, ◌++◌, Some, All, true, inl, inr, is_known_dead, actor_of_letter, IsApart}
 use Rattle.act_drive.proofs.Drivers.{calling_dropped, calling_posted, posted_waits, stays_same}
 use Rattle.act_drive.proofs.Tracing.{traces_dropped, traces_back, traces_posted}
-use Rattle.act_owner.specs.Owner.{is_known_dead}
-use Rattle.act_drive.specs.Driven.{actor_of_letter, IsApart}
 use Rattle.act_drive.proofs.driver.Driver.post_letter.Goals as goal
 
 pub returns-then-is_dead-clause-calling : goal.returns-then-is_dead-clause-calling

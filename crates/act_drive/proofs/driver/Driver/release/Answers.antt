@@ -1,16 +1,10 @@
-use Rattle.std.proofs.Common.{refl, ◌≡◌, Some, None, Ok, ◌∙◌, ap}
-use Rattle.act_owner.specs.Owner.{OwnerView, with_handles, release_told}
-use Rattle.act_rules.specs.declared.script.Step.TheVariants.{Release}
-use Rattle.act_owner.specs.Life.{Released}
-use Rattle.act_handles.specs.Handles.{copies_in, without_copy}
-use Rattle.act_types.specs.declared.call.ReleaseNote.{ReleaseNote}
-use Rattle.act_mailbox.specs.declared.mail.Letter.TheVariants.{Note}
+use Rattle.act_drive.proofs.Common.{refl, ◌≡◌, Some, None, Ok, ◌∙◌, ap, OwnerView, with_handles, release_told, Release, Released, copies_in, without_copy}
+use Rattle.act_drive.proofs.Common.{ReleaseNote, Note, ChangeMade}
 use Rattle.act_drive.proofs.OwnChanges.{calling_step, ended_released}
 use Rattle.act_drive.proofs.PlanSteps.{release_follows}
 use Rattle.act_drive.proofs.Notes.{calling_noted, last_of, note_stays, not_last, ok_of}
 use Rattle.act_drive.proofs.Closing.{released_winds}
 use Rattle.act_drive.proofs.Keeps.{release_returns}
-use Rattle.act_drive.specs.CallerSteps.{ChangeMade}
 use Rattle.act_drive.proofs.Tracing.{traces_step, traces_noted}
 use Rattle.act_drive.proofs.driver.Driver.release.Goals as goal
 

@@ -1,5 +1,4 @@
-use Rattle.std.proofs.Common.{refl, ap, rules, ◌≡◌, None}
-use Rattle.act_owner.specs.Owner.{OwnerView, with_sent}
+use Rattle.act_drive.proofs.Common.{refl, ap, rules, ◌≡◌, None, OwnerView, with_sent}
 use Rattle.act_drive.proofs.Drivers.{calling_taken, stays_same, waits_trans}
 use Rattle.act_drive.proofs.Tracing.{traces_taken, ready_sends}
 use Rattle.act_drive.proofs.driver.Driver.send_next.Goals as goal

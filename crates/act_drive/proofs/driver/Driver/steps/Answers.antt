@@ -1,6 +1,4 @@
-use Rattle.std.proofs.Common.{◌≡◌, ◌++◌, ◌∷◌, [], List, append_assoc, ap, sym, ◌∙◌}
-use Rattle.std.specs.Vec.Iter.{into_iter_items}
-use Rattle.act_rules.specs.declared.script.Step.{Step}
+use Rattle.act_drive.proofs.Common.{◌≡◌, ◌++◌, ◌∷◌, [], List, append_assoc, ap, sym, ◌∙◌, into_iter_items, Step}
 use Rattle.act_drive.proofs.Drivers.{stays_trans}
 use Rattle.act_drive.proofs.PlanSteps.{not_bad, follows_waits}
 use Rattle.act_drive.proofs.driver.Driver.steps.Goals as goal

@@ -1,9 +1,4 @@
-use Rattle.std.proofs.Common.{◌≡◌, ◌++◌, ℕ, List, [], None}
-use Rattle.std.specs.Vec.Iter.{into_iter_items}
-use Rattle.act_rules.specs.declared.script.Step.{Step}
-use Rattle.act_rules.specs.Plans.{first_bad}
-use Rattle.act_drive.specs.Driven.{IsCalling, FollowsSteps, Stays}
-use Rattle.act_drive.specs.Tracing.{TracesPlan}
+use Rattle.act_drive.proofs.Common.{◌≡◌, ◌++◌, ℕ, List, [], None, into_iter_items, Step, first_bad, IsCalling, FollowsSteps, Stays, TracesPlan}
 use Rattle.act_drive.proofs.driver.Driver.steps.Given as goal
 
 abbrev pub invariant-loop-step : goal.invariant-loop-step

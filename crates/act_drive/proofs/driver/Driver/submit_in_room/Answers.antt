@@ -1,11 +1,8 @@
-use Rattle.std.proofs.Common.{refl}
-use Rattle.act_rules.specs.declared.script.Step.TheVariants.{Submit}
-use Rattle.act_owner.specs.Life.{Submitted}
+use Rattle.act_drive.proofs.Common.{refl, Submit, Submitted, ChangeMade}
 use Rattle.act_drive.proofs.OwnChanges.{calling_step, ended_submitted}
 use Rattle.act_drive.proofs.PlanSteps.{submit_follows}
 use Rattle.act_drive.proofs.Notes.{submit_flags}
 use Rattle.act_drive.proofs.Keeps.{submit_returns}
-use Rattle.act_drive.specs.CallerSteps.{ChangeMade}
 use Rattle.act_drive.proofs.Tracing.{traces_step}
 use Rattle.act_drive.proofs.CodeSteps.{stays_submitted}
 use Rattle.act_drive.proofs.driver.Driver.submit_in_room.Goals as goal

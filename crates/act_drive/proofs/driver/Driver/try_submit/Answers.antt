@@ -1,8 +1,4 @@
-use Rattle.std.proofs.Common.{◌≡◌, ◌≢◌, ◌∙◌, ap, Option}
-use Rattle.std.specs.Prelude.{unwrap_or}
-use Rattle.act_rules.specs.declared.outcome.SubmitRefusal.{SubmitRefusal}
-use Rattle.act_rules.specs.declared.outcome.SubmitRefusal.TheVariants.{NoMemory}
-use Rattle.act_drive.specs.Sessions.{session_view, call_refusal}
+use Rattle.act_drive.proofs.Common.{◌≡◌, ◌≢◌, ◌∙◌, ap, Option, unwrap_or, SubmitRefusal, NoMemory, session_view, call_refusal}
 use Rattle.act_drive.proofs.Drivers.{stays_trans}
 use Rattle.act_drive.proofs.CodeSteps.{refusal_in_room, accepted_before, refused_same, handed_on, does_submit, submits_waited, on_err}
 use Rattle.act_drive.proofs.driver.Driver.try_submit.Goals as goal

@@ -1,6 +1,5 @@
 use Rattle.act_drive.proofs.Drivers.{only_waits_trans}
-use Rattle.std.proofs.Common.{rules, ◌≡◌, is_some, false}
-use Rattle.act_rules.specs.Submissions.{kept_at}
+use Rattle.act_drive.proofs.Common.{rules, ◌≡◌, is_some, false, kept_at}
 use Rattle.act_drive.proofs.CodeSteps.{kept_still}
 use Rattle.act_drive.proofs.driver.Driver.wait_for.Goals as goal
 

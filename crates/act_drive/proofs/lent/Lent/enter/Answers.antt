@@ -1,9 +1,4 @@
-use Rattle.std.proofs.Common.{◌≡◌, ◌∙◌, ap, refl}
-use Rattle.std.specs.Prelude.{unwrap_or}
-use Rattle.act_rules.specs.declared.outcome.SubmitRefusal.{SubmitRefusal}
-use Rattle.act_rules.specs.declared.outcome.SubmitRefusal.TheVariants.{NoMemory}
-use Rattle.act_rules.specs.declared.script.Step.TheVariants.{Submit}
-use Rattle.act_drive.specs.Sessions.{SessionView, call_refusal}
+use Rattle.act_drive.proofs.Common.{◌≡◌, ◌∙◌, ap, refl, unwrap_or, SubmitRefusal, NoMemory, Submit, SessionView, call_refusal}
 use Rattle.act_drive.proofs.CodeSteps.{handed_on, on_err}
 use Rattle.act_drive.proofs.AtWork.{work_does, work_waits, later_seen, hears_seen}
 use Rattle.act_drive.proofs.lent.Lent.enter.Goals as goal

@@ -1,5 +1,4 @@
-use Rattle.std.proofs.Common.{refl}
-use Rattle.act_rules.specs.declared.script.Step.TheVariants.{Copy}
+use Rattle.act_drive.proofs.Common.{refl, Copy}
 use Rattle.act_drive.proofs.AtWork.{work_does}
 use Rattle.act_drive.proofs.lent.LentSession.copy.Goals as goal
 

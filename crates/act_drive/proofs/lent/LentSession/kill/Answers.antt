@@ -1,5 +1,4 @@
-use Rattle.std.proofs.Common.{refl, rules, ◌≡◌, ◌<◌, length, None}
-use Rattle.act_drive.specs.Sessions.{session_view, use_refusal}
+use Rattle.act_drive.proofs.Common.{refl, rules, ◌≡◌, ◌<◌, length, None, session_view, use_refusal}
 use Rattle.act_drive.proofs.AtWork.{work_kill, work_waits, later_seen, hears_seen}
 use Rattle.act_drive.proofs.CodeSteps.{does_kill}
 use Rattle.act_drive.proofs.lent.LentSession.kill.Goals as goal

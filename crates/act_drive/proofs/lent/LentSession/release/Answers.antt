@@ -1,6 +1,4 @@
-use Rattle.std.proofs.Common.{rules, ◌≡◌, refl, None}
-use Rattle.act_rules.specs.declared.script.Step.TheVariants.{Release}
-use Rattle.act_drive.specs.Sessions.{session_view, use_refusal}
+use Rattle.act_drive.proofs.Common.{rules, ◌≡◌, refl, None, Release, session_view, use_refusal}
 use Rattle.act_drive.proofs.AtWork.{work_does}
 use Rattle.act_drive.proofs.CodeSteps.{does_release}
 use Rattle.act_drive.proofs.lent.LentSession.release.Goals as goal

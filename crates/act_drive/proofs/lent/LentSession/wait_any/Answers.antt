@@ -1,9 +1,6 @@
-use Rattle.std.proofs.Common.{rules, refl, sym, subst, ℕ, ◌<◌, ◌≡◌, length, get_or, nat_lt, is_some, true}
-use Rattle.std.specs.List.{list_all}
-use Rattle.std.proofs.lemmas.List.Quantifiers.{position-Some}
-use Rattle.act_rules.specs.Submissions.{kept_at}
+use Rattle.act_drive.proofs.Common.{rules, refl, sym, subst, ℕ, ◌<◌, ◌≡◌, length, get_or, nat_lt, is_some, true, list_all, position-Some, kept_at, SessionView}
+use Rattle.act_drive.proofs.Common.{first_answered}
 use Rattle.act_drive.proofs.CodeSteps.{all_below}
-use Rattle.act_drive.specs.Sessions.{SessionView, first_answered}
 use Rattle.act_drive.proofs.AtWork.{work_waits, work_awaits, later_seen, hears_seen}
 use Rattle.act_drive.proofs.lent.LentSession.wait_any.Goals as goal
 

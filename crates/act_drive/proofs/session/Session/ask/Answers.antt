@@ -1,8 +1,4 @@
-use Rattle.std.proofs.Common.{◌≡◌, ◌≢◌, ◌∙◌, ap, refl, sym, inl, inr, Option}
-use Rattle.std.specs.Prelude.{unwrap_or}
-use Rattle.act_rules.specs.declared.outcome.SubmitRefusal.{SubmitRefusal}
-use Rattle.act_rules.specs.declared.outcome.SubmitRefusal.TheVariants.{NoMemory}
-use Rattle.act_drive.specs.Sessions.{call_refusal}
+use Rattle.act_drive.proofs.Common.{◌≡◌, ◌≢◌, ◌∙◌, ap, refl, sym, inl, inr, Option, unwrap_or, SubmitRefusal, NoMemory, call_refusal}
 use Rattle.act_drive.proofs.CodeSteps.{submits_hears, handed_on, on_err, later_trans}
 use Rattle.act_drive.proofs.session.Session.ask.Goals as goal
 

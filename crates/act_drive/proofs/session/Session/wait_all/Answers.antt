@@ -1,8 +1,5 @@
-use Rattle.std.proofs.Common.{rules, ◌≡◌, ◌∙◌, ◌<◌, ℕ, List, [], ◌∷◌, ◌++◌, ap, sym, length, get_or, is_some, true}
-use Rattle.std.proofs.lemmas.List.{get_or_default, take-map}
-use Rattle.act_rules.specs.Submissions.{kept_at}
-use Rattle.act_rules.specs.declared.script.Step.{Step}
-use Rattle.act_rules.specs.declared.script.Step.TheVariants.{Await}
+use Rattle.act_drive.proofs.Common.{rules, ◌≡◌, ◌∙◌, ◌<◌, ℕ, List, [], ◌∷◌, ◌++◌, ap, sym, length, get_or, is_some, true, get_or_default, take-map, kept_at}
+use Rattle.act_drive.proofs.Common.{Step, Await}
 use Rattle.act_drive.proofs.CodeSteps.{answered_more, waited_more, hears_trans, later_trans}
 use Rattle.act_drive.proofs.session.Session.wait_all.Goals as goal
 

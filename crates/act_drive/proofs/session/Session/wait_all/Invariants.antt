@@ -1,7 +1,4 @@
-use Rattle.std.proofs.Common.{◌≡◌, ℕ, All, take, map, is_some, true}
-use Rattle.act_rules.specs.Submissions.{kept_at}
-use Rattle.act_rules.specs.declared.script.Step.TheVariants.{Await}
-use Rattle.act_drive.specs.Sessions.{IsLater, OnlyHears, DoesMore}
+use Rattle.act_drive.proofs.Common.{◌≡◌, All, take, map, is_some, true, kept_at, Await, IsLater, OnlyHears, DoesMore}
 use Rattle.act_drive.proofs.session.Session.wait_all.Given as goal
 
 -- the futures so far are waited for

@@ -1,7 +1,5 @@
-use Rattle.std.proofs.Common.{◌≡◌, List, map, ap, sym, ◌∙◌, subst}
-use Rattle.act_rules.specs.declared.script.Role.{Role}
+use Rattle.std.proofs.Common.{map, ap, ◌∙◌}
 use Rattle.act_rules.specs.Scripts.{actor_spec_of}
-use Rattle.act_scripts.specs.Roles.{AreFitting}
 use Rattle.act_console.proofs.Roles.{casts_fit}
 use Rattle.act_ends.specs.Kinds.{state_of}
 use Rattle.act_ends.proofs.roles.RolesOpeningKind.open.Goals as goal

@@ -1,11 +1,5 @@
-use Rattle.std.proofs.Common.{rules, arith, ◌≡◌, ℕ, ◌+◌, [], ◌∷◌, ◌++◌, Result, length, vec_len, subst, sym, get_or}
-use Rattle.std.specs.Prelude.{vec_items}
-use Rattle.act_types.specs.declared.call.KillNote.{KillNote}
-use Rattle.act_mailbox.specs.Passes.{PutterView}
-use Rattle.act_mailbox.specs.declared.control.Asked.{Asked}
-use Rattle.act_mailbox.specs.declared.thread.Endpoint.{Endpoint}
-use Rattle.act_tasks.proofs.Lists.{each_snoc}
-use Rattle.act_executor.specs.Work.{IsAsked}
+use Rattle.act_executor.proofs.Common.{rules, arith, ◌≡◌, ℕ, ◌+◌, [], ◌∷◌, ◌++◌, Result, length, vec_len, subst, sym, get_or, vec_items, KillNote, PutterView}
+use Rattle.act_executor.proofs.Common.{Asked, Endpoint, each_snoc, IsAsked}
 use Rattle.act_executor.proofs.run.StarterStop.stop.Goals as goal
 
 pub loop-endpoint-preserved : goal.loop-endpoint-preserved

@@ -1,7 +1,4 @@
-use Rattle.std.proofs.Common.{◌≡◌, ℕ, ◌+◌, ◌<◌, ◌≤◌, vec_len}
-use Rattle.std.specs.Prelude.{slice_index_or, vec_items, vec_capacity}
-use Rattle.std.specs.Vec.Iter.{into_iter_items, into_iter_len}
-use Rattle.act_executor.specs.Work.{IsAsked}
+use Rattle.act_executor.proofs.Common.{◌≡◌, ℕ, ◌+◌, ◌<◌, ◌≤◌, vec_len, slice_index_or, vec_items, vec_capacity, into_iter_items, into_iter_len, IsAsked}
 use Rattle.act_executor.proofs.run.StarterStop.stop.Given as goal
 
 abbrev pub invariant-loop-endpoint : goal.invariant-loop-endpoint

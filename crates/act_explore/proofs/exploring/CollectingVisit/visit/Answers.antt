@@ -1,5 +1,4 @@
-use Rattle.act_explore.specs.declared.exploring.Found.{Found}
-use Rattle.act_explore.specs.Ends.{LeadsToEnd}
+use Rattle.act_explore.proofs.Common.{Found, LeadsToEnd}
 use Rattle.act_explore.proofs.Collecting.{found_last, found_before, all_more}
 use Rattle.act_explore.proofs.exploring.CollectingVisit.visit.Goals as goal
 

@@ -1,6 +1,4 @@
-use Rattle.std.proofs.Common.{List, subst}
-use Rattle.act_plan_plays.specs.declared.choice.Choice.{Choice}
-use Rattle.act_explore.specs.Searches.{left_of, HasPut}
+use Rattle.act_explore.proofs.Common.{List, subst, Choice, left_of, HasPut}
 use Rattle.act_explore.proofs.Putting.{added_none, added_more}
 use Rattle.act_explore.proofs.search.Search.add_all.Goals as goal
 

@@ -1,5 +1,4 @@
-use Rattle.std.proofs.Common.{take}
-use Rattle.act_explore.specs.Searches.{left_of, HasAdded}
+use Rattle.act_explore.proofs.Common.{take, left_of, HasAdded}
 use Rattle.act_explore.proofs.search.Search.add_all.Given as goal
 
 -- the choices so far are known to go on

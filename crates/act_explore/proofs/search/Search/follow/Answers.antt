@@ -1,9 +1,4 @@
-use Rattle.std.proofs.Common.{List, subst}
-use Rattle.act_rules.specs.History.{ActorSpec}
-use Rattle.act_early.specs.Plays.{At}
-use Rattle.act_early.specs.Early.{IsQuiescent}
-use Rattle.act_plan_plays.specs.Play.{HoldPlans, StandsAt, play_view}
-use Rattle.act_explore.specs.Paths.{HasMade}
+use Rattle.act_explore.proofs.Common.{List, subst, ActorSpec, At, IsQuiescent, HoldPlans, StandsAt, play_view, HasMade}
 use Rattle.act_explore.proofs.Oks.{ok_weaker}
 use Rattle.act_explore.proofs.search.Search.follow.Goals as goal
 

@@ -1,6 +1,4 @@
-use Rattle.std.proofs.Common.{List, ◌∷◌, subst}
-use Rattle.act_plan_plays.specs.declared.choice.Choice.{Choice}
-use Rattle.act_explore.specs.Searches.{left_of, HasAdded}
+use Rattle.act_explore.proofs.Common.{List, ◌∷◌, subst, Choice, left_of, HasAdded}
 use Rattle.act_explore.proofs.Looking.{looked_more}
 use Rattle.act_explore.proofs.search.Search.look.Goals as goal
 

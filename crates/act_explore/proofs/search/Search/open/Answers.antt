@@ -1,9 +1,5 @@
-use Rattle.std.proofs.Common.{◌≡◌, ℕ, false, List, [], ap, subst, string_bytes, String, Global, BTreeSet, nat_cmp}
-use Rattle.std.specs.List.{list_any}
-use Rattle.std.specs.Cmp.Lexicographic.{slice_cmp}
-use Rattle.std.specs.BTreeMap.{is_at}
-use Rattle.std.specs.BTreeSet.{contains_text}
-use Rattle.act_explore.specs.Searches.{left_of, HasPut}
+use Rattle.act_explore.proofs.Common.{◌≡◌, ℕ, false, List, [], ap, subst, string_bytes, String, Global, BTreeSet, nat_cmp, list_any, slice_cmp, is_at}
+use Rattle.act_explore.proofs.Common.{contains_text, left_of, HasPut}
 use Rattle.act_explore.proofs.Putting.{put_first}
 use Rattle.act_explore.proofs.search.Search.open.Goals as goal
 

@@ -1,11 +1,5 @@
-use Rattle.std.proofs.Common.{◌≡◌, ℕ, true, cond, List, map, bytes_eq, string_bytes, ap, ◌∙◌, subst, All}
-use Rattle.std.specs.BTreeSet.{contains_text}
-use Rattle.std.proofs.lemmas.List.{map_push}
-use Rattle.std.proofs.lemmas.Map.Text.{btree_set_updates_text}
-use Rattle.std.specs.Global.{Vec}
-use Rattle.act_plan_plays.specs.declared.choice.Choice.{Choice}
-use Rattle.act_explore.specs.Paths.{key_of, HasNumber}
-use Rattle.act_explore.specs.Searches.{left_of}
+use Rattle.act_explore.proofs.Common.{◌≡◌, ℕ, true, cond, List, map, bytes_eq, string_bytes, ap, ◌∙◌, subst, All, contains_text, map_push}
+use Rattle.act_explore.proofs.Common.{btree_set_updates_text, Vec, Choice, key_of, HasNumber, left_of}
 use Rattle.act_explore.proofs.Putting.{put_new}
 use Rattle.act_explore.proofs.search.Search.put.Goals as goal
 

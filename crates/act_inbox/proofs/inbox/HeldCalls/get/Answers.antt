@@ -1,7 +1,4 @@
-use Rattle.std.proofs.Common.{◌≡◌, Some, None, sym, ◌∙◌, ap, arith}
-use Rattle.std.specs.Option.{option_copied, option_and_then}
-use Rattle.slab.specs.Slab.{get}
-use Rattle.act_inbox.specs.View.{key_of}
+use Rattle.act_inbox.proofs.Common.{◌≡◌, Some, None, sym, ◌∙◌, ap, arith, option_copied, option_and_then, get, key_of}
 use Rattle.act_inbox.proofs.Keys.{key_at, finds, none_held}
 use Rattle.act_inbox.proofs.inbox.HeldCalls.get.Goals as goal
 

@@ -1,10 +1,5 @@
-use Rattle.std.proofs.Common.{◌≡◌, ◌<◌, ℕ, Some, None, Result, Ok, Err, true, false, sym, ◌∙◌, subst, arith, is_err, OnOk, OnErr, refl, if◌then◌else◌}
-use Rattle.std.specs.Prelude.{slice_set}
-use Rattle.std.proofs.lemmas.List.{length-set}
-use Rattle.slab.specs.Slab.{values}
-use Rattle.act_types.specs.declared.call.Packet.{Packet}
-use Rattle.act_inbox.specs.View.{key_of, IsHeld}
-use Rattle.act_inbox.specs.Inbox.{is_packet_of}
+use Rattle.act_inbox.proofs.Common.{◌≡◌, ◌<◌, ℕ, Some, None, Result, Ok, Err, true, false, sym, ◌∙◌, subst, arith, is_err, OnOk, OnErr, refl, if◌then◌else◌}
+use Rattle.act_inbox.proofs.Common.{slice_set, length-set, values, Packet, key_of, IsHeld, is_packet_of}
 use Rattle.act_inbox.proofs.Keys.{key_of-set, key_of-kept, updates_at, held_same, not_keyed, held_came, found_came, all_after}
 use Rattle.act_inbox.proofs.inbox.HeldCalls.insert.Goals as goal
 

@@ -1,6 +1,4 @@
-use Rattle.std.proofs.Common.{◌≡◌, Some, None, position, find, sym, ◌∙◌, ap}
-use Rattle.std.specs.Option.{option_copied}
-use Rattle.act_inbox.specs.Inbox.{InboxView, is_lane_of, is_packet_of}
+use Rattle.act_inbox.proofs.Common.{◌≡◌, Some, None, position, find, sym, ◌∙◌, ap, option_copied, InboxView, is_lane_of, is_packet_of}
 use Rattle.act_inbox.proofs.Lanes.{lane_is, no_lane}
 use Rattle.act_inbox.proofs.Packets.{unlisted, handed_out, held_already, comes_first}
 use Rattle.act_inbox.proofs.inbox.Inbox.arrival.Goals as goal

@@ -1,5 +1,4 @@
-use Rattle.std.proofs.Common.{sym, ◌∙◌}
-use Rattle.act_inbox.specs.Inbox.{InboxView}
+use Rattle.act_inbox.proofs.Common.{sym, ◌∙◌, InboxView}
 use Rattle.act_inbox.proofs.Lanes.{lane_is, no_lane, unlisted_handed, listed_handed}
 use Rattle.act_inbox.proofs.inbox.Inbox.handed.Goals as goal
 

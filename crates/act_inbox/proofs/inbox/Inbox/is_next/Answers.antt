@@ -1,5 +1,4 @@
-use Rattle.std.proofs.Common.{◌≡◌, Some, None, [], position, sym, ◌∙◌}
-use Rattle.act_inbox.specs.Inbox.{InboxView, is_lane_of}
+use Rattle.act_inbox.proofs.Common.{◌≡◌, Some, None, [], position, sym, ◌∙◌, InboxView, is_lane_of}
 use Rattle.act_inbox.proofs.Lanes.{lane_is, no_lane}
 use Rattle.act_inbox.proofs.Packets.{none_next, next_decides}
 use Rattle.act_inbox.proofs.inbox.Inbox.is_next.Goals as goal

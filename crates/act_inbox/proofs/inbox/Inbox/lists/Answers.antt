@@ -1,5 +1,4 @@
-use Rattle.std.proofs.Common.{◌∙◌, ap, is_some}
-use Rattle.act_inbox.specs.Inbox.{InboxView}
+use Rattle.act_inbox.proofs.Common.{◌∙◌, ap, is_some, InboxView}
 use Rattle.act_inbox.proofs.Notes.{listed_is}
 use Rattle.act_inbox.proofs.inbox.Inbox.lists.Goals as goal
 

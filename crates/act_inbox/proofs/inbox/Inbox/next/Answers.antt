@@ -1,6 +1,4 @@
-use Rattle.std.proofs.Common.{◌≡◌, Some, None, position, sym, ◌∙◌, refl}
-use Rattle.std.specs.Prelude.{slice_set}
-use Rattle.act_inbox.specs.Inbox.{InboxView, is_lane_of, is_packet_of}
+use Rattle.act_inbox.proofs.Common.{◌≡◌, Some, None, position, sym, ◌∙◌, refl, slice_set, InboxView, is_lane_of, is_packet_of}
 use Rattle.act_inbox.proofs.Lanes.{one_more, lane_is, no_lane}
 use Rattle.act_inbox.proofs.Packets.{unlisted_next, listed_next}
 use Rattle.act_inbox.proofs.Taking.{next_found, next_taken, held_out, sound_then}

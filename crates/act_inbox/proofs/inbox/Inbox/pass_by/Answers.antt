@@ -1,5 +1,4 @@
-use Rattle.std.proofs.Common.{◌≡◌, Some, position, sym, ◌∙◌, ap, is_some}
-use Rattle.act_inbox.specs.Inbox.{InboxView, is_lane_of, IsNextToCome}
+use Rattle.act_inbox.proofs.Common.{◌≡◌, Some, position, sym, ◌∙◌, ap, is_some, InboxView, is_lane_of, IsNextToCome}
 use Rattle.act_inbox.proofs.Packets.{new_listed}
 use Rattle.act_inbox.proofs.Notes.{listed_is}
 use Rattle.act_inbox.proofs.Taking.{sound_passed, next_passed, is_there}

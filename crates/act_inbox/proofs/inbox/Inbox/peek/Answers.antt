@@ -1,6 +1,4 @@
-use Rattle.std.proofs.Common.{◌≡◌, Some, None, position, sym, ◌∙◌, ap}
-use Rattle.std.specs.Option.{option_copied}
-use Rattle.act_inbox.specs.Inbox.{InboxView, is_lane_of}
+use Rattle.act_inbox.proofs.Common.{◌≡◌, Some, None, position, sym, ◌∙◌, ap, option_copied, InboxView, is_lane_of}
 use Rattle.act_inbox.proofs.Lanes.{lane_is, no_lane}
 use Rattle.act_inbox.proofs.Packets.{unlisted_next, listed_next}
 use Rattle.act_inbox.proofs.inbox.Inbox.peek.Goals as goal

@@ -1,5 +1,4 @@
-use Rattle.std.proofs.Common.{arith, refl, sym, ◌∙◌}
-use Rattle.act_orders.specs.Order.{Happened}
+use Rattle.act_orders.proofs.Common.{arith, refl, sym, ◌∙◌, Happened}
 use Rattle.act_orders.proofs.search.Search.at_cause.Goals as goal
 
 pub mark-mark-requires-clause-few : goal.mark-mark-requires-clause-few

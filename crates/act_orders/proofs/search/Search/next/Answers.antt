@@ -1,5 +1,4 @@
-use Rattle.std.proofs.Common.{◌-◌, sym, ap, ◌∙◌, Some}
-use Rattle.act_orders.specs.Causes.{slots, graph_of}
+use Rattle.act_orders.proofs.Common.{◌-◌, sym, ap, ◌∙◌, Some, slots, graph_of}
 use Rattle.act_orders.proofs.Causing.{needed_within, happened_within, slot_beyond}
 use Rattle.act_orders.proofs.Nexting.{next_at, next_empty}
 use Rattle.act_orders.proofs.search.Search.next.Goals as goal

@@ -1,8 +1,4 @@
-use Rattle.std.proofs.Common.{◌≡◌, ◌<◌, ◌+◌, ◌-◌, arith, sym, subst, length, [], ◌∷◌, ◌++◌, take}
-use Rattle.std.proofs.Math.ListN.{set}
-use Rattle.act_orders.specs.Search.{mark, Steps}
-use Rattle.act_orders.specs.Causes.{graph_of, number_of}
-use Rattle.act_orders.specs.declared.search.TheConstants.{DONE}
+use Rattle.act_orders.proofs.Common.{◌≡◌, ◌<◌, ◌+◌, ◌-◌, arith, sym, subst, length, [], ◌∷◌, ◌++◌, take, set, mark, Steps, graph_of, number_of, DONE}
 use Rattle.act_orders.proofs.Causing.{happened_within, few_slots, numbers_apart}
 use Rattle.act_orders.proofs.Nexting.{circle_is}
 use Rattle.act_orders.proofs.Steps.{last_of, enter_step, pass_step, finish_step}

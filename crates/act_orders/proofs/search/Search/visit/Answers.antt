@@ -1,8 +1,4 @@
-use Rattle.std.proofs.Common.{◌<◌, [], ◌∷◌, ◌++◌, arith, sym, subst}
-use Rattle.std.proofs.Math.ListN.{set}
-use Rattle.act_orders.specs.Search.{Standing, GoesOn, mark}
-use Rattle.act_orders.specs.Causes.{graph_of, number_of}
-use Rattle.act_orders.specs.declared.search.TheConstants.{DONE}
+use Rattle.act_orders.proofs.Common.{◌<◌, [], ◌∷◌, ◌++◌, arith, sym, subst, set, Standing, GoesOn, mark, graph_of, number_of, DONE}
 use Rattle.act_orders.proofs.Causing.{happened_within, numbers_apart}
 use Rattle.act_orders.proofs.Steps.{enter_root}
 use Rattle.act_orders.proofs.search.Search.visit.Goals as goal

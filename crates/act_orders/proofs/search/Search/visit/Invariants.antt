@@ -1,7 +1,4 @@
-use Rattle.std.proofs.Common.{◌<◌}
-use Rattle.act_orders.specs.Search.{Standing, GoesOn, mark, left}
-use Rattle.act_orders.specs.Causes.{graph_of}
-use Rattle.act_orders.specs.declared.search.TheConstants.{DONE}
+use Rattle.act_orders.proofs.Common.{◌<◌, Standing, GoesOn, mark, left, graph_of, DONE}
 use Rattle.act_orders.proofs.search.Search.visit.Given as goal
 
 abbrev pub invariant-loop-top : goal.invariant-loop-top

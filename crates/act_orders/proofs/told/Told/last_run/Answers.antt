@@ -1,6 +1,4 @@
-use Rattle.std.proofs.Common.{◌≡◌, ◌+◌, ◌-◌, arith, sym, subst, ap, ◌∙◌, Some}
-use Rattle.act_orders.specs.declared.told.Run.{Run}
-use Rattle.act_orders.specs.Causes.{IsUpTo, run_of}
+use Rattle.act_orders.proofs.Common.{◌≡◌, ◌+◌, ◌-◌, arith, sym, subst, ap, ◌∙◌, Some, Run, IsUpTo, run_of}
 use Rattle.act_orders.proofs.Lasting.{found_up_to, nothing_up_to}
 use Rattle.act_orders.proofs.told.Told.last_run.Goals as goal
 

@@ -1,7 +1,5 @@
-use Rattle.std.proofs.Common.{◌≡◌, length, true, false, arith, rules, leb, leb-true, leb-false, sym, subst, ap}
-use Rattle.std.specs.List.Sorted.{IsNonDecreasingBy, IsPartitionPoint}
-use Rattle.std.proofs.lemmas.List.Sorted.{IsPartitionPoint-from_clause, IsPartitionedBy-leb, IsNonDecreasingBy-from_default}
-use Rattle.act_orders.specs.declared.told.Run.{Run}
+use Rattle.act_orders.proofs.Common.{◌≡◌, length, true, false, arith, rules, leb, leb-true, leb-false, sym, subst, ap, IsNonDecreasingBy, IsPartitionPoint}
+use Rattle.act_orders.proofs.Common.{IsPartitionPoint-from_clause, IsPartitionedBy-leb, IsNonDecreasingBy-from_default, Run}
 use Rattle.act_orders.proofs.told.Told.runs_up_to.Goals as goal
 
 pub returns : goal.returns

@@ -1,6 +1,4 @@
-use Rattle.std.proofs.Common.{◌∙◌, sym, ap, is_some}
-use Rattle.act_rules.specs.Submissions.{kept_at}
-use Rattle.act_owner.specs.Owner.{OwnerView}
+use Rattle.act_owner.proofs.Common.{◌∙◌, sym, ap, is_some, kept_at, OwnerView}
 use Rattle.act_owner.proofs.Answers.{kept_fine, reply_kept}
 use Rattle.act_owner.proofs.owner.Owner.collect_reply.Goals as goal
 

@@ -1,6 +1,4 @@
-use Rattle.std.proofs.Common.{◌∙◌, ap, sym, slice_index_or, false}
-use Rattle.std.proofs.lemmas.Option.{unwrap_or-slice_get}
-use Rattle.act_owner.specs.Owner.{OwnerView, is_known_dead}
+use Rattle.act_owner.proofs.Common.{◌∙◌, ap, sym, slice_index_or, false, unwrap_or-slice_get, OwnerView, is_known_dead}
 use Rattle.act_owner.proofs.owner.Owner.is_dead.Goals as goal
 
 pub returns : goal.returns

@@ -1,5 +1,4 @@
-use Rattle.std.proofs.Common.{◌∙◌, ap, sym}
-use Rattle.act_owner.specs.Owner.{with_sent}
+use Rattle.act_owner.proofs.Common.{◌∙◌, ap, sym, with_sent}
 use Rattle.act_owner.proofs.Answers.{sent_fine, sent_marked}
 use Rattle.act_owner.proofs.owner.Owner.next_packet.Goals as goal
 

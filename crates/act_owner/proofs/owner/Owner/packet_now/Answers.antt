@@ -1,7 +1,4 @@
-use Rattle.std.proofs.Common.{◌≡◌, ◌∙◌, Some, ap, sym, map, option_copied}
-use Rattle.act_types.specs.declared.call.Packet.{Packet}
-use Rattle.act_rules.specs.Submissions.{settle}
-use Rattle.act_owner.specs.Owner.{OwnerView, packet_at}
+use Rattle.act_owner.proofs.Common.{◌∙◌, Some, ap, sym, map, option_copied, Packet, settle, OwnerView}
 use Rattle.act_owner.proofs.Waiting.{ready_is_there, packet_is}
 use Rattle.act_owner.proofs.owner.Owner.packet_now.Goals as goal
 

@@ -1,6 +1,4 @@
-use Rattle.std.proofs.Common.{◌∙◌, ap, count_by}
-use Rattle.std.specs.Prelude.{zip}
-use Rattle.act_owner.specs.Owner.{OwnerView, call_waits_for}
+use Rattle.act_owner.proofs.Common.{◌∙◌, ap, count_by, zip, OwnerView, call_waits_for}
 use Rattle.act_owner.proofs.Answers.{pending_count}
 use Rattle.act_owner.proofs.owner.Owner.pending.Goals as goal
 

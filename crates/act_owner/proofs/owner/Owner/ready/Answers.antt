@@ -1,5 +1,4 @@
-use Rattle.std.proofs.Common.{◌∙◌, ap}
-use Rattle.act_owner.specs.Owner.{OwnerView, first_ready}
+use Rattle.act_owner.proofs.Common.{◌∙◌, ap, OwnerView, first_ready}
 use Rattle.act_owner.proofs.Waiting.{first_ready_same}
 use Rattle.act_owner.proofs.owner.Owner.ready.Goals as goal
 

@@ -1,5 +1,4 @@
-use Rattle.std.proofs.Common.{map}
-use Rattle.act_actor.specs.Casts.{actor_spec}
+use Rattle.act_plan_plays.proofs.Common.{map, actor_spec}
 use Rattle.act_plan_plays.proofs.Opened.{stands_at, no_runs, no_kills}
 use Rattle.act_plan_plays.proofs.plan_play.PlanPlay.open.Goals as goal
 

@@ -1,6 +1,4 @@
-use Rattle.std.proofs.Common.{◌∙◌, Err, count_by, sym, ap, arith}
-use Rattle.act_types.specs.declared.call.Fault.TheVariants.{ActorDied}
-use Rattle.act_replies.specs.Table.{row_waits_for, rows_after_death}
+use Rattle.act_replies.proofs.Common.{◌∙◌, Err, count_by, sym, ap, arith, ActorDied, row_waits_for, rows_after_death}
 use Rattle.act_replies.proofs.Deaths.{death-after_keep, count-after_keep, death-none}
 use Rattle.act_replies.proofs.table.ReplyTable.died.Goals as goal
 

@@ -1,5 +1,4 @@
-use Rattle.std.proofs.Common.{◌≡◌, count_by}
-use Rattle.act_replies.specs.Table.{row_waits_for, rows_after_death}
+use Rattle.act_replies.proofs.Common.{◌≡◌, count_by, row_waits_for, rows_after_death}
 use Rattle.act_replies.proofs.table.ReplyTable.died.Given as goal
 
 -- the death still leaves the same

@@ -1,5 +1,4 @@
-use Rattle.std.proofs.Common.{◌<◌, ◌∙◌, length, sym, arith, ap}
-use Rattle.act_replies.specs.Table.{TableView}
+use Rattle.act_replies.proofs.Common.{◌<◌, ◌∙◌, length, sym, arith, ap, TableView}
 use Rattle.act_replies.proofs.Deaths.{kept_open, keep_open, keep_fine}
 use Rattle.act_replies.proofs.table.ReplyTable.keep.Goals as goal
 

@@ -1,5 +1,4 @@
-use Rattle.std.proofs.Common.{ap}
-use Rattle.act_replies.specs.Table.{TableView}
+use Rattle.act_replies.proofs.Common.{ap, TableView}
 use Rattle.act_replies.proofs.Deaths.{last_waits, none_waiting}
 use Rattle.act_replies.proofs.table.ReplyTable.waiting_of.Goals as goal
 

@@ -1,5 +1,4 @@
-use Rattle.std.proofs.Common.{◌<◌, ◌∙◌, length, arith}
-use Rattle.act_replies.specs.Chains.{linked_actors}
+use Rattle.act_replies.proofs.Common.{◌<◌, ◌∙◌, length, arith, linked_actors}
 use Rattle.act_replies.proofs.Counts.{counts_pushed}
 use Rattle.act_replies.proofs.Links.{entered, entered_actors}
 use Rattle.act_replies.proofs.table.Waiting.push.Goals as goal

@@ -1,8 +1,5 @@
-use Rattle.std.proofs.Common.{◌≡◌, ◌<◌, length, arith, ap, sym, subst, ◌∙◌, Some, None}
-use Rattle.std.specs.Prelude.{slice_set, IfSome}
-use Rattle.std.proofs.lemmas.List.{length-map, length-set}
-use Rattle.act_replies.specs.declared.table.Link.{Link}
-use Rattle.act_replies.specs.Chains.{WaitingView, linked_actors}
+use Rattle.act_replies.proofs.Common.{◌≡◌, ◌<◌, length, arith, ap, sym, subst, ◌∙◌, Some, None, slice_set, IfSome, length-map, length-set, Link, WaitingView}
+use Rattle.act_replies.proofs.Common.{linked_actors}
 use Rattle.act_replies.proofs.Counts.{counts_some, counts_removed}
 use Rattle.act_replies.proofs.Links.{read_link, removal_last, removal_inner, before_within, after_within, taken_out, stays_out, told_none, told_some}
 use Rattle.act_replies.proofs.table.Waiting.remove.Goals as goal

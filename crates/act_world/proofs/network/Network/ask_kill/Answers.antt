@@ -1,5 +1,4 @@
-use Rattle.std.proofs.Common.{◌<◌, length, refl, sym, arith}
-use Rattle.act_rules.specs.Laws.{history}
+use Rattle.act_world.proofs.Common.{◌<◌, length, refl, sym, arith, history}
 use Rattle.act_world.proofs.Asking.{ask_follows, ask_refused_follows}
 use Rattle.act_world.proofs.Lawful.{world_lawful}
 use Rattle.act_world.proofs.OneCaller.{no_caller}

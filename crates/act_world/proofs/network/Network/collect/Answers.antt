@@ -1,5 +1,4 @@
-use Rattle.std.proofs.Common.{refl, sym, ◌∙◌, arith}
-use Rattle.act_rules.specs.Laws.{history}
+use Rattle.act_world.proofs.Common.{refl, sym, ◌∙◌, arith, history}
 use Rattle.act_world.proofs.Lawful.{world_lawful}
 use Rattle.act_world.proofs.Collecting.{collected, collect_owned, late_follows, no_notice_follows, notice_unrefused, reply_takes}
 use Rattle.act_world.proofs.Stepping.{refused_there, done_there, wanting_there}

@@ -1,5 +1,4 @@
-use Rattle.std.proofs.Common.{refl, sym, arith}
-use Rattle.act_rules.specs.Laws.{history}
+use Rattle.act_world.proofs.Common.{refl, sym, arith, history}
 use Rattle.act_world.proofs.Copying.{copy_follows, copy_refused_follows}
 use Rattle.act_world.proofs.Lawful.{world_lawful}
 use Rattle.act_world.proofs.OneCaller.{no_caller, put_back}

@@ -1,6 +1,4 @@
-use Rattle.std.proofs.Common.{Some, ap, sym, ◌∙◌}
-use Rattle.act_rules.proofs.Finding.{find-Some, find-None}
-use Rattle.act_world.specs.Network.{is_owner}
+use Rattle.act_world.proofs.Common.{Some, ap, sym, ◌∙◌, find-Some, find-None, is_owner}
 use Rattle.act_world.proofs.network.Network.owner.Goals as goal
 
 pub returns-in_default : goal.returns-in_default

@@ -1,8 +1,4 @@
-use Rattle.std.proofs.Common.{◌≡◌, length, Some, refl, sym, ◌∙◌, ap, arith}
-use Rattle.std.specs.Prelude.{position}
-use Rattle.std.proofs.lemmas.Grind.{common_steps}
-use Rattle.act_rules.specs.Laws.{history}
-use Rattle.act_world.specs.Network.{NetworkView, is_owner}
+use Rattle.act_world.proofs.Common.{◌≡◌, length, Some, refl, sym, ◌∙◌, ap, arith, position, common_steps, history, NetworkView, is_owner}
 use Rattle.act_world.proofs.Changes.{grown_none, grown_letter}
 use Rattle.act_world.proofs.Lawful.{world_lawful}
 use Rattle.act_world.proofs.Releasing.{release_follows, last_follows, release_refused_follows, release_unrefused, last_takes}

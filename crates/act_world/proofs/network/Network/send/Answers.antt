@@ -1,8 +1,4 @@
-use Rattle.std.proofs.Common.{◌≡◌, ◌++◌, ◌∷◌, [], List, length, refl, ap, sym, ◌∙◌, arith}
-use Rattle.std.proofs.lemmas.Grind.{common_steps}
-use Rattle.act_rules.specs.Laws.{history}
-use Rattle.act_world.specs.declared.network.CallKey.{CallKey}
-use Rattle.act_world.specs.declared.network.MailEntry.{MailEntry}
+use Rattle.act_world.proofs.Common.{◌≡◌, ◌++◌, ◌∷◌, [], List, length, refl, ap, sym, ◌∙◌, arith, common_steps, history, CallKey, MailEntry}
 use Rattle.act_world.specs.declared.network.MailEntry.TheVariants.{Call as CallEntry}
 use Rattle.act_world.proofs.Changes.{grown_letter}
 use Rattle.act_world.proofs.Lawful.{world_lawful}

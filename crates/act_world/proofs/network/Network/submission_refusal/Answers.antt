@@ -1,5 +1,4 @@
-use Rattle.std.proofs.Common.{refl, sym, ◌∙◌}
-use Rattle.act_rules.specs.Laws.{history}
+use Rattle.act_world.proofs.Common.{refl, sym, ◌∙◌, history}
 use Rattle.act_world.proofs.Changes.{on_none}
 use Rattle.act_world.proofs.OneCaller.{no_caller}
 use Rattle.act_world.proofs.Stepping.{refused_there}

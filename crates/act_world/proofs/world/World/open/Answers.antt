@@ -1,9 +1,4 @@
-use Rattle.std.proofs.Common.{List, length, ap, subst}
-use Rattle.std.specs.Prelude.{slice_get}
-use Rattle.act_world.specs.declared.network.MailEntry.{MailEntry}
-use Rattle.act_world.specs.declared.network.Posted.{Posted}
-use Rattle.act_actor.specs.Casts.{callers_named}
-use Rattle.act_world.specs.Openings.{HasOwners}
+use Rattle.act_world.proofs.Common.{List, length, ap, subst, slice_get, MailEntry, Posted, callers_named, HasOwners}
 use Rattle.act_world.proofs.OpenedOwners.{owners_opened, nothing_asked}
 use Rattle.act_world.proofs.Shown.{opened_shows}
 use Rattle.act_world.proofs.world.World.open.Goals as goal

@@ -1,7 +1,4 @@
-use Rattle.std.proofs.Common.{List, length, drop, subst}
-use Rattle.act_rules.specs.Rules.{Outcome}
-use Rattle.act_world.specs.View.{world_view}
-use Rattle.act_world.specs.Shown.{ShowsWhatIsTold}
+use Rattle.act_world.proofs.Common.{List, length, drop, subst, Outcome, world_view, ShowsWhatIsTold}
 use Rattle.act_world.proofs.Shown.{unplayed_shows}
 use Rattle.act_world.proofs.world.World.play.Goals as goal
 

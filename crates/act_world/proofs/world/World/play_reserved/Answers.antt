@@ -1,8 +1,4 @@
-use Rattle.std.proofs.Common.{rules, ◌+◌, ◌-◌, List, length, ap, subst, arith}
-use Rattle.std.proofs.lemmas.List.{take_all}
-use Rattle.act_rules.specs.declared.event.Event.{Event}
-use Rattle.act_world.specs.View.{world_view}
-use Rattle.act_world.specs.IsReachedBy.{FollowsRules, HasRoom, IsGrownBy, HasPlayed}
+use Rattle.act_world.proofs.Common.{rules, ◌+◌, ◌-◌, List, length, ap, subst, arith, take_all, Event, world_view, FollowsRules, HasRoom, IsGrownBy, HasPlayed}
 use Rattle.act_world.proofs.Playing.{Played_next}
 use Rattle.act_world.proofs.Shown.{played_shows, stopped_shows}
 use Rattle.act_world.proofs.world.World.play_reserved.Goals as goal

@@ -1,6 +1,4 @@
-use Rattle.std.proofs.Common.{◌≡◌, ◌+◌, ◌-◌, ◌≤◌, length, take, vec_len, vec_capacity}
-use Rattle.act_world.specs.View.{world_view}
-use Rattle.act_world.specs.IsReachedBy.{HasRoom, IsGrownBy, HasPlayed}
+use Rattle.act_world.proofs.Common.{◌≡◌, ◌+◌, ◌-◌, ◌≤◌, length, take, vec_len, vec_capacity, world_view, HasRoom, IsGrownBy, HasPlayed}
 use Rattle.act_world.proofs.world.World.play_reserved.Given as goal
 
 -- the world stands after the events so far, and there is room for the rest and for what is told of them

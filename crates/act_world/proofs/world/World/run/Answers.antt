@@ -1,8 +1,4 @@
-use Rattle.std.proofs.Common.{◌≡◌, ◌++◌, ◌∷◌, [], List, length, map, refl, ap, sym, ◌∙◌, arith}
-use Rattle.std.proofs.lemmas.Grind.{common_steps}
-use Rattle.act_types.specs.declared.call.Notice.TheVariants.{Answered}
-use Rattle.act_world.specs.declared.network.Posted.{Posted}
-use Rattle.act_world.specs.View.{slot_view}
+use Rattle.act_world.proofs.Common.{◌≡◌, ◌++◌, ◌∷◌, [], List, length, map, refl, ap, sym, ◌∙◌, arith, common_steps, Answered, Posted, slot_view}
 use Rattle.act_world.proofs.Changes.{grown_reply}
 use Rattle.act_world.proofs.Running.{run_refused, run_ended, run_unrefused, run_not_refused, run_nothing, run_takes, run_replies, run_ran}
 use Rattle.act_world.proofs.Stepping.{refused, wanting, done}

@@ -1,7 +1,4 @@
-use Rattle.std.proofs.Common.{◌∙◌, subst, sym, ap}
-use Rattle.act_rules.specs.Laws.{history}
-use Rattle.act_world.specs.View.{stage_of_slot}
-use Rattle.act_world.specs.Refines.{IsStage}
+use Rattle.act_world.proofs.Common.{◌∙◌, subst, sym, ap, history, stage_of_slot, IsStage}
 use Rattle.act_world.proofs.Staging.{stage_shown}
 use Rattle.act_world.proofs.world.World.stage.Goals as goal
 

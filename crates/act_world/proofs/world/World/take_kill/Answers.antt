@@ -1,5 +1,4 @@
-use Rattle.std.proofs.Common.{◌<◌, length, arith}
-use Rattle.act_world.specs.View.{slot_view}
+use Rattle.act_world.proofs.Common.{◌<◌, length, arith, slot_view}
 use Rattle.act_world.proofs.Killing.{kill_view}
 use Rattle.act_world.proofs.Stepping.{in_slot}
 use Rattle.act_world.proofs.world.World.take_kill.Goals as goal

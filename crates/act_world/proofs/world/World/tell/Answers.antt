@@ -1,8 +1,4 @@
-use Rattle.std.proofs.Common.{◌≡◌, ◌++◌, ◌∷◌, [], List, length, refl, ap, sym, ◌∙◌, arith}
-use Rattle.std.proofs.lemmas.Grind.{common_steps}
-use Rattle.act_types.specs.declared.call.Notice.TheVariants.{Death}
-use Rattle.act_rules.specs.Laws.{history}
-use Rattle.act_world.specs.declared.network.Posted.{Posted}
+use Rattle.act_world.proofs.Common.{◌≡◌, ◌++◌, ◌∷◌, [], List, length, refl, ap, sym, ◌∙◌, arith, common_steps, Death, history, Posted}
 use Rattle.act_world.proofs.Changes.{grown_reply}
 use Rattle.act_world.proofs.Lawful.{world_lawful}
 use Rattle.act_world.proofs.Stepping.{refused, wanting, done}

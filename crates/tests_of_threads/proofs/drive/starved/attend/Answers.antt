@@ -1,4 +1,4 @@
-use Rattle.std.proofs.Common.{rules, subst, sym}
+use Rattle.std.proofs.Common.{rules}
 use Rattle.tests_of_threads.proofs.drive.starved.attend.Goals as goal
 use Rattle.tests_of_threads.proofs.drive.starved.attend.Goals.{else-loop-test, then-loop-test+then-is_some, then-loop-test+else-is_some+in_default, then-loop-test+else-is_some+in-Ok+then-is_err}
 

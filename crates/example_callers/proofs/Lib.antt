@@ -1,0 +1,11 @@
+pub mod Common
+pub mod Amounts
+pub mod Balances
+pub mod Sums
+pub mod Books
+pub mod Calls
+pub mod Works
+pub mod Tries
+pub mod Left
+pub mod Totals
+pub mod Orders

@@ -1,0 +1,4 @@
+pub mod Keeps
+pub mod Money
+pub mod Orders
+pub mod Rates

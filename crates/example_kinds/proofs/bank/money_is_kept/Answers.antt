@@ -1,0 +1,19 @@
+use Rattle.std.proofs.Common.{replicate}
+use Rattle.actors.specs.Kinds.{Left, told_in}
+use Rattle.actors.proofs.Lemmas.{holds_in_each_run}
+use Rattle.example_kinds.specs.Bank.{bank_step, bank_text, empty_bank, HoldsItsMoney, paid_in, paid_out}
+use Rattle.actors.specs.Actors.{state_after}
+use Rattle.example_kinds.proofs.Keeps.{keeps, empty, asked_total}
+use Rattle.example_kinds.proofs.bank.money_is_kept.Goals as goal
+
+pub returns : goal.returns
+returns c accounts items =
+    let after : Left bank_step bank_text HoldsItsMoney (empty_bank accounts) items =
+    holds_in_each_run bank_step bank_text HoldsItsMoney keeps (replicate accounts 0) (empty accounts) items in
+    record {
+      bank = after.state;
+      left = after.left;
+      balances = after.kept;
+      total = asked_total (state_after (empty_bank accounts) items) after.state
+          (paid_in (told_in (empty_bank accounts) items)) (paid_out (told_in (empty_bank accounts) items)) after.left after.kept;
+    }
