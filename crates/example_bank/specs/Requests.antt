@@ -3,8 +3,8 @@ use Rattle.std.specs.Prelude.{ℕ, ◌+◌, ◌/◌, ◌%◌, ◌^◌, ◌==◌,
 use Rattle.std.specs.List.{list_all}
 use Rattle.std.specs.Char.{is_ascii_digit}
 use Rattle.std.specs.Str.Parse.{digits_value}
-use Rattle.own_kinds.specs.declared.bank.BankCall.{BankCall}
-use Rattle.own_kinds.specs.declared.bank.BankCall.TheVariants.{PayIn, PayOut, Transfer, Funds, Total}
+use Rattle.example_kinds.specs.declared.bank.BankCall.{BankCall}
+use Rattle.example_kinds.specs.declared.bank.BankCall.TheVariants.{PayIn, PayOut, Transfer, Funds, Total}
 use Rattle.example_bank.specs.declared.request.TheConstants.{ACCOUNTS, BRANCH_ACCOUNTS, BRANCHES}
 use Rattle.example_bank.specs.declared.request.Request.{Request}
 use Rattle.example_bank.specs.declared.request.Wrong.{Wrong}

@@ -1,7 +1,7 @@
 -- What the service leaves when the input ends.
 use Rattle.std.specs.Prelude.{◌≡◌, ℕ, ◌*◌, ◌-◌, ◌==◌, ◌≤◌, List, [], ◌∷◌, map, find, Option, None}
 use Rattle.actors.specs.Rules.{ActorSpec}
-use Rattle.own_kinds.specs.Bank.{bank_step, bank_text, empty_bank, HoldsItsMoney}
+use Rattle.example_kinds.specs.Bank.{bank_step, bank_text, empty_bank, HoldsItsMoney}
 use Rattle.actors.specs.Epochs.{Epoch, AreEpochs, casts_after, runs, CastKeeps, AreConsistent}
 use Rattle.example_bank.specs.declared.request.TheConstants.{BRANCH_ACCOUNTS, BRANCHES}
 use Rattle.example_bank.specs.declared.teller.Teller.{Teller}

@@ -1,15 +1,14 @@
 -- What a teller submits, and what it tells.
-use Rattle.std.specs.Prelude.{◌≡◌, ℕ, ℤ, ◌<◌, List, [], ◌∷◌, length, map, is_some, true, codes}
+use Rattle.std.specs.Prelude.{◌≡◌, ℕ, ◌<◌, List, [], ◌∷◌, length, map, is_some, true, codes}
 use Rattle.actors.specs.Value.{Value}
 use Rattle.actors.specs.Value.TheVariants.{Int}
-use Rattle.actors.specs.Arg.{Arg}
 use Rattle.actors.specs.Arg.TheVariants.{Plain}
 use Rattle.actors.specs.Method.TheVariants.{Own}
 use Rattle.actors.specs.Submission.{Submission}
 use Rattle.actors.specs.Callers.{kept_at}
 use Rattle.actors.specs.Codes.{SessionView}
-use Rattle.own_kinds.specs.declared.bank.BankCall.{BankCall}
-use Rattle.own_kinds.specs.declared.bank.BankCall.TheVariants.{PayIn, PayOut, Transfer, Funds, Total}
+use Rattle.example_kinds.specs.declared.bank.BankCall.{BankCall}
+use Rattle.example_kinds.specs.declared.bank.BankCall.TheVariants.{PayIn, PayOut, Transfer, Funds, Total}
 use Rattle.example_bank.specs.declared.request.Request.{Request}
 use Rattle.example_bank.specs.declared.teller.Teller.{Teller}
 
@@ -27,10 +26,6 @@ call_values (PayOut account amount) = Int account ∷ Int amount ∷ []
 call_values (Transfer from to amount) = Int from ∷ Int to ∷ Int amount ∷ []
 call_values (Funds account) = Int account ∷ []
 call_values Total = []
-
--- a number, as an argument
-abbrev pub number_arg : ℤ → Arg
-number_arg n = Plain (Int n)
 
 -- the call that a request is
 abbrev pub request_call : Request → Submission

@@ -2,7 +2,7 @@
 
 ghost use Rattle.std.specs.Prelude.{◌≡◌, ◌≤◌, map, IfOk};
 ghost use Rattle.actors.specs.Actors.{IsFitting, actor_spec};
-ghost use Rattle.own_kinds.specs.Bank.{bank_at};
+ghost use Rattle.example_kinds.specs.Bank.{bank_at};
 ghost use Rattle.example_bank.specs.Served.{branch_opened, all_opened, HasServed};
 
 use crate::request::{BRANCH_ACCOUNTS, BRANCHES};
@@ -10,10 +10,10 @@ use crate::service::Desk;
 use crate::stop::Stop;
 use crate::teller::Teller;
 use actors::{
-    ActorId, CallerId, Cast, EpochFault, ListOf, NoGate, NoMemory, cast_fits,
+    ActorId, CallerId, Cast, EpochFault, NoGate, NoMemory, callers_of, cast_fits,
     epochs_are_consistent, kept_over_epochs, run_epochs,
 };
-use own_kinds::{Bank, BankMeaning};
+use example_kinds::{Bank, BankMeaning};
 use std::alloc::Global;
 use std::io::{Read, Write};
 use std::sync::Wait;
@@ -25,12 +25,11 @@ fn branch(alloc: Global, number: u8) -> Result<Cast<Bank>, NoMemory>
     requires most { number ≤ BRANCHES }
     ensures { IfOk result (λ cast. actor_spec bank_at cast ≡ branch_opened number) }
 {
-    let mut callers = ListOf::new(alloc);
-    callers.push(CallerId::new(2 * number - 1).unwrap())?;
-    callers.push(CallerId::new(2 * number).unwrap())?;
+    let one = CallerId::new(2 * number - 1).unwrap();
+    let other = CallerId::new(2 * number).unwrap();
     Ok(Cast {
         actor: ActorId::new(number).unwrap(),
-        callers,
+        callers: callers_of(alloc, &[one, other])?,
         kind: Bank::open(alloc, BRANCH_ACCOUNTS as usize)?,
         pending: None,
     })

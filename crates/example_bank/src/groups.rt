@@ -4,7 +4,7 @@ ghost use Rattle.std.specs.Prelude.{◌<◌};
 
 use crate::request::Request;
 use actors::{ActorId, CallerId, MAX_ACTORS};
-use own_kinds::BankCall;
+use example_kinds::BankCall;
 
 /// So many places a branch may have.
 const PLACES: usize = 256;

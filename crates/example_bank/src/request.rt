@@ -6,7 +6,7 @@ ghost use Rattle.std.specs.Char.{is_ascii_digit};
 ghost use Rattle.example_bank.specs.Requests.{number_at, account_of, amount_of, branch_of, pay_in_at, pay_out_at, transfer_at, funds_at, total_at, request_at};
 
 use actors::ActorId;
-use own_kinds::BankCall;
+use example_kinds::BankCall;
 use std::fmt;
 
 /// The accounts are numbered from 0, over all branches.

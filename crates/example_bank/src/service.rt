@@ -6,7 +6,7 @@ use crate::round::Round;
 use crate::stop::Stop;
 use crate::teller::Teller;
 use actors::{CallerId, Cast, Joined, NoMemory, Service};
-use own_kinds::Bank;
+use example_kinds::Bank;
 use std::alloc::Global;
 use std::io::{Read, Write};
 

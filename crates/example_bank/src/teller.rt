@@ -3,12 +3,12 @@
 ghost use Rattle.std.specs.Prelude.{◌≡◌, IfOk, Ok, map, codes};
 ghost use Rattle.actors.specs.Arg.TheVariants.{Plain};
 ghost use Rattle.actors.specs.Method.TheVariants.{Own};
-ghost use Rattle.own_kinds.specs.Bank.{bank_call};
-ghost use Rattle.example_bank.specs.Tellers.{number_arg, call_word, call_values};
+ghost use Rattle.example_kinds.specs.Bank.{bank_call};
+ghost use Rattle.example_bank.specs.Tellers.{call_word, call_values};
 
 use crate::request::Request;
-use actors::{Arg, Code, FutureId, GaveUp, ListOf, Method, Name, NoMemory, Session, Value};
-use own_kinds::BankCall;
+use actors::{Arg, Code, FutureId, GaveUp, ListOf, Method, Name, NoMemory, Session, args_of};
+use example_kinds::BankCall;
 use std::alloc::Global;
 
 /// Asks what its requests ask, in their order, and waits for the answers.
@@ -32,27 +32,16 @@ fn method_of(call: &BankCall) -> Method
     Method::Own(Name::new(word).unwrap())
 }
 
-/// These numbers, as arguments.
-fn numbers(alloc: Global, given: &[i64]) -> Result<ListOf<Arg>, NoMemory>
-    ensures { IfOk result (λ args. args ≡ map number_arg given.now) }
-{
-    let mut args = ListOf::new(alloc);
-    for number in given {
-        args.push(Arg::Plain(Value::Int(*number)))?;
-    }
-    Ok(args)
-}
-
 /// The arguments of a call.
-fn args_of(alloc: Global, call: &BankCall) -> Result<ListOf<Arg>, NoMemory>
+fn call_args(alloc: Global, call: &BankCall) -> Result<ListOf<Arg>, NoMemory>
     ensures { IfOk result (λ args. args ≡ map Plain (call_values call.now)) }
 {
     match call {
-        BankCall::PayIn(account, amount) => numbers(alloc, &[*account, *amount]),
-        BankCall::PayOut(account, amount) => numbers(alloc, &[*account, *amount]),
-        BankCall::Transfer(from, to, amount) => numbers(alloc, &[*from, *to, *amount]),
-        BankCall::Funds(account) => numbers(alloc, &[*account]),
-        BankCall::Total => numbers(alloc, &[]),
+        BankCall::PayIn(account, amount) => args_of(alloc, &[*account, *amount]),
+        BankCall::PayOut(account, amount) => args_of(alloc, &[*account, *amount]),
+        BankCall::Transfer(from, to, amount) => args_of(alloc, &[*from, *to, *amount]),
+        BankCall::Funds(account) => args_of(alloc, &[*account]),
+        BankCall::Total => args_of(alloc, &[]),
     }
 }
 
@@ -70,7 +59,7 @@ impl Code for Teller {
         let mut futures = Vec::with_capacity(alloc, self.requests.len())?;
         for request in &self.requests {
             let method = method_of(&request.call);
-            let args = args_of(alloc, &request.call)?;
+            let args = call_args(alloc, &request.call)?;
             futures.push(session.submit(request.branch, method, args)?)?;
         }
         session.wait_all(&futures)?;

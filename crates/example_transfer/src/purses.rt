@@ -11,8 +11,8 @@ ghost use Rattle.example_transfer.specs.Purses.{call_of, casts_of, payment_of, p
 use crate::purse::Purse;
 use crate::together::Together;
 use actors::{
-    ActorId, Arg, CallerId, Cast, FutureId, ListOf, Method, Name, NoMemory, Opening, Plan, Step,
-    Value,
+    ActorId, Arg, CallerId, Cast, FutureId, Method, Name, NoMemory, Opening, Plan, Step, Value,
+    callers_of, list_of,
 };
 use std::alloc::Global;
 
@@ -45,7 +45,7 @@ fn purse_cast(alloc: Global, number: u8, held: u32) -> Result<Cast<Purse>, NoMem
     let c2 = CallerId::new(2).unwrap();
     Ok(Cast {
         actor: ActorId::new(number).unwrap(),
-        callers: ListOf::from_vec(vec![in alloc; c1, c2]?),
+        callers: callers_of(alloc, &[c1, c2])?,
         kind: Purse {
             held: u64::from(held),
         },
@@ -71,7 +71,7 @@ fn call(alloc: Global, number: u8, name: &str, arg: Arg) -> Result<Step, NoMemor
 {
     let actor = ActorId::new(number).unwrap();
     let name = Name::new(name).unwrap();
-    let args = ListOf::from_vec(vec![in alloc; arg]?);
+    let args = list_of(alloc, [arg])?;
     Ok(Step::Submit(actor, Method::Own(name), args))
 }
 

@@ -1,5 +1,0 @@
-pub mod Hearing
-pub mod Playing
-pub mod Peace
-pub mod Casts
-pub mod Fits

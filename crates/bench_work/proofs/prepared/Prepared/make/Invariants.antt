@@ -1,8 +1,0 @@
-use Rattle.std.proofs.Common.{◌≡◌, length}
-use Rattle.std.specs.Prelude.{All}
-use Rattle.bench_work.specs.Work.{one_more}
-use Rattle.bench_work.proofs.prepared.Prepared.make.Given as goal
-
--- as many as were made, each for a call that adds 1
-abbrev pub invariant-loop : goal.invariant-loop
-invariant-loop l = (length l.left.items ≡ l.counter) × All (λ args. args ≡ one_more) l.left.items

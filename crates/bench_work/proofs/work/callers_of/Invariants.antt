@@ -1,9 +1,0 @@
-use Rattle.std.proofs.Common.{◌≡◌}
-use Rattle.std.specs.Prelude.{filter}
-use Rattle.act_rules.specs.Report.{one_to}
-use Rattle.bench_work.specs.Work.{actor_at, is_reached}
-use Rattle.bench_work.proofs.work.callers_of.Given as goal
-
--- each caller so far that calls the actor
-abbrev pub invariant-loop-before : goal.invariant-loop-before
-invariant-loop-before l = l.callers.items ≡ filter (λ caller. is_reached l.work.reach (actor_at l.work caller 0) l.actor) (one_to l.before)

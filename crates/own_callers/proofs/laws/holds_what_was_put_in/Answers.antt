@@ -1,5 +1,0 @@
-use Rattle.own_callers.proofs.Balances.{holds_what_was_put_in}
-use Rattle.own_callers.proofs.laws.holds_what_was_put_in.Goals as goal
-
-pub returns : goal.returns
-returns _ = holds_what_was_put_in

@@ -1,7 +1,0 @@
-use Rattle.std.proofs.Common.{◌≡◌, []}
-use Rattle.own_callers.specs.Retry.{HasFailed}
-use Rattle.own_callers.proofs.retry.RetryCode.run.Given as goal
-
--- each try so far failed
-abbrev pub invariant-loop : goal.invariant-loop
-invariant-loop g l = (g.S.Session.seen l.fn.session).calls ≡ [] → HasFailed l.fn.self l.counter (g.S.Session.seen l.session)

@@ -1,4 +1,0 @@
-pub mod Keeps
-pub mod Money
-pub mod Orders
-pub mod Rates

@@ -1,7 +1,0 @@
-use Rattle.std.proofs.Common.{◌≡◌, ◌++◌, codes, decimal, map, string_bytes, take}
-use Rattle.actors.specs.Texts.{with_spaces}
-use Rattle.own_kinds.proofs.bank.Bank.line.Given as goal
-
--- the balances so far are written
-abbrev pub invariant-loop-balance : goal.invariant-loop-balance
-invariant-loop-balance l = string_bytes l.line ≡ codes "bank" ++ with_spaces (map decimal (take l.balance-index l.balance-items))

@@ -1,9 +1,0 @@
-use Rattle.std.proofs.Common.{ap, sym, ◌∙◌}
-use Rattle.own_kinds.specs.Bank.{bank_at}
-use Rattle.own_kinds.proofs.Keeps.{own_moved}
-use Rattle.own_kinds.proofs.bank.BankActor.ask.Goals as goal
-
-pub returns-in-Ok-clause-moved : goal.returns-in-Ok-clause-moved
-returns-in-Ok-clause-moved c =
-    ap bank_at c.does.ensures.moved
-    ∙ own_moved c.args.self.now c.args.method.now c.args.args.now c.in-Ok.call (sym c.read.ensures ∙ c.in-Ok.is)

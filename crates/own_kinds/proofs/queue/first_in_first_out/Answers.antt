@@ -1,6 +1,0 @@
-use Rattle.std.proofs.Common.{[], refl}
-use Rattle.own_kinds.proofs.Orders.{order_is_kept}
-use Rattle.own_kinds.proofs.queue.first_in_first_out.Goals as goal
-
-pub returns : goal.returns
-returns c = c.runs_by_its_steps.ensures.kept order_is_kept [] refl
