@@ -51,7 +51,7 @@ impl Driver {
         idle_backoff.reset();
         for _ in rt.forever() {
             let has_moved = self.turn(rt, alloc, lines, notes)?;
-            rest(idle_backoff, has_moved);
+            rest(rt, idle_backoff, has_moved);
             if !has_moved {
                 continue;
             }

@@ -110,11 +110,11 @@ fn letter_endpoint(
 }
 
 /// Waits a little where nothing was done.
-pub(crate) fn rest(idle_backoff: &mut IdleBackoff, has_moved: bool) {
+pub(crate) fn rest<R: Wait>(rt: &R, idle_backoff: &mut IdleBackoff, has_moved: bool) {
     if has_moved {
         idle_backoff.reset();
     } else {
-        idle_backoff.pause();
+        idle_backoff.pause(rt);
     }
 }
 
@@ -278,7 +278,7 @@ impl Driver {
         ensures only_waits { OnlyWaits lines.now self.old self.new }
     {
         let has_moved = self.turn(rt, alloc, lines, notes)?;
-        rest(idle_backoff, has_moved);
+        rest(rt, idle_backoff, has_moved);
         Ok(())
     }
 
@@ -295,7 +295,7 @@ impl Driver {
             }
             let has_sent = self.send(rt, lines);
             let has_heard = self.collect(lines, notes);
-            rest(&mut idle_backoff, has_sent || has_heard);
+            rest(rt, &mut idle_backoff, has_sent || has_heard);
         }
         unreachable!()
     }

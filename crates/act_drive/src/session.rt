@@ -196,5 +196,6 @@ pub trait Session {
         ensures value { result ≡ length (seen self.now).calls }
         ensures limit { result ≤ MAX_CALLS };
 
+    /// Where memory comes from.
     fn alloc(&self) -> Global;
 }

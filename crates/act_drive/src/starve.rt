@@ -107,7 +107,7 @@ impl Driver {
                 return;
             }
             let has_heard = self.collect(lines, notes);
-            rest(&mut idle_backoff, has_heard);
+            rest(rt, &mut idle_backoff, has_heard);
         }
         unreachable!()
     }

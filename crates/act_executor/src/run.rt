@@ -350,7 +350,9 @@ pub fn run_plans_noting<R: Threads + Wait + Sync, K: Actor + Send, G: Gate, N: N
     Ok(ran)
 }
 
-/// The same, where nothing is noted.
+/// Runs each actor and each caller in a thread of its own, each caller by its plan, and ends when
+/// all have ended. A caller without a plan has an empty one. The gate is passed before each run of a
+/// call. That a run ends is not promised.
 pub fn run_plans<R: Threads + Wait + Sync, K: Actor + Send, G: Gate>(
     rt: &R,
     alloc: Global,

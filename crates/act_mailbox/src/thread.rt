@@ -6,7 +6,9 @@ use act_types::{ActorId, CallerId, FutureId};
 use crossbeam_utils::Backoff;
 use std::alloc::Global;
 use std::marker::Model;
-use std::thread;
+use std::sync::Wait;
+use std::thread::{self, Parker};
+use std::time::Duration;
 
 /// A pass on the line at a place of a list of lines.
 #[derive(Drop)]
@@ -65,11 +67,54 @@ impl Habit {
     }
 }
 
-/// Pauses that are short at first, where that helped before, and then give the processor away.
+/// So many pauses give the processor away, some milliseconds long, before the first nap.
+const YIELDS: u32 = 4_096;
+
+/// The first nap, and the longest one, in microseconds. What comes in meanwhile is found at its end.
+const FIRST_NAP: u32 = 64;
+
+const LONGEST_NAP: u32 = 4_096;
+
+/// How a long wait goes on: the thread gives the processor away, and at last sleeps, longer each time.
+#[derive(Clone, Copy)]
+struct Rest {
+    yields: u32,
+    nap: u32,
+}
+
+impl Rest {
+    fn new() -> Rest {
+        Rest {
+            yields: 0,
+            nap: FIRST_NAP,
+        }
+    }
+
+    /// One pause, and how the next one is.
+    fn after<R: Wait>(self, rt: &R) -> Rest {
+        if self.yields < YIELDS {
+            thread::yield_now();
+            return Rest {
+                yields: self.yields.saturating_add(1),
+                nap: self.nap,
+            };
+        }
+        // Nobody unparks it: it sleeps.
+        Parker::new().park_timeout(rt, Duration::from_micros(u64::from(self.nap)));
+        Rest {
+            yields: self.yields,
+            nap: self.nap.saturating_mul(2).min(LONGEST_NAP),
+        }
+    }
+}
+
+/// Pauses that are short at first, where that helped before. Then they give the processor away, and where
+/// nothing comes for some milliseconds the thread sleeps.
 #[derive(Drop)]
 pub struct IdleBackoff {
     backoff: Backoff,
     pauses: u32,
+    rest: Rest,
     habit: Habit,
 }
 
@@ -92,6 +137,7 @@ impl IdleBackoff {
         IdleBackoff {
             backoff: Backoff::new(),
             pauses: 0,
+            rest: Rest::new(),
             habit: Habit::new(),
         }
     }
@@ -104,6 +150,7 @@ impl IdleBackoff {
             self.habit = self.habit.after(self.pauses < SHORT_PAUSES);
         }
         self.pauses = 0;
+        self.rest = Rest::new();
     }
 
     /// One short pause.
@@ -113,11 +160,11 @@ impl IdleBackoff {
     }
 
     /// Nothing was done.
-    pub fn pause(&mut self)
+    pub fn pause<R: Wait>(&mut self, rt: &R)
         ensures { self.new ≡ min (self.old + 1) SHORT_PAUSES }
     {
         if self.pauses == SHORT_PAUSES {
-            thread::yield_now();
+            self.rest = self.rest.after(rt);
             return;
         }
         self.pauses += 1;

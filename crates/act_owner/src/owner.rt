@@ -295,8 +295,8 @@ impl Owner {
         self.table.pending(a)
     }
 
-    /// How many calls of the actor may have no answer yet, as the caller was opened with it: none
-    /// where nothing limits them, or the actor is not one of this caller's. It takes no memory.
+    /// How many calls of the actor may have no answer yet, as the caller was opened with it. That is
+    /// none where nothing limits them, or the actor is not one of this caller's. It takes no memory.
     pub fn limit(&self, a: ActorId) -> Option<u32>
         ensures { result ≡ owner_limit self.now a }
     {

@@ -80,7 +80,7 @@ fn checked_events<K: Actor>(
 
 /// Runs the plans as `run_plans` does, and gives beside what is joined a play that ends in it.
 ///
-/// The twins are the casts once more, with their kinds in the same opening states, in boxes: the
+/// The twins are the casts once more, with their kinds in the same opening states, in boxes. The
 /// threads use the casts up, and a world is opened with the twins, which plays the events before they
 /// are given. So it takes the memory of two runs. A run of which no play is found is `Unplayed`; no
 /// contract says that this never comes.

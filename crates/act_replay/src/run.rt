@@ -85,7 +85,7 @@ pub(crate) fn check_play<K: Actor>(
     Ok(events)
 }
 
-/// A play that ends in what a run in threads left, where one is found: it is made of what is joined
+/// A play that ends in what a run in threads left, where one is found. It is made of what is joined
 /// alone, and nothing was noted while the threads ran. It is one way in which the run can have gone,
 /// and need not be the one in which it went.
 ///

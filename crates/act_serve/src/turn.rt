@@ -49,7 +49,7 @@ fn give<S: Stamped, R: Wait>(
             Ok(()) => return,
             Err(back) => notice = back,
         }
-        idle_backoff.pause();
+        idle_backoff.pause(rt);
     }
     unreachable!()
 }
@@ -315,7 +315,7 @@ pub fn serve_by<R: Wait, K: Actor, F: Fn(ActorId, u32), N: Notes>(
                 }
                 Err(back) => {
                     live = back;
-                    idle_backoff.pause();
+                    idle_backoff.pause(rt);
                 }
             },
         }
@@ -348,6 +348,7 @@ pub fn serve<R: Wait, K: Actor, G: Gate>(
 
 /// What an executor passes before it runs a call at a place of its log.
 pub trait Gate: Sync {
+    /// It is passed before the actor runs the call at this place of its log.
     fn pass(&self, actor: ActorId, place: u32);
 }
 

@@ -2,7 +2,7 @@
 
 ghost use Rattle.act_told.specs.InOrder.{JoinedRunsAreInTurn, JoinedRunsEndRight};
 
-/// In the history of a joined run each call that an actor ran is its caller's next one to it: it went to
+/// In the history of a joined run each call that an actor ran is its caller's next one to it. It went to
 /// this actor, it hadn't run, and each earlier one had.
 #[tactic(none)]
 pub fn joined_runs_are_in_turn()

@@ -130,8 +130,8 @@ fn are_name_bytes(bytes: &[u8]) -> bool
         .all(|byte| byte.is_ascii_alphanumeric() || *byte == b'_')
 }
 
-/// Whether a text can name a method or a fault of a kind of one's own: 1 to 18 ASCII letters, digits and `_`, a
-/// letter first, and no word that scripts and reports have already.
+/// Whether a text can name a method or a fault of a kind of one's own. That is 1 to 18 ASCII letters, digits and
+/// `_`, a letter first, and no word that scripts and reports have already.
 pub fn is_name(text: &str) -> bool
     ensures { result ≡ is_good text.now }
 {

@@ -304,9 +304,9 @@ impl<K: Actor> World<K> {
         Ok(())
     }
 
-    /// A standing world is consistent: each actor ran a prefix of what each of its callers submitted
-    /// to it, in order, each call once, and each answer kept is that of the call's place in a run
-    /// list, or a dead actor's fault.
+    /// A standing world is consistent. Each actor ran a prefix of what each of its callers submitted
+    /// to it, in order, each call once. Each answer kept is that of the call's place in a run list, or
+    /// a dead actor's fault.
     pub fn consistent(&self)
         ensures { (casts : List ActorSpec) (events : List Happening) →
             IsReachedBy casts events (world_view K.state self.now) →
@@ -441,8 +441,8 @@ fn slots_of<K: Actor>(
 }
 
 impl<K: Actor> World<K> {
-    /// A world of these actors, each in its opening state, and of the callers that they name, each
-    /// with one copy of the handle of every actor that names it, and with each one's limit.
+    /// A world of these actors, each in its opening state, and of the callers that they name. Each has
+    /// one copy of the handle of every actor that names it, and each one's limit.
     pub fn open(alloc: Global, casts: Vec<Cast<K>>) -> Result<World<K>, NoMemory>
         requires fit { IsFitting casts.items }
         ensures reached { IfOk result (λ world.

@@ -3,6 +3,8 @@
 -- actors to be, and the test of them
 pub use Rattle.act_actor.specs.Cast.{IsFitting, CallersDiffer, ActorsDiffer}
 pub use Rattle.act_actor.specs.Casts.{actor_spec, actors_that_name, limits_that_name}
+-- a cast by its parts, and a number as an argument
+pub use Rattle.act_short.specs.Short.{one_cast, number_arg}
 -- what contracts see of an actor that runs, was killed, or ended by itself
 pub use Rattle.act_actor.specs.View.{LiveView, LeftView, ActorView, DeadView, RetiredView}
 pub use Rattle.act_actor.specs.StateViews.{live_view, retired_view}

@@ -1,6 +1,7 @@
 //! The door: a client names this crate alone, and has all that its code and its clauses need.
 //!
 //! - Names, values and calls: `ActorId`, `Value`, `Arg`, `Method`, `ListOf` and others.
+//! - Short forms: `args_of`, `callers_of`, `list_of`, `casts_of_one`; `Shown` and `answer_text` for an answer.
 //! - Kinds: `Counter`, `Table`, `Account`, `ListKind`, and `Actor` for one of your own.
 //! - Actors to be: `Cast`, with `cast_fits`, which is the test of them.
 //! - A world, which is played event by event: `World`, `Event`, and `Did` for what each event did.
@@ -21,6 +22,9 @@ pub use act_types::{
     NoMemory, Notice, Packet, ReleaseNote, Reply, Settled, SmallList, Text, Value, is_good_text,
     is_name,
 };
+
+// Short forms of what each client writes.
+pub use act_short::{Shown, answer_text, args_of, callers_of, casts_of_one, list_of};
 
 // Limits.
 pub use act_drive::MAX_KILLS;

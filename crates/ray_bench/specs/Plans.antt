@@ -3,10 +3,10 @@ use Rattle.std.specs.Prelude.{ℕ, List, [], ◌∷◌, flat_map}
 use Rattle.act_types.specs.declared.call.Method.TheVariants.{Add}
 use Rattle.act_rules.specs.declared.script.Step.{Step}
 use Rattle.act_rules.specs.declared.script.Step.TheVariants.{Submit, Await}
-use Rattle.bench_work.specs.Work.{actor_at, one_more, places}
-use Rattle.bench_work.specs.declared.work.Style.{Style}
-use Rattle.bench_work.specs.declared.work.Style.TheVariants.{Wait, Future}
-use Rattle.bench_work.specs.declared.work.Work.{Work}
+use Rattle.ray_bench_work.specs.Work.{actor_at, one_more, places}
+use Rattle.ray_bench_work.specs.declared.work.Style.{Style}
+use Rattle.ray_bench_work.specs.declared.work.Style.TheVariants.{Wait, Future}
+use Rattle.ray_bench_work.specs.declared.work.Work.{Work}
 
 -- what a caller does beside a call: it awaits its answer, or goes on
 abbrev pub awaits : Style → ℕ → List Step

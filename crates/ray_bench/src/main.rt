@@ -4,7 +4,7 @@
 mod plans;
 mod turn;
 
-use bench_work::{Order, Stop, exit_code, print_turn, read_order};
+use ray_bench_work::{Order, Stop, exit_code, print_turn, read_order};
 use std::process::ExitCode;
 use std::rt::{Clock, Env};
 use std::sync::Wait;

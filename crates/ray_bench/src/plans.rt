@@ -8,7 +8,7 @@ ghost use Rattle.ray_bench.specs.Plans.{bench_part, bench_plan};
 use act_executor::Plan;
 use act_rules::Step;
 use act_types::{CallerId, FutureId, Method, NoMemory};
-use bench_work::{Style, Work, one_more};
+use ray_bench_work::{Style, Work, one_more};
 use std::alloc::Global;
 
 /// The steps of a caller.

@@ -13,7 +13,7 @@ use act_actor::{Cast, cast_fits};
 use act_executor::{Joined, NoGate, Plan, plans_fit, run_plans};
 use act_kinds::Actor;
 use act_types::CallerId;
-use bench_work::{Stop, Work, are_served, casts_of};
+use ray_bench_work::{Stop, Work, are_served, casts_of};
 use std::alloc::Global;
 use std::rt::Clock;
 use std::sync::Wait;

@@ -3,8 +3,8 @@ use Rattle.std.specs.Prelude.{◌≡◌, ℕ, List, ◌++◌, map}
 use Rattle.act_types.specs.declared.call.Method.TheVariants.{Add}
 use Rattle.act_rules.specs.declared.history.Submission.{Submission}
 use Rattle.act_drive.specs.Sessions.{SessionView}
-use Rattle.bench_work.specs.Work.{actor_at, one_more, places}
-use Rattle.bench_work.specs.declared.work.Work.{Work}
+use Rattle.ray_bench_work.specs.Work.{actor_at, one_more, places}
+use Rattle.ray_bench_work.specs.declared.work.Work.{Work}
 use Rattle.ray_bench_code.specs.declared.adder.Adder.{Adder}
 
 -- the call of a caller at a place: one that adds 1

@@ -6,7 +6,7 @@ ghost use Rattle.ray_bench_code.specs.Calls.{adder_of, calls_of_code};
 
 use act_drive::{Code, GaveUp, Session};
 use act_types::{CallerId, FutureId, Method, NoMemory};
-use bench_work::{Prepared, Style, Work};
+use ray_bench_work::{Prepared, Style, Work};
 use std::alloc::Global;
 
 /// What a caller does.

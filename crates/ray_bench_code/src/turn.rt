@@ -14,7 +14,7 @@ use act_actor::{Cast, cast_fits};
 use act_executor::{Code, Joined, NoGate, Plan, codes_fit, plans_fit, run_callers};
 use act_kinds::Actor;
 use act_types::CallerId;
-use bench_work::{Stop, Work, are_served, casts_of};
+use ray_bench_work::{Stop, Work, are_served, casts_of};
 use std::alloc::Global;
 use std::rt::Clock;
 use std::sync::Wait;

@@ -9,10 +9,10 @@ use Rattle.act_rules.specs.declared.event.Event.{Event}
 use Rattle.act_rules.specs.declared.event.Event.TheVariants as event
 use Rattle.act_world.specs.IsReachedBy.{IsReachedBy}
 use Rattle.act_world.specs.View.{WorldView, NetworkView, is_owner}
-use Rattle.bench_work.specs.Work.{actor_at, one_more, places}
-use Rattle.bench_work.specs.declared.work.Style.{Style}
-use Rattle.bench_work.specs.declared.work.Style.TheVariants.{Wait, Future}
-use Rattle.bench_work.specs.declared.work.Work.{Work}
+use Rattle.ray_bench_work.specs.Work.{actor_at, one_more, places}
+use Rattle.ray_bench_work.specs.declared.work.Style.{Style}
+use Rattle.ray_bench_work.specs.declared.work.Style.TheVariants.{Wait, Future}
+use Rattle.ray_bench_work.specs.declared.work.Work.{Work}
 use Rattle.ray_bench_play.specs.declared.calls.Call.{Call}
 use Rattle.ray_bench_play.specs.declared.calls.Leg.{Leg}
 use Rattle.ray_bench_play.specs.declared.calls.Leg.TheVariants.{Send, Deliver, Run, Collect}

@@ -7,7 +7,7 @@ ghost use Rattle.ray_bench_play.specs.Plays.{call_at, event_of, submission_of};
 use act_rules::Arrival;
 use act_types::{ActorId, Arg, CallerId, FutureId, ListOf, Method};
 use act_world::{Did, Event};
-use bench_work::Work;
+use ray_bench_work::Work;
 
 /// What happens to a call that is submitted, in this order.
 #[derive(Clone, Copy, Debug, PartialEq, Eq)]

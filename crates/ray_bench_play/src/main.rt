@@ -5,7 +5,7 @@ mod calls;
 mod play;
 mod turn;
 
-use bench_work::{Order, Stop, exit_code, print_turn, read_order};
+use ray_bench_work::{Order, Stop, exit_code, print_turn, read_order};
 use std::process::ExitCode;
 use std::rt::{Clock, Env};
 use turn::take_turn;

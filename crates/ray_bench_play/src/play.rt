@@ -3,7 +3,7 @@
 ghost use Rattle.std.specs.Prelude.{◌≡◌, ◌*◌, ◌∷◌, [], OnOk};
 ghost use Rattle.act_world.specs.IsReachedBy.{HasRoom, IsGrownBy};
 ghost use Rattle.act_world.specs.View.{world_view};
-ghost use Rattle.bench_work.specs.Work.{one_more};
+ghost use Rattle.ray_bench_work.specs.Work.{one_more};
 ghost use Rattle.ray_bench_play.specs.Plays.{StandsAfter, event_of, submission_of, way_of};
 ghost use Rattle.ray_bench_play.specs.Plays.{all_legs, events_in, legs, submissions, ways};
 
@@ -11,7 +11,7 @@ use crate::calls::{Call, Leg, call_at};
 use act_kinds::Actor;
 use act_types::{Arg, ListOf};
 use act_world::World;
-use bench_work::{Prepared, Stop, Style, Work};
+use ray_bench_work::{Prepared, Stop, Style, Work};
 use std::alloc::Global;
 
 /// Submits a call.

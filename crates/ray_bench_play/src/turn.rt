@@ -14,7 +14,7 @@ use act_actor::{Cast, cast_fits};
 use act_kinds::Actor;
 use act_types::CallerId;
 use act_world::World;
-use bench_work::{Prepared, Stop, Work, casts_of, is_served};
+use ray_bench_work::{Prepared, Stop, Work, casts_of, is_served};
 use std::alloc::Global;
 use std::rt::Clock;
 use std::time::Instant;

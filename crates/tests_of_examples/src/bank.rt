@@ -6,7 +6,7 @@ use act_executor::plans_fit;
 use act_kinds::{Account, Boxed};
 use act_types::{ActorId, Method, NoMemory};
 use act_world::{Cast, Stage, World};
-use own_kinds::{Bank, bank_stage, run_banks};
+use example_kinds::{Bank, bank_stage, run_banks};
 use std::alloc::Global;
 use std::test::Fail;
 

@@ -6,7 +6,7 @@ use act_actor::{Cast, cast_fits};
 use act_executor::{codes_fit, plans_fit};
 use act_kinds::{Account, Boxed, ListKind};
 use act_types::{CallerId, Method, NoMemory};
-use own_callers::{Buyer, run_buyers};
+use example_callers::{Buyer, run_buyers};
 use std::alloc::Global;
 use std::test::Fail;
 

@@ -5,7 +5,8 @@ use act_console::joined_report;
 use act_executor::{Code, Joined, NoGate, Plan, codes_fit, plans_fit, run_callers};
 use act_kinds::{Actor, Boxed};
 use act_rules::Step;
-use act_types::{ActorId, Arg, CallerId, ListOf, Method, NoMemory, Value};
+use act_short::args_of;
+use act_types::{ActorId, CallerId, ListOf, Method, NoMemory};
 use std::alloc::Global;
 use std::process::Abort;
 use std::sync::Wait;
@@ -54,9 +55,7 @@ pub fn two_casts<K: Drop>(
 
 /// A call with one number.
 pub fn call_of(alloc: Global, actor: ActorId, method: Method, n: i64) -> Result<Step, NoMemory> {
-    let mut args = ListOf::new(alloc);
-    args.push(Arg::Plain(Value::Int(n)))?;
-    Ok(Step::Submit(actor, method, args))
+    Ok(Step::Submit(actor, method, args_of(alloc, &[n])?))
 }
 
 /// The plan of a caller that makes these calls of actor 1.

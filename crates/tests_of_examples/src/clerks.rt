@@ -5,8 +5,8 @@ use act_actor::{Cast, cast_fits};
 use act_executor::{codes_fit, plans_fit};
 use act_kinds::{Account, Boxed, Counter};
 use act_types::{CallerId, Method, Name, NoMemory};
-use own_callers::{Clerk, Retry, Worker, run_clerks};
-use own_kinds::WorkQueue;
+use example_callers::{Clerk, Retry, Worker, run_clerks};
+use example_kinds::WorkQueue;
 use std::alloc::Global;
 use std::test::Fail;
 

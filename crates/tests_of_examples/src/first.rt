@@ -2,8 +2,9 @@
 
 use crate::callers_scene::actor;
 use act_executor::{Code, GaveUp, Session};
-use act_types::{Arg, ListOf, Method, Name, Value};
-use own_callers::{Buyer, Clerk, Retry, Transfer, Worker};
+use act_short::args_of;
+use act_types::{Method, Name};
+use example_callers::{Buyer, Clerk, Retry, Transfer, Worker};
 
 /// What is put into actor 1.
 #[derive(Clone, Copy)]
@@ -78,8 +79,7 @@ impl Code for First {
 
     fn run<S: Session>(&mut self, session: &mut S) -> Result<(), GaveUp> {
         for _ in 0..self.times {
-            let mut args = ListOf::new(session.alloc());
-            args.push(Arg::Plain(Value::Int(self.number)))?;
+            let args = args_of(session.alloc(), &[self.number])?;
             session.ask(actor(1), method_of(self.put), args)?;
         }
         go_on(self.then, session)

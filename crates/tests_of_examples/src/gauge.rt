@@ -4,7 +4,7 @@ use crate::scene::{Call, Given, casts_of, played, threaded};
 use act_kinds::{Boxed, Counter};
 use act_types::{Arg, Method, NoMemory, Value};
 use act_world::Cast;
-use own_kinds::{Gauge, GaugeCall};
+use example_kinds::{Gauge, GaugeCall};
 use std::alloc::Global;
 use std::test::Fail;
 

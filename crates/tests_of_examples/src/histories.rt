@@ -12,7 +12,7 @@ use act_orders::{Fault, History, Mistake, Refused, Run, Told, is_whole, judge, r
 use act_told::{names_of, told_of};
 use act_types::{CallerId, ListOf, NoMemory};
 use act_written::{WriteFault, history_text, write_history};
-use own_kinds::WorkQueue;
+use example_kinds::WorkQueue;
 use std::alloc::Global;
 use std::mem;
 use std::process::Abort;

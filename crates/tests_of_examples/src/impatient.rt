@@ -4,7 +4,7 @@ use crate::callers_scene::{actor, alone, cast_of, ends_as};
 use act_actor::Cast;
 use act_kinds::{Boxed, ListKind};
 use act_types::NoMemory;
-use own_callers::Impatient;
+use example_callers::Impatient;
 use std::alloc::Global;
 use std::test::Fail;
 

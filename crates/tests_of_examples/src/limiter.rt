@@ -6,7 +6,7 @@ use act_executor::plans_fit;
 use act_kinds::{Boxed, Counter};
 use act_types::{Method, NoMemory};
 use act_world::Cast;
-use own_kinds::{Limiter, run_limiters};
+use example_kinds::{Limiter, run_limiters};
 use std::alloc::Global;
 use std::test::Fail;
 

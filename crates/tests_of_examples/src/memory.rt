@@ -2,7 +2,7 @@
 
 use act_kinds::Actor;
 use act_types::{NoMemory, Text, Value};
-use own_kinds::{QueueCall, WorkQueue};
+use example_kinds::{QueueCall, WorkQueue};
 use std::process::Abort;
 use std::test::Fail;
 

@@ -4,7 +4,7 @@ use crate::scene::{Call, Given, casts_of, played, threaded};
 use act_kinds::{Boxed, ListKind};
 use act_types::{Method, NoMemory};
 use act_world::Cast;
-use own_kinds::WorkQueue;
+use example_kinds::WorkQueue;
 use std::alloc::Global;
 use std::test::Fail;
 

@@ -5,7 +5,8 @@ use act_console::{joined_report, play_report};
 use act_executor::{Joined, NoGate, Plan, plans_fit, run_plans};
 use act_kinds::Boxed;
 use act_rules::Step;
-use act_types::{ActorId, Arg, CallerId, FutureId, ListOf, Method, Name, NoMemory, Value};
+use act_short::{args_of, callers_of, list_of};
+use act_types::{ActorId, Arg, CallerId, FutureId, ListOf, Method, Name, NoMemory};
 use act_world::{Cast, Event, World};
 use std::alloc::Global;
 use std::process::Abort;
@@ -32,23 +33,14 @@ pub enum Call {
 }
 
 /// The arguments that are given.
-fn args_of(alloc: Global, given: Given) -> Result<ListOf<Arg>, NoMemory> {
-    let mut args = ListOf::new(alloc);
+fn given_args(alloc: Global, given: Given) -> Result<ListOf<Arg>, NoMemory> {
     match given {
-        Given::Nothing => {}
-        Given::Int(number) => args.push(Arg::Plain(Value::Int(number)))?,
-        Given::Two(first, second) => {
-            args.push(Arg::Plain(Value::Int(first)))?;
-            args.push(Arg::Plain(Value::Int(second)))?;
-        }
-        Given::Three(first, second, third) => {
-            args.push(Arg::Plain(Value::Int(first)))?;
-            args.push(Arg::Plain(Value::Int(second)))?;
-            args.push(Arg::Plain(Value::Int(third)))?;
-        }
-        Given::Answer(future) => args.push(Arg::Fut(FutureId::new(future)))?,
+        Given::Nothing => Ok(ListOf::new(alloc)),
+        Given::Int(number) => args_of(alloc, &[number]),
+        Given::Two(first, second) => args_of(alloc, &[first, second]),
+        Given::Three(first, second, third) => args_of(alloc, &[first, second, third]),
+        Given::Answer(future) => list_of(alloc, [Arg::Fut(FutureId::new(future))]),
     }
-    Ok(args)
 }
 
 /// The actor, the method and the arguments of a call.
@@ -61,21 +53,20 @@ fn parts_of<R: Abort>(
         Call::Own(actor, word, given) => {
             let name = Name::new(word).expect(rt, "a name");
             let actor = ActorId::new(*actor).expect(rt, "an actor");
-            Ok((actor, Method::Own(name), args_of(alloc, *given)?))
+            Ok((actor, Method::Own(name), given_args(alloc, *given)?))
         }
         Call::Known(actor, method, given) => {
             let actor = ActorId::new(*actor).expect(rt, "an actor");
-            Ok((actor, *method, args_of(alloc, *given)?))
+            Ok((actor, *method, given_args(alloc, *given)?))
         }
     }
 }
 
 fn cast_of(alloc: Global, actor: ActorId, kind: Boxed) -> Result<Cast<Boxed>, NoMemory> {
-    let mut callers = ListOf::new(alloc);
-    callers.push(CallerId::new(1).unwrap())?;
+    let c1 = CallerId::new(1).unwrap();
     Ok(Cast {
         actor,
-        callers,
+        callers: callers_of(alloc, &[c1])?,
         kind,
         pending: None,
     })

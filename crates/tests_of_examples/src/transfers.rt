@@ -6,7 +6,7 @@ use act_actor::{Cast, cast_fits};
 use act_executor::{codes_fit, plans_fit};
 use act_kinds::{Account, Boxed};
 use act_types::{Method, NoMemory};
-use own_callers::{Transfer, run_transfers};
+use example_callers::{Transfer, run_transfers};
 use std::alloc::Global;
 use std::test::Fail;
 

@@ -5,7 +5,7 @@ use crate::first::{First, Put, Then};
 use act_actor::Cast;
 use act_kinds::{Boxed, Counter};
 use act_types::NoMemory;
-use own_kinds::WorkQueue;
+use example_kinds::WorkQueue;
 use std::alloc::Global;
 use std::test::Fail;
 

@@ -6,11 +6,11 @@ use act_kinds::{Account, Boxed, Counter, ListKind, Table};
 use act_owner::Owner;
 use act_rules::{Arrival, Step};
 use act_types::{ActorId, Answer, Arg, CallerId, FutureId, ListOf, Method, NoMemory, Value};
-use act_uses::{
+use act_world::{Cast, Did, Event, Outcome, World};
+use example_uses::{
     Kinds, PeaceFault, ask_once, play_part, play_patiently, ran_of, run_in_peace, serve_each_kind,
     world_after,
 };
-use act_world::{Cast, Did, Event, Outcome, World};
 use std::alloc::Global;
 use std::process::Abort;
 use std::test::Fail;
