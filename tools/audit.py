@@ -1015,7 +1015,8 @@ HEAD = """\
 This page is for somebody who trusts the checker and nobody else. The checker finds that each function keeps its
 clauses (postconditions). What a clause means depends on the definitions that it names, so these have to be read. The
 headline takes about fifteen minutes, and [what it says of a world](#of-which-worlds-it-holds) eight more. The
-[roots](#the-roots) below have all that is promised.
+[roots](#the-roots) below have the promises of worlds, plays, runs in threads, records and histories by their plays.
+[proved.md](proved.md#the-promises) lists all the others, too.
 
 `python3 tools/audit.py` writes this page, and `./test` fails where it is out of date. Each block of code is quoted from
 the sources. The sentences around the blocks only help to read them. [glossary.md](glossary.md) has the words.
@@ -1023,16 +1024,17 @@ the sources. The sentences around the blocks only help to read them. [glossary.m
 ## The headline
 
 An actor ran each caller's calls in the order in which they were submitted: it passed none over, and ran none twice. An
-answer that a caller has is that of the call's one run, or says that the actor is dead. So it is in a world, which has
-callers and actors and is moved by events, between any two events. And so it is in what a run in threads leaves:
+answer that a caller has is that of the call's one run, or says that the actor is dead. This holds in a world between
+any two events: a *world* has callers and actors, and events move it. It also holds of what a run in threads leaves:
 """
 WHAT_IT_SPEAKS_OF = """\
 It has four clauses, and they speak of five things. Callers c, actors a and futures k are numbers. A future stands for
 the answer of a call.
 """
 BEFORE_PARTS = """\
-The parts below, down to *After a kill*, have what each of these things and clauses needs: with the record above
-{count} definitions, {lines} lines in all. From here on what a definition needs stands before it. They are written so:
+The parts below, down to *After a kill*, have the definitions that these five things and four clauses need. With the
+record above they are {count} definitions of {lines} lines. From here on a definition comes after those that it needs.
+Here is how they are written:
 """
 BEFORE_VIEWS = """\
 Types of Rust stand for themselves; a `u32` is a number of `ℕ`, and a `Vec` is a list. Of these types contracts see
@@ -1062,7 +1064,7 @@ WHAT_IT_DOESNT_SAY = """\
 - **That `calls` has what somebody asked for.** The clause `shown` of `apply` says so, by
   [what was told](#what-was-told). A program reads the same lists by `World::owner` and `World::stage`.
 - **What a kind answers.** That is the table, `reply_of`.
-- **Time, and the machine.** The README tells [what is trusted](../README.md#what-it-stands-on) beside the checker.
+- **Time, and the machine.** [proved.md](proved.md#what-it-stands-on) says what is trusted beside the checker.
 """
 OF_WHICH_WORLDS = """\
 The headline holds of each world that the functions below make. `ensures name { .. }` is the clause of that name.
@@ -1089,11 +1091,11 @@ An actor of a world `Runs`, has `Died`, or has `Ended`: it retired, once it ran 
 """
 TOLD_TITLE = "What was told"
 TOLD = """\
-A world that was just opened shows no call and no run. After that an event adds what is told of it, and nothing else
-does. A `Submit` that is told as the future k adds the caller's call k. A run of caller c that is told adds an item of c
-to the actor's run list, at the place that is told: `in_order` says which call that is. So "submitted" and "ran" mean
-what was told, and no definition of how a world moves has to be read for that. Which outcome an event has is another
-clause, `outcome`: by the rules no other event is told as a future or as a run.
+A world that was just opened shows no call and no run. After that an event adds what its outcome tells, and nothing
+else does. A `Submit` whose outcome is the future k adds the caller's call k. A `Run` of caller c whose outcome is `Ran`
+adds an item of c to the actor's run list, at the place that the outcome has. Which call that is, `in_order` says. So
+"submitted" and "ran" mean what outcomes told, and no definition of how a world moves has to be read for that. Which
+outcome an event has is said by another clause, `outcome`: by the rules no other event has such an outcome.
 
 Here `record { a = x }` is a struct with these fields, and `if b then x else y` gives x where b succeeds. `drop n xs` is
 xs without its first n items, and `length xs` is their number. `flat_map f xs` is `xs.flat_map(f)`. `zip` pairs two
@@ -1102,7 +1104,7 @@ lists, up to the end of the shorter. What is kept, and who is dead, is read from
 ROOTS = """\
 ## The roots
 
-The clauses of these public functions are what the service promises. The table has what stands behind each: the
+The clauses of these public functions are promises of the service. The table has what stands behind each: the
 definitions that its clauses reach by their words, and the declarations in Rust. `World::consistent` takes
 `IsReachedBy` by name, and the others unfold all. For these clauses nothing else of ours has to be read: no proof, no
 other function, no test.

@@ -4,7 +4,7 @@
     tools/bank_runs.py [--small] [--may-miss] [--program PATH] [--seed N]
 
 The requests are of all sorts, and one of ten is at fault. What each is answered is worked out here by a bank that does
-one request after another, written from docs/library.md and not from the program. Beside it runs the same service over
+one request after another, written from docs/guide.md and not from the program. Beside it runs the same service over
 channels of Rust's std (tools/peers/bank_std.rs), which is judged in the same way. Each run is a process of its own, and
 its memory the most that it held, by the system's count.
 

@@ -17,9 +17,8 @@ instruction count is the median of three. With --small it is one of shorter runs
 it is too high.
 
 It fails where a program does, and where a call takes more than 1.5 times the instructions of docs/measures.md, or 1.1
-times the bytes. Where valgrind
-isn't there it says so, counts nothing and ends with status 2, as a failure of the machine's set-up; with --may-miss
-that is no failure.
+times the bytes. Where valgrind isn't there it says so, counts nothing and ends with status 2, as a failure of the
+machine's set-up; with --may-miss that is no failure.
 """
 import argparse
 import itertools

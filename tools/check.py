@@ -6,9 +6,11 @@
 Without FILE, or where it is `-`, the history is read from the standard input: roles, what was submitted, and below
 them a summary as `./run threads` prints it. The answer goes to the standard output: a script of events that ends so,
 for `./run play` and `./draw`, or the line where no play can go on, and why. With --all every fault of what actors ran
-and of what callers were answered is told, and not the first alone. The status is the program's: 0; 1 for a line that
-can't be read; 2 for wrong words, and for a file that can't be read; 3 for no memory; 4 where reading or writing failed;
-5 where no play ends so.
+and of what callers were answered is told, and not the first alone. Of a line that can't be read the standard error has
+the line, a mark under what is wrong, and the reason.
+
+The status is the program's: 0; 1 for a line that can't be read; 2 for wrong words, and for a file that can't be read; 3
+for no memory; 4 where reading or writing failed; 5 where no play ends so.
 
 A history whose first line is `history order` is judged by its order alone. Then the answer is `in order: N calls`, with
 --order the order itself; or why there is none, with --all each reason.
@@ -18,10 +20,23 @@ import sys
 
 import program
 
-BY_ORDER = b"history order\n"
 LONGEST_HISTORY = 67_108_864
+UNREAD = 1
 OPTIONS = ["--all", "--order"]
 USAGE = "usage: ./check [--all] [--order] [FILE]    (without FILE, or where it is `-`, the standard input)\n"
+
+
+def check(command, history):
+    """Runs the program on a history, and explains a line that it can't read. Its status."""
+    done = subprocess.run(command, input=history, stdout=subprocess.PIPE)
+    if done.returncode < 0:
+        raise program.Stop(f"the program was ended by signal {-done.returncode}", 128 - done.returncode)
+    program.write_out(done.stdout)
+    if done.returncode == UNREAD:
+        import explain_histories  # a fault is rare, and its imports are dear
+
+        program.note_fault(explain_histories.explanation(history, done.stdout.decode("latin-1").partition("\n")[0]))
+    return done.returncode
 
 
 def main():
@@ -37,7 +52,7 @@ def main():
         program.note(USAGE)
         return program.WRONG_WORDS
     history = program.bytes_in(words[0] if words else "-", LONGEST_HISTORY + 1)
-    if history.startswith(BY_ORDER):
+    if history.startswith(program.BY_ORDER):
         command = [program.kept_alone("check", program.ORDERS), *options]
     elif "--order" in options:
         raise program.Stop("--order is for a history whose first line is `history order`")
@@ -45,10 +60,7 @@ def main():
         checks = program.CHECKS_ALL if options else program.CHECKS
         history = history[: program.LONGEST_SCRIPT + 1]
         command = [program.kept("check", checks), *checks.words]
-    done = subprocess.run(command, input=history, restore_signals=False)
-    if done.returncode < 0:
-        raise program.Stop(f"the program was ended by signal {-done.returncode}", 128 - done.returncode)
-    return done.returncode
+    return check(command, history)
 
 
 if __name__ == "__main__":

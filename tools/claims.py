@@ -1,8 +1,9 @@
 #!/usr/bin/env python3
 """Checks that what the pages speak of is there: names, files, links, the kit, and what can be counted.
 
-The pages are README.md, CONTRIBUTING.md, those of docs and examples, tools/README.md, and the README of each crate.
-CHANGELOG.md has names of earlier versions, and docs/edits.md is written by a tool, so of these two only links count.
+The pages are README.md, CONTRIBUTING.md, those of docs with its folders and of examples, tools/README.md, and the README
+of each crate. CHANGELOG.md has names of earlier versions, and docs/edits.md is written by a tool, so of these two only
+links count.
 
   - Each link leads to a file, and each anchor to a heading of it.
   - Each file that is named, in backticks or not, ends as some file of the repository does.
@@ -12,9 +13,11 @@ CHANGELOG.md has names of earlier versions, and docs/edits.md is written by a to
   - Where a name comes with its file (`IsJoined`, act_executor/specs/Joined.antt), or with its crate (`Page` of
     `act_mailbox`, or a row of a table whose next cell is a crate), that file or crate has it.
   - A clause that is told behind a function, as `run_plans` (`joined`), or in its row of a table, is one of its clauses.
+  - In a table of contracts, as docs/proved.md has one for each crate, the crate has the call, the call the clause, and
+    the file the definition (tools/contracts.py). So it is with a table that names a crate in its last column.
   - What a crate's README names under "Carried by" stands in that crate.
-  - README.md names the kit as `rt version` does, where `rt` is there, and the crates of the kit that crates.txt names.
-    Each command of `rt` that a page calls, and each flag, stands in `rt --help`.
+  - README.md names the kit as `rt version` does, where `rt` is there, and docs/proved.md the crates of the kit that
+    crates.txt names. Each command of `rt` that a page calls, and each flag, stands in `rt --help`.
   - Each number that tools/counted.py knows is what the sources say, and so are some lists.
   - No page, and no other text of the repository, has a word of SPOKEN: none speaks of somebody who asked for something,
     or who was told.
@@ -24,6 +27,7 @@ Names that no source has are those of ELSEWHERE, each with its reason.
 import re
 
 import program
+from contracts import faults_of_tables
 from counted import faults_of_kit, faults_of_lists, faults_of_numbers
 from named import NO_SOURCES, Sources, code_of, lines_of_page, paragraphs_of, texts_there, words_of
 
@@ -33,9 +37,9 @@ LINKS_ALONE = {"CHANGELOG.md", "docs/edits.md"}
 ELSEWHERE = {
     "Ray's": "remote ray ObjectRef RayTaskError ActorDiedError PendingCallsLimitExceeded __ray_terminate__",
     "Ray's options": "max_restarts max_task_retries max_pending_calls",
-    "the kit's": "plant tidy start_lib generated margin short goals",
+    "the kit's": "plant tidy start_io start_lib generated margin short goals",
     "other programs'": "chrt perf strace memchr",
-    "what docs/measures.md calls forms that were tried": "bits lots",
+    "what docs/notes/lines.md calls forms that were tried": "bits lots",
     "parts of names": "MAX_ tests_ tests_of_",
     "what a reader puts in": "NAME CRATE FILE SCRIPT REPORT TEXT",
 }
@@ -98,7 +102,9 @@ def faults_of_files(text, sources):
         for path in re.findall(FILE, re.sub(r"\]\([^)]*\)", "]", line)):
             stem = path.rpartition("/")[2].partition(".")[0]
             is_passed = path.startswith(("Rattle", "bank.", "NAME", "one_call.svg")) or stem in STAND_INS
-            if not is_passed and not sources.ending_so(path.removeprefix("../").removeprefix("./")):
+            # A record's field can be called as a file ends.
+            is_field = path.partition(".")[2] in sources.members.get(stem, ())
+            if not is_passed and not is_field and not sources.ending_so(path.removeprefix("../").removeprefix("./")):
                 yield number, f"no file {path}"
 
 
@@ -211,6 +217,7 @@ def faults_of_page(page, text, sources, texts, crates):
     yield from faults_of_blocks(text, sources)
     yield from faults_of_homes(text, sources, crates)
     yield from faults_of_clauses(text, sources, crates)
+    yield from faults_of_tables(text, sources, crates)
     if re.match(r"crates/\w+/README", page):
         yield from faults_of_carried(page, text, sources)
 
@@ -224,7 +231,7 @@ def faults(texts):
     for path in sorted(set(texts) - NO_SOURCES):
         yield from ((path, fault) for fault in faults_of_speech(texts[path]))
     yield from faults_of_numbers(sources, texts)
-    yield from faults_of_lists(sources, texts, crates)
+    yield from faults_of_lists(sources, texts, program.ours())
     yield from faults_of_kit(texts)
 
 

@@ -74,28 +74,30 @@ def lines_of_history(sources, path):
 
 def counted():
     """Of each number that a page tells: the page, the words around it, and how it is counted."""
-    examples_page, rules, library = "examples/README.md", "docs/rules.md", "docs/library.md"
+    examples_page, rules, guide = "examples/README.md", "docs/rules.md", "docs/guide.md"
     yield examples_page, r"The first (\w+) list events", lambda it: examples(it, "play")
     yield examples_page, r"in one of the first (\w+);", lambda it: examples(it, "play")
     yield examples_page, r"the last (\w+) are for threads", lambda it: examples(it, "threads")
     yield examples_page, r"(\w+) such plays lie here", lambda it: len(paths_of(it, r"examples/\w+\.play"))
     yield examples_page, r"script, in (\w+) lines", lambda it: lines_of_history(it, "examples/out_of_order.history")
-    yield "README.md", r"`crates/own_kinds` has (\w+) to copy", lambda it: structs_with(it, "own_kinds", "Actor")
-    yield "README.md", r"`crates/own_callers` has (\w+) to copy", lambda it: structs_with(it, "own_callers", "Code")
-    first = "crates/first_program"
+    yield "README.md", r"has (\w+) scripts", lambda it: examples(it, "play") + examples(it, "threads")
+    yield "README.md", r"The last (\w+) are for threads", lambda it: examples(it, "threads")
+    yield "README.md", r"`crates/example_kinds` has (\w+) to copy", lambda it: structs_with(it, "example_kinds", "Actor")
+    yield "README.md", r"`crates/example_callers` has (\w+) to copy", lambda it: structs_with(it, "example_callers", "Code")
+    first = "crates/example_first"
     yield f"{first}/README.md", r"the (\w+) events of", lambda it: matches_in(it, f"{first}/src/main.rt", r"^ +Event::")
     yield rules, r"The (\w+) laws again", lambda it: matches_in(it, "crates/act_world/src/laws.rt", r"^pub fn l\d")
     kind = "crates/act_kinds/src/actor.rt"
-    yield library, r"the (\w+) clauses of `Actor`", lambda it: matches_in(it, kind, r"^ {8}ensures ")
+    yield guide, r"the (\w+) clauses of `Actor`", lambda it: matches_in(it, kind, r"^ {8}ensures ")
     thousands = r"on (\w+) thousand and (?:\w+) thousand random", r"on \w+ thousand and (\w+) thousand random"
     for words, part in zip([*thousands, r"one run of (\w+) thousand steps"], ["inbox", "resolver", "replies"]):
         yield "docs/proved.md", words, functools.partial(longest_loop, path=f"crates/tests_of_parts/src/{part}.rt")
     yield "docs/DECISIONS.md", r"\*\*(\w+) calls are `unsafe`\*\*", lambda it: in_code(it, r"\bunsafe \{")
-    yield "docs/DECISIONS.md", r"stand in (\w+) slots", lambda it: constant(it, "MAX_ACTORS") + 1
+    yield "docs/DECISIONS.md", r"are stored in (\w+) slots", lambda it: constant(it, "MAX_ACTORS") + 1
     for page, words, name in CONSTANTS:
         yield page, words, functools.partial(lambda it, name: constant(it, name), name=name)
-    yield library, r"(\w+) kinds do so", lambda it: laws_of(it, "own_kinds")
-    yield "README.md", r"and of (\w+) of them what they keep is proved", lambda it: laws_of(it, "own_kinds")
+    yield guide, r"(\w+) kinds do so", lambda it: laws_of(it, "example_kinds")
+    yield "README.md", r"and of (\w+) of them what they keep is proved", lambda it: laws_of(it, "example_kinds")
 
 
 # Numbers that are constants of the code: the page, the words around the number, and the constant.
@@ -124,18 +126,45 @@ CONSTANTS = [
     ("docs/DECISIONS.md", r"(\d+) of each at most, which is what a line holds", "MAX_IN_A_TURN"),
     ("docs/DECISIONS.md", r"takes such a turn after each (\d+) steps", "STEPS_BETWEEN_TURNS"),
     ("docs/DECISIONS.md", r"(\d+) short pauses are longer than most waits", "SHORT_PAUSES"),
+    ("docs/DECISIONS.md", r"after ([\d,]+) pauses more, each of which gives", "YIELDS"),
+    ("docs/DECISIONS.md", r"naps double from (\d+) microseconds", "FIRST_NAP"),
+    ("docs/DECISIONS.md", r"naps double from \d+ microseconds up to ([\d,]+)", "LONGEST_NAP"),
+    ("docs/arguments.md", r"After ([\d,]+) of these it naps", "YIELDS"),
+    ("docs/arguments.md", r"it naps, for ([\d,]+) microseconds at most", "LONGEST_NAP"),
     ("docs/DECISIONS.md", r"tried at one wait of (\w+)", "WAITS_BETWEEN_TRIALS"),
     ("docs/DECISIONS.md", r"(\d+) letters cost a method", "MAX_NAME_BYTES"),
-    ("docs/architecture.md", r"(\d+) pauses are short at first", "SHORT_PAUSES"),
-    ("docs/architecture.md", r"with a turn after each (\d+)", "STEPS_BETWEEN_TURNS"),
-    ("docs/architecture.md", r"Each (\d+) submissions bring a turn", "STEPS_BETWEEN_TURNS"),
-    ("docs/architecture.md", r"(\d+) of each at most", "MAX_IN_A_TURN"),
-    ("docs/architecture.md", r"a line of (\d+)", "REPLY_CAPACITY"),
-    ("docs/architecture.md", r"control line holds (\d+) kills", "CONTROL_CAPACITY"),
-    ("docs/library.md", r"`CallerId`, `ActorId` \| 1 to (\d+)", "MAX_CALLERS"),
-    ("docs/library.md", r"`CallerId`, `ActorId` \| 1 to \d+, and 1 to (\d+)", "MAX_ACTORS"),
-    ("docs/library.md", r"a text of 1 to (\d+) bytes", "MAX_TEXT_BYTES"),
+    ("docs/arguments.md", r"(\d+) pauses are short at first", "SHORT_PAUSES"),
+    ("docs/arguments.md", r"with a turn after each (\d+)", "STEPS_BETWEEN_TURNS"),
+    ("docs/arguments.md", r"Each (\d+) submissions bring a turn", "STEPS_BETWEEN_TURNS"),
+    ("docs/arguments.md", r"(\d+) of each at most", "MAX_IN_A_TURN"),
+    ("docs/arguments.md", r"a line of (\d+)", "REPLY_CAPACITY"),
+    ("docs/arguments.md", r"control line holds (\d+) kills", "CONTROL_CAPACITY"),
+    ("docs/guide.md", r"`CallerId::new` takes 1 to (\d+)", "MAX_CALLERS"),
+    ("docs/guide.md", r"`ActorId::new` takes 1 to (\d+)", "MAX_ACTORS"),
+    ("docs/guide.md", r"a text of 1 to (\d+) bytes", "MAX_TEXT_BYTES"),
+    ("docs/guide.md", r"A caller has ([\d,]+) calls in an epoch", "MAX_CALLS"),
     ("CONTRIBUTING.md", r"holds 32 letters in place of (\d+)", "MAIL_CAPACITY"),
+    ("README.md", r"At most (\d+) callers", "MAX_CALLERS"),
+    ("README.md", r"callers, (\d+) actors and", "MAX_ACTORS"),
+    ("README.md", r"and ([\d,]+) calls of a caller", "MAX_CALLS"),
+    ("docs/limits.md", r"\| callers \| (\d+) \|", "MAX_CALLERS"),
+    ("docs/limits.md", r"\| actors \| (\d+) \|", "MAX_ACTORS"),
+    ("docs/limits.md", r"`Bank` has ([\d,]+) accounts", "MAX_ACCOUNTS"),
+    ("docs/limits.md", r"\| calls of a caller in a run \| ([\d,]+) \|", "MAX_CALLS"),
+    ("docs/limits.md", r"\| pending calls in a cast \| ([\d,]+) \|", "MAX_CALLS"),
+    ("docs/limits.md", r"\| arguments of a call \| (\d+) \|", "MAX_ARGS"),
+    ("docs/limits.md", r"\| copies of a handle \| ([\d,]+) \|", "MAX_COPIES"),
+    ("docs/limits.md", r"\| kills, of a session to an actor \| ([\d,]+) \|", "MAX_KILLS"),
+    ("docs/limits.md", r"\| steps of a plan \| below ([\d,]+) \|", "MAX_STEPS"),
+    ("docs/limits.md", r"\| letters and notices of a world \| below ([\d,]+) \|", "MAX_PLACES"),
+    ("docs/limits.md", r"\| bytes of a text \| (\d+) \|", "MAX_TEXT_BYTES"),
+    ("docs/limits.md", r"\| bytes of a name \| (\d+) \|", "MAX_NAME_BYTES"),
+    ("docs/limits.md", r"\| keys of a table \| ([\d,]+) \|", "MAX_KEYS"),
+    ("docs/limits.md", r"\| items of a list \| ([\d,]+) \|", "MAX_ITEMS"),
+    ("docs/limits.md", r"\| bytes of a script \| ([\d,]+) \|", "MAX_SCRIPT_BYTES"),
+    ("docs/limits.md", r"\| bytes of a line \| (\d+) \|", "MAX_LINE_BYTES"),
+    ("docs/limits.md", r"up to ([\d,]+) callers, as many actors", "MAX_NUMBER"),
+    ("docs/limits.md", r"as many actors, and ([\d,]+) bytes", "MAX_BYTES"),
 ]
 
 
@@ -153,19 +182,22 @@ def faults_of_numbers(sources, texts):
 
 
 def faults_of_lists(sources, texts, crates):
-    """The lists of README.md and other pages that aren't complete: crates of the kit, handles, refusals, examples."""
-    readme = " ".join(texts["README.md"].split())
-    named = set(code_of(re.search(r"over its std and its crates (.*?)\. ", readme)[1]))
+    """The lists of pages that aren't complete: crates of the kit, handles, refusals, examples."""
+    page = "docs/proved.md"
+    text = " ".join(texts[page].split())
+    found = re.search(r"over its std and its crates (.*?)\. ", text)
+    named = set(code_of(found[1] if found else ""))
     of_kit = {library for libraries in crates.values() for library in libraries} - set(crates)
     if named != of_kit:
-        yield "README.md", f"the crates of the kit are {', '.join(sorted(of_kit))}, and it names {', '.join(sorted(named))}"
+        yield page, f"the crates of the kit are {', '.join(sorted(of_kit))}, and it names {', '.join(sorted(named))}"
     handles = texts["HANDLES"].strip().rstrip(".")
-    if handles not in readme:
-        yield "README.md", f"it doesn't say: {handles}"
-    named = set(code_of(re.search(r"Handles allowed: [\w, ]+;(.*?)use them", readme)[1]))
+    if handles not in text:
+        yield page, f"it doesn't say: {handles}"
+    found = re.search(r"Handles allowed: [\w, ]+;(.*?)use them", text)
+    named = set(code_of(found[1] if found else ""))
     users = {crate for crate in crates if uses_threads(sources, crate)}
     if named != {crate for crate in users if not crate.startswith("tests_of_")}:
-        yield "README.md", f"crates with handles: {', '.join(sorted(users))}"
+        yield page, f"crates with handles: {', '.join(sorted(users))}"
     floors = words_of(texts["docs/architecture.md"])
     for crate in sorted(crates):
         if crate not in floors and not crate.startswith("tests_of_"):
@@ -175,7 +207,7 @@ def faults_of_lists(sources, texts, crates):
     if table != scripts:
         yield "examples/README.md", f"the table and the folder differ in {', '.join(sorted(table ^ scripts))}"
     decisions = " ".join(texts["docs/DECISIONS.md"].split())
-    named = set(code_of(re.search(r"stand in crates of tests\*\* \((.*?)\)", decisions)[1]))
+    named = set(code_of(re.search(r"are in crates of tests\*\* \((.*?)\)", decisions)[1]))
     if named != (of_tests := {crate for crate in crates if crate.startswith("tests_of_")}):
         yield "docs/DECISIONS.md", f"the crates of tests are {', '.join(sorted(of_tests))}"
     laws = re.findall(r"^pub fn (\w+)\(\)", sources.texts["crates/act_rules/src/laws.rt"], re.M)

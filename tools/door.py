@@ -1,20 +1,31 @@
 #!/usr/bin/env python3
-"""Checks the door, `crates/actors`: it passes on each word that comes with its calls.
+"""Checks the door, `crates/actors`: it passes on each word that comes with its calls, and what the guide names.
 
 Of what src/lib.rt passes on it reads the clauses: of a function its own, of a type those of its public functions, and
 of a trait all. It reads what clauses see a type as, too, and what a trait leaves to its types. Each word that these
 take in from a crate of this library, by `ghost use`, must stand in specs/: as one that is passed on, or behind a type
 of the code whose module is. Words of std aren't looked at: a client has them anyway.
+
+What docs/guide.md names in backticks, and a crate `act_..` declares as public, must be passed on, too, so that a reader
+can import it; or its crate is named in the same paragraph or item. Names of crates that stand on the door are theirs.
 """
 import re
 import sys
 
 import audit
+import named
+import program
 
 DOOR = "actors"
+GUIDE = "docs/guide.md"
 HEAD = re.compile(r"(?:impl(?:<.*?>)?|(pub trait)) (?:[\w:<>, ']+ for )?(\w+)")
 FUNCTION = re.compile(r"    (pub )?(?:const )?fn ")
 GHOST = re.compile(r"    ghost (?:(Value) =|\w+:) \{ (.*) \};")
+# What a file declares for other crates, by its ending.
+PUBLIC = {
+    ".rt": re.compile(r"^pub (?:const |unsafe )?(?:fn|struct|enum|trait|type|const) (\w+)", re.M),
+    ".antt": re.compile(r"^(?:abbrev pub|unfoldable pub|pub record|pub data) (\w+)", re.M),
+}
 
 
 def lines_of(part):
@@ -81,6 +92,33 @@ def words_of(sources, text, scope):
             yield path, name
 
 
+def homes_of(sources):
+    """Of each public name of src/ and specs/ the crates that declare it."""
+    homes = {}
+    for path, text in sources.texts.items():
+        found = re.fullmatch(r"crates/(\w+)/(?:src|specs)/.*(\.rt|\.antt)", path)
+        for name in PUBLIC[found[2]].findall(text) if found else ():
+            homes.setdefault(name, set()).add(found[1])
+    return homes
+
+
+def faults_of_guide(text, sources):
+    """What the guide names, this library declares, and the door doesn't pass on. A method or a ghost member comes with
+    its type."""
+    passed = {name for _, name in [*passed_calls(), *passed_words()] if name}
+    known = passed.union(*(sources.members.get(name, set()) for name in passed))
+    clients = {crate for crate, below in program.listed().items() if DOOR in below}
+    homes = homes_of(sources)
+    for number, paragraph in named.paragraphs_of(text):
+        spans = named.code_of(paragraph)
+        words = {word for code in spans for word in re.findall(r"(?<![\w/.:])[A-Za-z]\w{2,}", code)}
+        for name in sorted(words - known):
+            crates = homes.get(name, set())
+            ours = sorted(crate for crate in crates if crate.startswith("act_"))
+            if ours and not crates & {*clients, *spans}:
+                yield f"{GUIDE}:{number}: the door doesn't pass on {name}, of {', '.join(ours)}"
+
+
 def main():
     sources = audit.Sources()
     passed = set(passed_words())
@@ -92,10 +130,12 @@ def main():
                 if (path, word) not in passed and (path.removesuffix(".TheVariants"), None) not in passed:
                     place = f"{scope.path.relative_to(audit.TOP)}:{number}"
                     missed.add(f"{place}: {name} names {path}.{{{word}}}, which the door doesn't pass on")
-    for line in sorted(missed):
+    texts = named.texts_there()
+    faults = [*sorted(missed), *faults_of_guide(texts[GUIDE], named.Sources(texts))]
+    for line in faults:
         print(line)
-    print(f"door: {count} clauses looked at: {len(missed)} failed")
-    return 1 if missed else 0
+    print(f"door: {count} clauses looked at: {len(faults)} failed")
+    return 1 if faults else 0
 
 
 if __name__ == "__main__":

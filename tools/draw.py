@@ -1,11 +1,15 @@
 #!/usr/bin/env python3
 """Draws a run of play as an SVG picture, from its script and its report alone.
 
-    ./draw [--events A..B] SCRIPT [REPORT] > PICTURE.svg
+    ./draw [--events A..B] [SCRIPT [REPORT]] > PICTURE.svg
+    ./draw --page [SCRIPT [REPORT]] > PAGE.html
 
-REPORT is what `./run play SCRIPT` writes; without it the script is played as `./run play` does. `-` in the
-place of one of the two reads it from the standard input. The picture goes to the standard output, and the
-same script and report give the same bytes.
+REPORT is what `./run play SCRIPT` writes; without it the script is played as `./run play` does. Without SCRIPT
+the script is read from the standard input, and `-` in the place of one of the two reads that from there. The
+picture goes to the standard output, and the same script and report give the same bytes.
+
+A script for threads has no events to draw. A run of it is drawn by `./record SCRIPT | ./draw`, and a play of a
+history by `./check HISTORY | ./draw`.
 
 Time goes downwards: each event has a row, with its place and its line of the script at the left. Each
 caller and each actor has a lane, callers left of actors. What goes from one side to the other leaves its
@@ -19,6 +23,10 @@ lane along its row, slants between the two sides, and arrives along the row of t
   - a death, from where it is told to each collection, with how many futures it answered.
   - a kill, from each asking to where it is taken; one that is never taken ends in a cross.
 
+What travels more than 15 rows is no line: it has a stub where it leaves and another where it arrives. The words
+there tell the other end, `→ 437` where it arrives at event 437 and `← 212` where it came from event 212. Where a
+run begins with 16 submissions or more, these are one row, which tells how many calls each caller has.
+
 A run is a box on its actor's lane: its place in the run list, and its call with its arguments as they
 were settled; an actor that hadn't the caller's next call shows `gap`. A lane is cut by a bar where its
 actor dies or retires, and dotted after it. A refused event is grey, with the refusal at its lane, or behind
@@ -29,10 +37,18 @@ under it how it is at the end of the run. A legend explains each sign and each c
 from the upper edge, and what arrives after them leaves at the lower one; under the rows stands how much was
 on its way all the while.
 
+`--page` makes a page for a browser, which needs no network: the whole run, of which the rows in view are drawn. Its
+arrow keys step from event to event, and along a call. A call, a caller or an actor can be followed, by a click or
+by its name. A pointer over a letter, a run or a reply shows all that belongs to its call. The end of an address
+opens the page there: PAGE.html#c1.0, PAGE.html#a1 or PAGE.html#42.
+
 A picture is at most 1000 pixels wide, as a page shows no more. A lane at which none of its events happens
 is left out, and named under the rows. Where the others don't fit, the two sides come closer, then the lanes,
-so that words may stand over other lanes, and then words are cut. A pointer held over words that are cut
-shows them whole; over a line it shows the letter or the notice, and where it began and ended.
+so that words may stand over other lanes. Where these would be crowded, words stand left of all callers and
+right of all actors, each tied to its lane by a faint line. At last words are cut. A pointer held over words
+that are cut shows them whole; over a line it shows the letter or the notice, and where it began and ended.
+
+A script at fault is explained, as `./explain` does.
 
 Statuses: 0; 1 for a script fault, of which there is nothing to draw; 2 for wrong words, for a file that
 can't be read, and for a report that isn't one of the script; 4 where the picture can't be written; else
@@ -40,6 +56,7 @@ that of the program.
 """
 import pathlib
 import re
+import shlex
 import subprocess
 import sys
 import textwrap
@@ -50,11 +67,16 @@ from xml.sax.saxutils import escape, quoteattr
 
 import program
 import run as runs
-from layout import AT_THE_END, BESIDE, EDGE, LEGEND_WIDTH, LEVEL, NAME, ROW, ROWS_TO_A_HEADING, SPACE
+from layout import AT_THE_END, BESIDE, EDGE, FAR, LEGEND_WIDTH, LEVEL, NAME, ROW, SPACE
 from layout import Layout, cut, highest, letters_in, width_of
 from story import Passage, Story, read_run
 
-USAGE = "usage: ./draw [--events A..B] SCRIPT [REPORT]    (where one of them is `-`, the standard input)\n"
+USAGE = (
+    "usage: ./draw [--events A..B | --page] [SCRIPT [REPORT]]"
+    "    (without SCRIPT, or where one is `-`, the standard input)\n"
+)
+# A line that tells what was left, as only a history has.
+HISTORY = re.compile(rb"^(?:c[0-9]+[.][0-9]+ a[0-9]+ [=?]|a[0-9]+ (?:live|retired|dead))", re.M)
 
 # Colours.
 
@@ -62,6 +84,8 @@ COOL = ["#1f5fa8", "#1b8a7a", "#6a4fb3", "#2f7d32", "#3a86c8", "#4b5d9b"]
 WARM = ["#b45309", "#9d174d", "#8a6d00", "#c2410c", "#7c4a2d"]
 RED = "#c81e1e"
 GREY = "#9a9a9a"
+
+FAR_STUB = 15  # how long each of the two is
 
 STYLE = """
 text { font-family: 'DejaVu Sans Mono', Menlo, Consolas, monospace; font-size: 12px; fill: #222 }
@@ -209,6 +233,9 @@ class Way:
     def goes_right(self):
         return self.passage.sort in ("letter", "kill")
 
+    def is_far(self):
+        return self.end is not None and self.end - self.passage.begin > FAR
+
     def touches(self, shown):
         return self.passage.begin in shown or self.end in shown
 
@@ -216,13 +243,13 @@ class Way:
         """Whether it begins before these events and arrives after them."""
         return self.end is not None and self.passage.begin < shown.start and self.end >= shown.stop
 
-    def drawn(self, inner):
+    def drawn(self, inner, first=None):
         """The line with what a pointer shows of it, where it begins and where it ends."""
         passage = self.passage
         end = "arrives nowhere" if self.end is None else f"to {passage.target} at {self.end}: {self.came_to}"
         title = f"{passage.name}, from {passage.source} at {passage.begin} {end}"
         data = f'data-begin="{passage.begin}"' + ("" if self.end is None else f' data-end="{self.end}"')
-        sort = self.look.classes("lost" if self.end is None else "arrow")
+        sort = self.look.classes(first or ("lost" if self.end is None else "arrow"))
         return f'<g class="{sort}" {data}><title>{escape(title)}</title>{inner}</g>'
 
 
@@ -241,11 +268,11 @@ WORDS_IN = {
 class Picture:
     """The SVG of a story, of the events that are shown."""
 
-    def __init__(self, story, shown, name):
+    def __init__(self, story, shown, name, **how):
         self.story = story
         self.shown = shown
         self.name = name
-        self.at = Layout(story, shown)
+        self.at = Layout(story, shown, **how)
         ways = ways_of(story)
         self.ways = [way for way in ways if way.touches(shown)]
         self.passing = [way for way in ways if way.passes(shown)]
@@ -255,8 +282,9 @@ class Picture:
 
     def place_edges(self):
         """Where lines come from the upper edge and leave at the lower one, so that few of them cross."""
-        coming = [way for way in self.ways if way.passage.begin not in self.shown]
-        leaving = [way for way in self.ways if way.end is not None and way.end not in self.shown]
+        near = [way for way in self.ways if not way.is_far()]
+        coming = [way for way in near if way.passage.begin not in self.shown]
+        leaving = [way for way in near if way.end is not None and way.end not in self.shown]
         self.from_above = self.spread(sorted(coming, key=lambda way: way.end), at_begin=False)
         self.to_below = self.spread(sorted(leaving, key=lambda way: -way.passage.begin), at_begin=True)
 
@@ -285,6 +313,8 @@ class Picture:
     def way(self, way):
         if way.end is None:
             return self.stub(way)
+        if way.is_far():
+            return self.two_stubs(way)
         inner = line_along(self.path(way), way.colour)
         if way not in self.to_below:
             x, y = self.at.lanes[way.passage.target], self.at.height_of(way.end)
@@ -297,6 +327,20 @@ class Picture:
         end = self.at.gap_begin if way.goes_right else source - 24
         inner = line_along(f"M{source},{y} H{end}", way.colour)
         return way.drawn(inner + finish_at(way.look.end, end, y, True, way.colour))
+
+    def two_stubs(self, way):
+        """What travels far: how it leaves, and how it arrives, each where that is shown."""
+        ahead = FAR_STUB if way.goes_right else -FAR_STUB
+        parts = []
+        if way.passage.begin in self.shown:
+            x, y = self.at.lanes[way.passage.source], self.at.height_of(way.passage.begin)
+            inner = line_along(f"M{x},{y} H{x + ahead}", way.colour)
+            parts.append(inner + tip_at(x + ahead, y, way.goes_right, way.colour))
+        if way.end in self.shown:
+            x, y = self.at.lanes[way.passage.target], self.at.height_of(way.end)
+            inner = line_along(f"M{x - ahead},{y} H{x}", way.colour)
+            parts.append(inner + finish_at(way.look.end, x, y, way.goes_right, way.colour))
+        return "".join(way.drawn(inner, "far") for inner in parts)
 
     # The rows.
 
@@ -312,16 +356,36 @@ class Picture:
         line = text_at(self.at.lines_begin, y, self.at.shown_line(place), grey, whole=whole)
         return f'<g class="event" data-place="{place}" data-height="{y}">{number}{line}</g>'
 
+    def stairs(self):
+        """The row of the submissions that come first, where they are many."""
+        if not self.at.stairs:
+            return
+        last, y = self.at.stairs - 1, self.at.height_of(0)
+        number = text_at(self.at.places_end, y, "0", "place", "end")
+        line = text_at(self.at.lines_begin, y, self.at.stairs_line())
+        yield f'<g class="event" data-place="0" data-last="{last}" data-height="{y}">{number}{line}</g>'
+        for lane in self.at.submitted:
+            yield dot_at(self.at.lanes[lane], y, "submit")
+
     def under(self, begin, words, y, sort):
         """What keeps the lanes from running through these words."""
         if not self.at.crosses(begin, words):
             return ""
         return f'<rect x="{begin - 2}" y="{y - 8}" width="{width_of(words) + 4}" height="16" class="{sort}"/>'
 
+    def tie(self, mark):
+        """What ties words that stand outside to their lane."""
+        x, other, y = self.at.lanes[mark.lane], self.at.lane_of_words(mark.lane), self.at.height_of(mark.place)
+        if x == other:
+            return ""
+        end = other - BESIDE + 3 if other < x else other + BESIDE - 3
+        return f'<line x1="{x}" y1="{y}" x2="{end}" y2="{y}" class="tie" stroke="#ddd"/>'
+
     def sign(self, mark, words):
         """What stands on the lane itself."""
         x, y = self.at.lanes[mark.lane], self.at.height_of(mark.place)
         if mark.sort == "run":
+            words = "" if self.at.is_outside else words
             bar = bar_at(x, y + 9, "dead") if self.story.ended.get(mark.lane) == mark.place else ""
             return box_at(x, y, words) + bar
         sort = SIGN_OF.get(mark.sort, mark.sort)
@@ -331,7 +395,7 @@ class Picture:
         y = self.at.height_of(mark.place)
         words, begin = self.at.words_at(mark)
         under = self.under(begin, words, y, "band" if mark.place % 2 else "plain")
-        text = text_at(begin, y, words, WORDS_IN.get(mark.sort, ""), whole=mark.text)
+        text = text_at(begin, y, words, WORDS_IN.get(mark.sort, ""), whole=mark.text + self.at.told_far(mark))
         return under + self.sign(mark, words) + text
 
     # The lanes.
@@ -356,7 +420,7 @@ class Picture:
         yield line_at(x, y + 8, self.at.lanes_begin, "leader") if label.level else ""
         yield text_at(x, y, label.words, "head", label.anchor)
         again = self.at.short_names[lane]
-        for place in self.shown[ROWS_TO_A_HEADING::ROWS_TO_A_HEADING]:
+        for place in self.at.headed():
             y = self.at.height_of(place) - ROW - LEVEL * again.level
             yield self.under(again.begin, again.words, y, "plain")
             yield text_at(x, y, again.words, "again", again.anchor)
@@ -365,7 +429,8 @@ class Picture:
         x, label = self.at.lanes[lane], self.at.ends[lane]
         y = self.at.lanes_end + EDGE + LEVEL * label.level
         leader = line_at(x, self.at.lanes_end, y - 8, "leader") if label.level else ""
-        return leader + text_at(x, y, label.words, "end", label.anchor, self.story.end_of(lane))
+        whole = label.words if label.words.endswith(" each") else self.story.end_of(lane)
+        return leader + text_at(x, y, label.words, "end", label.anchor, whole)
 
     # What stands besides.
 
@@ -396,6 +461,7 @@ class Picture:
     def signs(self):
         """The names in SIGNS of those that are drawn."""
         signs = {SIGN_OF.get(mark.sort, mark.sort) for mark in self.at.marks.values()}
+        signs |= {"submit"} if self.at.stairs else set()
         ended = [self.story.ended[lane] for lane in self.at.actors if lane in self.story.ended]
         signs |= {"after" for place in ended if place < self.shown.stop}
         signs |= {"dead" for place in ended if place in self.shown and self.at.marks[place].sort == "run"}
@@ -409,6 +475,9 @@ class Picture:
             most_shades = max(most_shades, len(shades))
             if shades:
                 yield partial(look.sample, [shade for shade in look.shades if shade in shades]), look.words
+        for told, words in ("→ 9", "it arrives at event 9"), ("← 9", "it came from event 9"):
+            if any(self.at.far.get(place, "").startswith(told[0]) for place in self.shown):
+                yield partial(lambda x, y, told: text_at(x + 12, y, told), told=told), words
         for sign in self.signs():
             drawn, words = SIGNS[sign]
             yield partial(lambda x, y, drawn, sign: drawn(x + 20, y, sign), drawn=drawn, sign=sign), words
@@ -420,14 +489,16 @@ class Picture:
     def body(self):
         at = self.at
         yield text_at(at.lines_begin, NAME, self.heading(), "head", whole=self.name)
-        yield from (self.band(place) for place in self.shown if place % 2)
+        yield from (self.band(place) for place in self.shown[at.stairs :] if place % 2)
+        yield from map(self.tie, at.marks.values())
         yield from map(self.lane, at.lanes)
         yield from map(self.way, self.ways)
         yield from self.edges()
         yield from (part for lane in at.lanes for part in self.name_of(lane))
-        yield from map(self.row, self.shown)
+        yield from self.stairs()
+        yield from map(self.row, self.shown[at.stairs :])
         yield from map(self.mark, at.marks.values())
-        yield from map(self.end_under, at.lanes)
+        yield from (self.end_under(lane) for lane in at.lanes if lane in at.ends)
         yield text_at(at.lines_begin, at.lanes_end + EDGE, AT_THE_END, "end")
 
     def heading(self):
@@ -435,14 +506,25 @@ class Picture:
         part = f", events {self.shown.start}..{self.shown.stop - 1} of {count}" if len(self.shown) < count else ""
         return cut(self.name, letters_in(self.at.width - self.at.lines_begin - EDGE) - len(part)) + part
 
+    def legend(self, top):
+        """The legend below this height, and how high it is."""
+        samples = list(self.samples())
+        columns = (self.at.width - self.at.lines_begin) // LEGEND_WIDTH
+        lines = -(-len(samples) // columns)
+        drawn = ['<g class="legend">']
+        for number, (sample, words) in enumerate(samples):
+            x = self.at.lines_begin + LEGEND_WIDTH * (number // lines)
+            y = top + ROW * (number % lines)
+            drawn.append(sample(x, y) + text_at(x + 52, y, words, "end"))
+        return [*drawn, "</g>"], ROW * lines
+
     def svg(self):
         """The lines of the picture."""
-        at, notes, samples = self.at, self.notes(), list(self.samples())
-        columns = (at.width - at.lines_begin) // LEGEND_WIDTH
-        lines = -(-len(samples) // columns)
+        at, notes = self.at, self.notes()
         notes_begin = at.lanes_end + 2 * EDGE + LEVEL * (1 + highest(at.ends))
         legend_begin = notes_begin + ROW * len(notes) + SPACE
-        width, height = at.width, legend_begin + ROW * lines + EDGE
+        legend, legend_height = self.legend(legend_begin)
+        width, height = at.width, legend_begin + legend_height + EDGE
         size = f'width="{width}" height="{height}" viewBox="0 0 {width} {height}"'
         yield f'<svg xmlns="http://www.w3.org/2000/svg" {size} role="img" aria-label={quoteattr(self.name)}>'
         yield f"<title>{escape(self.name)}</title>"
@@ -451,12 +533,7 @@ class Picture:
         yield from self.body()
         for number, (sort, line) in enumerate(notes):
             yield text_at(at.lines_begin, notes_begin + ROW * number, line, f"note {sort}")
-        yield '<g class="legend">'
-        for number, (sample, words) in enumerate(samples):
-            x = at.lines_begin + LEGEND_WIDTH * (number // lines)
-            y = legend_begin + ROW * (number % lines)
-            yield sample(x, y) + text_at(x + 52, y, words, "end")
-        yield "</g>"
+        yield from legend
         yield "</svg>"
 
 
@@ -475,10 +552,47 @@ def picture(script, report, name, events=None):
 
 def played(script):
     """The report that the program gives."""
-    status, report = runs.run("draw", "play", script, subprocess.PIPE)
-    if status > 1:
+    status, report = runs.outcome_of([program.kept("draw"), "play"], script, subprocess.PIPE)
+    if status > runs.FAULT:
         raise program.Stop("the program gave no report", status)
     return report
+
+
+def drawable(path):
+    """What gives a picture of a script for threads, or of a history."""
+    return f"./record {path} | ./draw", f"./check {path} | ./draw"
+
+
+def why_faulty(script, path):
+    """What is told of a script that has a fault, as text; nothing where it has none."""
+    told = runs.explained(script, "play")
+    if not told.fault:
+        return ""
+    recorded, checked = drawable(path)
+    more = []
+    if not runs.explained(script, "threads").fault:
+        more = [f"A run of it in threads is drawn by: {recorded}"]
+    elif HISTORY.search(script):
+        more = [f"It looks like a history, and a play of one is drawn by: {checked}"]
+    return "\n".join([f"nothing to draw, the script has a fault: {told.lines[0]}", *told.lines[1:], *more])
+
+
+def page(script, report, name):
+    """The page of a run, as text. Raises Stop."""
+    import run_page  # which takes this module
+
+    return run_page.page(script, report, name)
+
+
+def drawn_or_why(draws, script, report, name, path):
+    """The picture or the page, or why there is none: a script at fault is explained, whatever the report is."""
+    try:
+        return draws(script, report, name)
+    except program.Stop as why:
+        if fault := why_faulty(script, path):
+            raise program.Stop(fault, runs.FAULT) from None
+        told = "the report isn't of this script, which has no fault" if why.status == runs.FAULT else why
+        raise program.Stop(told) from None
 
 
 def plain(name):
@@ -487,30 +601,47 @@ def plain(name):
 
 
 def without_events(words):
-    """The words without `--events A..B`, and the places A to B, both among them, or nothing where they aren't named."""
+    """The words without `--events A..B`, and the places A to B, both among them, or nothing where they aren't named.
+    No words where the places are wrong."""
     if "--events" not in words:
         return words, None
     at = words.index("--events")
     bounds = re.fullmatch(r"(\d{1,9})\.\.(\d{1,9})", "".join(words[at + 1 : at + 2]), re.ASCII)
     if not bounds or int(bounds[1]) > int(bounds[2]):
-        return [], None
+        return None, None
     return words[:at] + words[at + 2 :], range(int(bounds[1]), int(bounds[2]) + 1)
+
+
+def without_page(words):
+    """The words without `--page`, and whether that is among them."""
+    return (words, False) if "--page" not in words else ([word for word in words if word != "--page"], True)
+
+
+def paths_in(words):
+    """The script and the report that the words name; nothing where they are wrong, or nobody could mean them."""
+    is_silent = not words and sys.stdin is not None and sys.stdin.isatty()
+    if len(words) > 2 or any(word.startswith("-") and word != "-" for word in words) or words == ["-", "-"] or is_silent:
+        return None
+    return words or ["-"]
 
 
 def main():
     if program.asks_for_help(sys.argv[1:]):
         program.write_out(__doc__)
         return 0
-    paths, events = without_events(sys.argv[1:])
-    if len(paths) not in (1, 2) or any(path.startswith("-") and path != "-" for path in paths) or paths == ["-", "-"]:
+    words, is_page = without_page(sys.argv[1:])
+    words, events = without_events(words)
+    paths = None if words is None else paths_in(words)
+    if paths is None or is_page and events:
         program.note(USAGE)
         return program.WRONG_WORDS
     script = program.script_in(paths[0])
     report = program.bytes_in(paths[1]) if len(paths) == 2 else played(script)
     name = "standard input" if paths[0] == "-" else plain(pathlib.Path(paths[0]).name)
-    drawn = picture(script, report, name, events)
-    if len(paths) == 2:
-        runs.tell_unsent("draw", script)
+    path = "FILE" if paths[0] == "-" else shlex.quote(paths[0])
+    draws = page if is_page else partial(picture, events=events)
+    drawn = drawn_or_why(draws, script, report, name, path)
+    runs.tell_unsent("draw", script, f"{drawable(path)[0]} draws a run of it")
     program.write_out(drawn)
     return 0
 

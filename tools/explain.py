@@ -6,17 +6,20 @@
 Without FILE, or where it is `-`, the script is read from the standard input. Of a faulty script the first fault is
 told as the program tells it, with the line as it stands, a mark under what is wrong, the reason, and the line as it
 would be right where that is plain. Bytes that can't be printed are shown as \\t, \\r or \\x and two digits. Of a play
-without a fault each refused event is listed, with its number, its line and what the refusal means there.
+without a fault each refused event is listed, with its number, its line and what the refusal means there. A call that
+its actor's kind always answers by a fault, as one of a method that the kind hasn't, is no fault of the script, and is
+noted.
 
 Nothing is built or run: the fault and the refusals are those of the second reading of the rules
 (tools/reading_of_rules.py), and tools/explained.py compares them with the program's.
-Statuses: 0 where nothing is wrong, or events are refused; 1 for a script fault; 2 for wrong words, and for a file
+Statuses: 0 where nothing is wrong, events are refused, or calls are noted; 1 for a script fault; 2 for wrong words, and for a file
 that can't be read; 4 where writing failed.
 """
 import dataclasses
 import sys
 
 import explain_lines
+import explain_notes
 import explain_refusals
 import program
 import reading_of_rules as reading
@@ -114,6 +117,7 @@ class Told:
     lines: list
     fault: reading.ScriptFault = None
     finding: Finding = None
+    notes: list = dataclasses.field(default_factory=list)
 
     def text(self):
         return "".join(f"{line}\n" for line in self.lines)
@@ -143,36 +147,41 @@ def looks_like_threads(script):
 
 
 def told_play(script, lines):
-    """The refused events of a play, or that there is none."""
+    """The refused events of a play, or that there is none, and notes."""
     count = counted(len(script.events), "event")
     refused = list(explain_refusals.refusals(script))
     hint = f". {UNSENT}" if looks_like_threads(script) else ""
+    notes = list(explain_notes.notes(script, {each.place for each in refused}))
     if not refused:
-        return Told([f"no fault, and of {count} none is refused{hint}" if script.events else "no fault, and no event"])
-    told = [f"no fault; of {count} {len(refused)} {'is' if len(refused) == 1 else 'are'} refused{hint or ':'}"]
+        told = [f"no fault, and of {count} none is refused{hint}" if script.events else "no fault, and no event"]
+    else:
+        told = [f"no fault; of {count} {len(refused)} {'is' if len(refused) == 1 else 'are'} refused{hint or ':'}"]
     for each in refused:
         told.append(f"event {each.place}, line {each.line}: {quoted(lines[each.line - 1])}")
         told.append(f"  refused {each.name}: {each.why}")
-    return Told(told)
+    return Told([*told, *told_notes(notes, lines)], notes=notes)
 
 
-def told_plans(world):
-    return Told([f"no fault: {counted(len(world.callers), 'caller')}, and no step of a plan would be refused"])
+def told_plans(script, lines, world):
+    notes = list(explain_notes.notes(script))
+    told = f"no fault: {counted(len(world.callers), 'caller')}, and no step of a plan would be refused"
+    return Told([told, *told_notes(notes, lines)], notes=notes)
+
+
+def told_notes(notes, lines):
+    return explain_notes.told(notes, lambda line: quoted(lines[line - 1]))
 
 
 def explained(mode, data):
     """What is to be told of a script."""
+    lines = data.split(b"\n")
     try:
         if mode == "play":
-            return told_play(reading.read_script(data), data.split(b"\n"))
-        return told_plans(reading.read_plans(data))
+            return told_play(reading.read_script(data), lines)
+        world = reading.read_plans(data)
+        return told_plans(reading.read_script(data, reading.THREAD_FORMS), lines, world)
     except reading.ScriptFault as fault:
         return told_fault(fault, mode, data)
-
-
-def explain(data, mode):
-    """The same as text, for those who tell it in passing, as ./run does of a faulty script."""
-    return explained(mode, data).text()
 
 
 # The command.

@@ -228,6 +228,9 @@ NAMES = {
 }  # fmt: skip
 SAMPLES = {reading.read_actor: "a1", reading.read_caller: "c1", reading.read_kind: "list", reading.read_method: "get"}
 TAILS = {"actor": ["CALLER .."], "submit": ["ARG .."]}
+LIMITED = "actor ACTOR KIND max LIMIT CALLER .."
+# How others write a limit, and its value where it stands in the same word.
+OTHER_LIMIT = re.compile("(?i)(?:limit|pending|max_?pending(?:_?calls)?|maximum|capacity)(?:[=:](.*))?|max[=:](.*)")
 NUMBER_MEANS = {
     "send": "the number of a future of the caller",
     "await": "the number of a future of the caller",
@@ -286,7 +289,8 @@ def odd_verb(line):
         better = f"# {line.text.lstrip('/;-%* ')}".rstrip()
         return Finding(0, len(word), "a comment begins with #, as the first byte of its line", better)
     if re.fullmatch("[0-9]+:|[ac][0-9]+[.][0-9]+", word):
-        return line.at(0, f"'{word}' begins a line of a report, and no line of a script")
+        more = "" if word.endswith(":") else ". A script with its report below it is a history, for ./check"
+        return line.at(0, f"'{word}' begins a line of a report, and no line of a script{more}")
     if line.words[1:2] and line.words[1] in line.forms:
         return line.at(0, f"the line's first word is '{line.words[1]}'", [line.words[1], word], 2)
     return unknown_verb(line, other)
@@ -422,6 +426,8 @@ def odd_id(letter, most, noun):
             return line.at(place, f"'{word}' is no {noun}, its number is missing: {known}")
         if word == "max":
             return limit_at_its_place(line, place)
+        if line.words[0] == "actor" and OTHER_LIMIT.fullmatch(word):
+            return limit_of_other_form(line, place)
         if place == 3 and near(word.partition("=")[0], ["max"]):
             why = f"'{word}' is no caller; the nearest word that can stand here is 'max', before a limit"
             return line.at(place, why, ["max", *filter(None, [word.partition("=")[2]])])
@@ -453,6 +459,22 @@ def odd_spelling(word, letter):
     return f"the letter {letter} and a number name one"
 
 
+def limit_of_other_form(line, place):
+    """A limit that isn't written as `max LIMIT`."""
+    if line.words[3:4] == ["max"]:
+        return line.at(place, "a role has one limit, behind its kind, and this one has that")
+    value = "".join(filter(None, OTHER_LIMIT.fullmatch(line.words[place]).groups()))
+    signs = sum(word in ("=", ":") for word in line.words[place + 1 : place + 2])
+    count = 1 + (0 if value else signs + len(line.words[place + 1 + signs : place + 2 + signs]))
+    value = value or "".join(line.words[place + count - 1 : place + count] if count > 1 else [])
+    why = f"a limit is written as 'max LIMIT' behind the kind, and LIMIT is 1 to {reading.LARGEST_LIMIT}"
+    none = ". An actor without a limit has no such words" if value == "0" else ""
+    found = line.at(place, f"{why}{none}. The form is: {LIMITED}", words=count)
+    rest = [*line.words[:place], *line.words[place + count :]]
+    better = line.with_text(" ".join([*rest[:3], "max", value, *rest[3:]]))
+    return replace(found, better=better.text if better.is_good() else None)
+
+
 def limit_at_its_place(line, place):
     """A limit that doesn't stand behind the kind, or a second one."""
     if line.words[0] != "actor":
@@ -460,7 +482,7 @@ def limit_at_its_place(line, place):
     limit, rest = line.words[place : place + 2], [*line.words[:place], *line.words[place + 2 :]]
     if line.words[3:4] == ["max"] and place > 3:
         return line.at(place, "a role has one limit, behind its kind", [], len(limit))
-    why = "a limit stands behind the kind. The form is: actor ACTOR KIND max LIMIT CALLER .."
+    why = f"a limit stands behind the kind. The form is: {LIMITED}"
     found = line.at(place, why, words=len(limit))
     return replace(found, better=" ".join([*rest[:3], *limit, *rest[3:]]))
 

@@ -20,13 +20,23 @@ class Past:
     ended: dict = field(default_factory=dict)  # of each actor the line of its end
     released: dict = field(default_factory=dict)  # of each caller and actor the line of the last release
     refused: dict = field(default_factory=dict)  # of each caller how many submissions were refused
+    submitted: dict = field(default_factory=dict)  # of each caller how many were done
 
     def note(self, event, line):
         """Takes an event that was done."""
+        self.note_submitted(event)
         if event.verb == "release":
             self.released[event.caller, event.actor] = line
         if event.verb in ("run", "take", "retire") and self.world.actors[event.actor].stage != "live":
             self.ended[event.actor] = line
+
+    def note_submitted(self, event):
+        if event.verb == "submit":
+            self.submitted[event.caller] = self.submitted.get(event.caller, 0) + 1
+
+    def others_with(self, future, caller):
+        """The other callers that have a call of this number."""
+        return [other for other in sorted(self.submitted) if other != caller and self.submitted[other] > future]
 
     def note_refused(self, event):
         if event.verb == "submit":
@@ -125,8 +135,12 @@ def bad_future(past, event):
     calls = len(past.world.callers[event.caller].calls)
     futures = [(place, each.number) for place, each in enumerate(event.spelt[3], 4) if isinstance(each, reading.Future)]
     place, future = next(each for each in futures if each[1] >= calls)
-    own = "would be this call itself" if future == calls else f"is none of c{event.caller}'s calls"
-    return place, f"@{future} {own}, and an argument is the future of an earlier call; {calls_of(past, event.caller)}"
+    own = f"@{future} means c{event.caller}.{future}, the future of a call of c{event.caller}, which submits here"
+    others = past.others_with(future, event.caller)
+    told = f", and not {' or '.join(f'c{other}.{future}' for other in others[:MAX_NAMED])}" if others else ""
+    is_own = "would be this call itself" if future == calls else f"is none of c{event.caller}'s calls so far"
+    why = f"{own}{told}. c{event.caller}.{future} {is_own}, and an argument is the future of an earlier call"
+    return place, f"{why}; {calls_of(past, event.caller)}"
 
 
 def too_many_copies(past, event):
@@ -248,6 +262,9 @@ def refusal_of_step(script, bad_line):
     bad = events[bad_line]
     if bad.caller not in past.world.callers:
         return Refusal(None, bad_line, "NoCaller", *no_caller(past, bad))
+    for event in events.values():
+        if event.caller != bad.caller:
+            past.note_submitted(event)
     for line, event in events.items():
         if event.caller != bad.caller:
             continue

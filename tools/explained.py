@@ -1,13 +1,15 @@
 #!/usr/bin/env python3
 """Compares what ./explain tells with the proved program, and holds it to a table of mistakes.
 
-    tools/explained.py [--seed N] [--count N] [--program PATH]
+    tools/explained.py [--seed N] [--count N] [--program PATH] [--checker PATH]
 
 The fault that ./explain tells of a script, and the refused events of a play, must be the program's: on the scripts of
 tools/fuzz.py and tools/threads.py, random, damaged, nearly right and cut, and on all worked ones, each in both modes.
-Where ./explain tells how a line would be right, the program must find no such fault at that line any more. MISTAKES and
-REFUSALS say what a user may get wrong, where the mark must stand, and which words the explanation must have. How often
-a reason tells what is due there and no more is printed; of a mistake in the table none may.
+Where ./explain tells how a line would be right, the program must find no such fault at that line any more. MISTAKES,
+UNREAD, REFUSALS and NOTES say what a user may get wrong, where the mark must stand, and which words must be there. Where
+a call is noted as one that is always answered by a fault, the program's report must answer it so.
+How often a reason tells what is due there and no more is printed; of a mistake in the table none may. What is told of a
+history must begin with the line that the program of ./check tells; and each mistake of damaged histories has a mark.
 """
 import argparse
 import collections
@@ -19,7 +21,9 @@ import subprocess
 import tempfile
 from dataclasses import dataclass
 
+import blamed
 import explain
+import explain_histories
 import explain_refusals
 import fuzz
 import program
@@ -31,11 +35,13 @@ from program import TOP
 RUNS = {"play": fuzz.run, "threads": threads.run}
 AT_ONCE = 4
 MAX_SHOWN = 5
+DAMAGED_HISTORIES = 400
 
 # The table of mistakes.
 
 ROLE = b"actor a1 counter c1\n"
 TABLE = b"actor a1 table c1\n"
+BOTH = b"actor a1 counter c1 c2\n"
 TWO = b"actor a1 counter c1\nactor a2 list c2\n"
 
 
@@ -102,6 +108,11 @@ MISTAKES = {
     "a limit of zero": bad_line(b"", b"actor a1 counter max 0 c1", 22, ["1 or more", "leave 'max' and the limit out"]),
     "a limit above all": bad_line(b"", b"actor a1 counter max 65537 c1", 22, ["above 65536", "1 to 65536"]),
     "a limit behind the callers": bad_line(b"", b"actor a1 counter c1 max 2", 21, ["limit stands behind the kind"], "actor a1 counter max 2 c1"),
+    "a limit by another word": bad_line(b"", b"actor a1 counter c1 limit 0", 21, ["'max LIMIT'", "1 to 65536", "actor ACTOR KIND max LIMIT CALLER .."]),
+    "a limit as Ray names it": bad_line(b"", b"actor a1 counter c1 max_pending_calls=2", 21, ["'max LIMIT'"], "actor a1 counter max 2 c1"),
+    "a limit with a sign": bad_line(b"", b"actor a1 counter max=2 c1", 18, ["'max LIMIT'"], "actor a1 counter max 2 c1"),
+    "a limit in three words": bad_line(b"", b"actor a1 counter c1 limit = 2", 21, ["'max LIMIT'"], "actor a1 counter max 2 c1"),
+    "a second limit": bad_line(b"", b"actor a1 counter max 2 c1 limit 3", 27, ["one limit"]),
     "no limit behind max": bad_line(b"", b"actor a1 counter max c1", 22, ["'c1' stands where a limit (1 to 65536) is due"]),
     "a caller above all": bad_line(ROLE, b"submit c17 a1 get", 8, ["'c17' is no caller", "c1 to c16"]),
     "an actor above all": bad_line(ROLE, b"submit c1 a9 get", 11, ["'a9' is no actor", "a1 to a8"]),
@@ -123,6 +134,7 @@ MISTAKES = {
     "a future where its number stands": bad_line(ROLE, b"send c1 @0", 9, ["number alone"], "send c1 0"),
     "a reply by its future": bad_line(ROLE, b"collect c1.0", 9, ["place in the replies", "number alone"]),
     "a line of a report": bad_line(ROLE, b"0: future c1.0", 1, ["begins a line of a report"]),
+    "a line of a summary": bad_line(ROLE, b"c1.0 a1 = 5", 1, ["begins a line of a report", "history, for ./check"]),
     "a line too long": bad_line(ROLE, b"#" + b"x" * 512, 64, ["513 bytes", "512 is the most", "comment"]),
     "a script too long": Mistake("play", b"\n" * (reading.LONGEST_SCRIPT + 1), "line 0: TooLong", None, ["1048576 bytes", "the most"]),
     "a role behind an event": Mistake("play", ROLE + b"\nsubmit c1 a1 get\nactor a2 list c1", "line 4: LateActor", 1, ["line 3", "submit c1 a1 get", "above it"]),
@@ -133,10 +145,84 @@ MISTAKES = {
     "a step to an actor of others": bad_step(b"submit c1 a2 len", 11, ["NoActor", "a2 doesn't name c1", "c2"], TWO),
     "a step behind the last release": bad_step(b"release c1 a1\n\nkill c1 a1", 9, ["NoHandle", "line 2 released the last one"]),
     "a step of five arguments": bad_step(b"submit c1 a1 add 1 2 3 4 5", 26, ["TooManyArgs", "5 arguments", "4 is the most"]),
-    "a step with its own future": bad_step(b"submit c1 a1 get\nsubmit c1 a1 add 1 @1", 20, ["BadFuture", "@1 would be this call itself", "one call so far, c1.0"]),
+    "a step with its own future": bad_step(b"submit c1 a1 get\nsubmit c1 a1 add 1 @1", 20, ["BadFuture", "@1 means c1.1", "c1.1 would be this call itself", "one call so far, c1.0"]),
+    "a step with another caller's future": bad_step(b"submit c1 a1 get\nsubmit c2 a1 add @0", 18, ["@0 means c2.0", "and not c1.0.", "c2 has submitted no call"], BOTH),
     "a step with a later future": bad_step(b"submit c1 a1 add @7", 18, ["BadFuture", "none of c1's calls", "no call so far"]),
     "an await of no call": bad_step(b"submit c1 a1 get\nawait c1 1", 10, ["NoFuture", "no future c1.1", "one call so far, c1.0"]),
     "a copy above all": bad_step(b"copy c1 a1\n" * 65_534 + b"copy c1 a1", 1, ["TooManyCopies", "65535 copies", "the most"]),
+}  # fmt: skip
+
+# Histories that can't be read: the program's first line, and what stands below it.
+
+FRONT = ROLE + b"actor a2 list c1 c2\n"
+CALLED = FRONT + b"submit c1 a1 add 5\n"
+ANSWERED = CALLED + b"c1.0 a1 = 5\n"
+ENDED = ANSWERED + b"a1 live counter 5\n"
+ORDER = b"history order\nactor a1 c1\n"
+ORDERED = ORDER + b"call c1 a1 add\n"
+
+
+@dataclass(frozen=True)
+class Unread:
+    """A history, and what is told of it."""
+
+    history: bytes
+    line: int
+    name: str
+    column: int
+    words: list
+    right: str = None
+
+
+def last_line(head, line, name, column, words, right=None):
+    """A history whose last line can't be read."""
+    return Unread(head + line, head.count(10) + 1, name, column, words, right)
+
+
+UNREAD = {
+    "a method of no kind in a step": last_line(FRONT, b"submit c1 a1 ad 5", "BadLine", 14, ["'ad' is no method", "'add'"], "submit c1 a1 add 5"),
+    "a play": last_line(CALLED, b"send c1 0", "BadLine", 1, ["'send'", "script for play"]),
+    "a caller twice in a role of a history": last_line(b"", b"actor a1 list c1 c1", "TwiceCaller", 18, ["c1 stands twice"], "actor a1 list c1"),
+    "an await of no call in a history": last_line(CALLED, b"await c1 1", "BadPlan", 10, ["no call c1.1 yet", "one call"]),
+    "a step of a caller without a role in a history": last_line(FRONT, b"submit c3 a1 get", "NoRole", 8, ["no actor line names c3", "c1 c2"]),
+    "an answer that is none": last_line(CALLED, b"c1.0 a1 = five", "BadLine", 11, ["'five'", "an answer", "text between two quotes"]),
+    "an answer without its actor": last_line(CALLED, b"c1.0 = 5", "BadLine", 6, ["'='", "an actor (a1 to a8)", "c1.0 a1 = ANSWER"]),
+    "an answer that is left out": last_line(CALLED, b"c1.0 a1 =", "BadLine", 11, ["ends where an answer"]),
+    "an end of no stage": last_line(ANSWERED, b"a1 alive", "BadLine", 4, ["'live', 'retired' or 'dead'"]),
+    "an end without its state": last_line(ANSWERED, b"a1 live", "BadLine", 9, ["the actor's kind", "'?'"]),
+    "a state that is none": last_line(ANSWERED, b"a1 live counter five", "BadLine", 17, ["'five'", "value of the state"]),
+    "a death with more": last_line(ANSWERED, b"a1 dead counter 5", "BadLine", 9, ["word too many"], "a1 dead"),
+    "a run of no call": last_line(ENDED, b"a1.0 add 5", "BadLine", 6, ["a call (as c1.0)", "a1.0 c1.0 METHOD VALUE .."]),
+    "a line end of two bytes in a history": last_line(CALLED, b"c1.0 a1 = 5\r", "BadLine", 12, ["CR"], "c1.0 a1 = 5"),
+    "a step below the answers": last_line(ANSWERED, b"submit c1 a1 get", "BadLine", 1, ["above", "line 4: c1.0 a1 = 5", "Move"]),
+    "an event below the answers": last_line(ANSWERED, b"deliver 0", "BadLine", 1, ["event of a play", "steps of a script for threads"]),
+    "an outcome": last_line(ANSWERED, b"0: future c1.0", "BadLine", 1, ["event of a play", "no events"]),
+    "a word that begins no line": last_line(ANSWERED, b"alive a1", "BadLine", 1, ["'alive' begins no line", "a1.0 c1.0 METHOD"]),
+    "an answer of a caller without a role": last_line(FRONT, b"c3.0 a1 = 5", "NoRole", 1, ["no actor line names c3", "c1 c2"]),
+    "an end of an actor without a role": last_line(ANSWERED, b"a3 dead", "NoRole", 1, ["no actor line is of a3", "a1 a2"]),
+    "an answer out of order": last_line(CALLED, b"c1.1 a1 = 5", "OutOfOrder", 1, ["c1.0 is due here"]),
+    "an answer of an earlier caller": last_line(FRONT + b"c2.0 a2 = 1\n", b"c1.0 a1 = 5", "OutOfOrder", 1, ["rising numbers", "line 3: c2.0 a2 = 1"]),
+    "an answer below an end": last_line(FRONT + b"a1 dead\n", b"c1.0 a1 = 5", "OutOfOrder", 1, ["belongs above", "line 3: a1 dead"]),
+    "an end of an earlier actor": last_line(FRONT + b"a2 dead\n", b"a1 dead", "OutOfOrder", 1, ["rising numbers", "line 3: a2 dead"]),
+    "a run out of order": last_line(ENDED, b"a1.1 c1.0 add 5", "OutOfOrder", 1, ["a1.0 is due here"]),
+    "a run of another actor": last_line(ENDED, b"a2.0 c1.0 add 5", "OutOfOrder", 1, ["right below", "a2"]),
+    "an answer of another actor": last_line(CALLED, b"c1.0 a2 = 5", "OtherActor", 6, ["c1.0 went to a1", "line 3: submit c1 a1 add 5"]),
+    "an end of another kind": last_line(ANSWERED, b"a1 live list", "OtherKind", 9, ["the kind counter", "line 1: actor a1 counter c1"]),
+    "an answer of no call": last_line(ANSWERED, b"c1.1 a1 = 5", "NotSubmitted", 1, ["'submit c1'", "one call, c1.0"]),
+    "a script without a report": Unread(CALLED, 3, "NoFuture", 1, ["c1.0", "nothing tells what was left", "./run threads"]),
+    "a call without an answer": Unread(CALLED + b"submit c1 a1 get\nc1.0 a1 = 5\n", 4, "NoFuture", 1, ["c1.1", "'c1.1 a1 ?'"]),
+    "an actor without an end": Unread(ENDED + b"a1.0 c1.0 add 5\n", 0, "NoEnd", None, ["a2 ended", "a1 dead"]),
+    "a history too long": Unread(b"\n" * (reading.LONGEST_SCRIPT + 1), 0, "TooLong", None, ["1048576 bytes", "order alone"]),
+    "a kind in a history by order": last_line(b"history order\n", b"actor a1 counter c1", "BadLine", 10, ["'counter'", "a caller (as c1)"]),
+    "a role by order without callers": last_line(b"history order\n", b"actor a1", "NoCaller", 10, ["one caller or more"]),
+    "a value in a history by order": last_line(ORDER, b"call c1 a1 push 5", "BadLine", 17, ["'5'", "(as @0)"]),
+    "a step in a history by order": last_line(ORDER, b"submit c1 a1 push", "BadLine", 1, ["'submit' begins no line", "call c1 a1 METHOD"]),
+    "an outcome that is none": last_line(ORDERED, b"c1.0 done", "BadLine", 6, ["'answered', 'failed', 'died' or 'open'"]),
+    "a call without an outcome": Unread(ORDERED + b"a1 live\n", 3, "NoOutcome", 1, ["c1.0", "'c1.0 open'"]),
+    "a call below an outcome": last_line(ORDERED + b"c1.0 open\n", b"call c1 a1", "OutOfOrder", 1, ["belongs above", "line 4: c1.0 open"]),
+    "an outcome of no call": last_line(ORDERED + b"c1.0 open\n", b"c1.1 open", "NotSubmitted", 1, ["'call c1'", "one call"]),
+    "a call to an actor without a role": last_line(ORDER, b"call c1 a2 add", "NoRole", 9, ["no actor line is of a2", "a1"]),
+    "an actor without an end by order": Unread(ORDER, 0, "NoEnd", None, ["a1 ended"]),
 }  # fmt: skip
 
 # Plays whose last event is refused, and words of the sentence that tells what that means there.
@@ -153,6 +239,7 @@ REFUSALS = {
     "a handle that is released": (ROLE + b"release c1 a1\n#\ncopy c1 a1", "NoHandle", ["line 2 released"]),
     "five arguments": (ROLE + b"submit c1 a1 get 1 2 3 4 5", "TooManyArgs", ["5 arguments", "4 is the most"]),
     "a future that isn't yet": (ROLE + b"submit c1 a1 add @0", "BadFuture", ["this call itself", "no call so far"]),
+    "a future of another caller's": (BOTH + b"submit c1 a1 get\nsubmit c2 a1 add @0", "BadFuture", ["@0 means c2.0", "and not c1.0.", "c2 has submitted no call"]),
     "a limit that is reached": (b"actor a1 counter max 1 c1\n" + CALL[len(ROLE) :] + b"submit c1 a1 get", "PendingLimit", ["at most one call", "c1.0", "collect"]),
     "copies above all": (ROLE + b"copy c1 a1\n" * 65_534 + b"copy c1 a1", "TooManyCopies", ["65535 copies"]),
     "a call that isn't yet": (CALL + b"send c1 1", "NoFuture", ["no future c1.1", "one call so far, c1.0"]),
@@ -168,6 +255,26 @@ REFUSALS = {
     "an end with a handle held": (ROLE + b"retire a1", "NotDrained", ["c1 still holds 1 copy", "release c1 a1"]),
     "an end before the note": (ROLE + b"release c1 a1\nretire a1", "NotDrained", ["letter 0", "hasn't arrived"]),
     "an end before all calls ran": (ARRIVED + b"release c1 a1\ndeliver 1\nretire a1", "NotDrained", ["one call of c1", "none ran"]),
+}
+
+# Scripts without a fault whose last call its actor's kind always answers by a fault, and words of the note.
+
+ACCOUNT = b"actor a1 account c1\n"
+NOTES = {
+    "a method that a counter hasn't": ("play", ROLE + b"submit c1 a1 deposit 5", "NoMethod", ["a1 is a counter", "no method deposit", "add, get"]),
+    "the same in threads": ("threads", ROLE + b"submit c1 a1 deposit 5", "NoMethod", ["a1 is a counter", "no method deposit"]),
+    "the same with a future": ("threads", ROLE + b"submit c1 a1 get\nsubmit c1 a1 put @0", "NoMethod", ["or by Dependency"]),
+    "an argument too few": ("play", ROLE + b"submit c1 a1 add", "BadArgs", ["add takes one argument, and not 0"]),
+    "an argument too many": ("play", ACCOUNT + b"submit c1 a1 balance 1", "BadArgs", ["an account", "takes no argument, and not 1"]),
+    "an argument of another sort": ("play", TABLE + b"submit c1 a1 get 5", "BadArgs", ["takes a text there, and 5 is none"]),
+    "a deposit of nothing": ("play", ACCOUNT + b"submit c1 a1 deposit 0", "BadAmount", ["an amount is 1 or more"]),
+    "a place below 0": ("threads", b"actor a1 list c1\nsubmit c1 a1 at -1", "NoItem", ["places count from 0"]),
+    "a terminate with an argument": ("threads", ROLE + b"submit c1 a1 terminate 5", "BadArgs", ["terminate takes no argument"]),
+}  # fmt: skip
+NOT_NOTED = {
+    "a good call": ("play", CALL),
+    "a future that may fit": ("threads", ROLE + b"submit c1 a1 get\nsubmit c1 a1 add @0"),
+    "a call that is refused": ("play", ROLE + b"submit c1 a2 deposit 5"),
 }
 
 
@@ -203,12 +310,73 @@ def wrong_of_refusal(script, name, words):
     yield from (f"'{word}' is missing" for word in words if word not in sentence)
 
 
+def wrong_of_unread(unread):
+    """What is wrong with what is told of a history that can't be read."""
+    first = f"line {unread.line}: {unread.name}"
+    lines = explain_histories.told(unread.history, first)
+    if lines[0] != first or column_of(lines) != unread.column:
+        yield f"the mark is due in column {unread.column}, and stands in {column_of(lines)}"
+    if unread.right != next((line.partition(": ")[2] for line in lines if line.startswith("Right would be: ")), None):
+        yield f"right would be {unread.right}"
+    yield from (f"'{word}' is missing" for word in unread.words if word not in "\n".join(lines[1:]))
+
+
+def wrong_of_note(mode, script, fault, words):
+    """What is wrong with the note of a script's last call."""
+    told = explain.explained(mode, script)
+    head, sentence = ["", *told.lines][-2:]
+    if told.status() or head != f"note, line {script.count(10) + 1}: {script.decode().splitlines()[-1]}":
+        yield f"a note is due, and told is {told.lines}"
+    if f"answered by {fault}" not in sentence:
+        yield f"'{fault}' is missing"
+    yield from (f"'{word}' is missing" for word in words if word not in sentence)
+
+
+def damaged_histories(count):
+    """Histories that are damaged at one place, by name."""
+    whole = {path.name: path.read_bytes() for path in sorted(threads.EXAMPLES.glob("*.history"))}
+    for place in range(count):
+        chance = random.Random(f"history {place}")
+        name = chance.choice([*whole])
+        lines = whole[name].split(b"\n")
+        at, other = chance.randrange(len(lines)), chance.choice(lines)
+        words = lines[at].split(b" ")
+        words[chance.randrange(len(words))] = chance.choice([*other.split(b" "), *(word.encode() for word in ODD_WORDS)])
+        lines[at] = chance.choice([b" ".join(words), other])
+        yield f"{name}, damaged by {place}", b"\n".join(lines)
+
+
+def unexplained(history):
+    """Why a history that can't be read isn't explained, if it isn't; none where nothing is known of its mistakes."""
+    cut = re.search(rb"^[ac][0-9]", history, re.M)
+    front, rest = (history[: cut.start()], history[cut.start() :]) if cut else (history, b"")
+    try:
+        mistakes = blamed.Mistakes(front, rest.decode("latin-1").removesuffix("\n").split("\n") if rest else []).found()
+    except reading.ScriptFault as fault:
+        mistakes = {(fault.line, fault.name)}
+    for line, name in mistakes:
+        told = explain_histories.told(history, f"line {line}: {name}")
+        if len(told) < (3 if line else 2) or line and column_of(told) is None:
+            return f"line {line}: {name} isn't explained: {told}"
+    return None
+
+
 def by_table():
     """Each check of the tables: what is wrong, if anything is, and its name."""
     for name, mistake in MISTAKES.items():
         yield f"the explanation of {name}", [*wrong_of(mistake)]
     for name, (script, refusal, words) in REFUSALS.items():
         yield f"the refusal of {name}", [*wrong_of_refusal(script, refusal, words)]
+    for name, unread in UNREAD.items():
+        yield f"the history with {name}", [*wrong_of_unread(unread)]
+    for name, note in NOTES.items():
+        yield f"the note of {name}", [*wrong_of_note(*note)]
+    for name, (mode, script) in NOT_NOTED.items():
+        yield f"no note of {name}", ["a note"] if explain.explained(mode, script).notes else []
+    alike = explain.explained("play", ROLE + b"submit c1 a1 pop\n" * 3).lines
+    yield "a note of three calls", [] if len(alike) == 3 and alike[1] == "note, line 2, and 2 like it: submit c1 a1 pop" else alike
+    for name, history in damaged_histories(DAMAGED_HISTORIES):
+        yield name, [*filter(None, [unexplained(history)])]
     missing = set(explain_refusals.SENTENCES) - {refusal for _, refusal, _ in REFUSALS.values()}
     yield "the table of refusals", [f"{refusal} is missing" for refusal in sorted(missing)]
 
@@ -264,6 +432,32 @@ def difference(mode, script, got, told):
         return f"the program finds {fault}, and ./explain {told.lines[0]}"
     if mode == "play" and not fault and refused_by_program(script, report) != refused_by_explain(told.text()):
         return f"the program refuses {refused_by_program(script, report)}, and ./explain {refused_by_explain(told.text())}"
+    return None if fault else wrongly_noted(mode, script, report.decode(), told)
+
+
+def submissions(mode, script, report):
+    """Of each call of a script without a fault: its line, whether it takes a future, and what the report answers."""
+    lines = script.decode("ascii").split("\n")
+    answers = dict(re.findall(r"^(c[0-9]+[.][0-9]+) a[0-9]+ = (.+)$", report, re.M))
+    outcomes = re.findall("^[0-9]+: (.+)$", report, re.M) if mode == "play" else None
+    counts = collections.Counter()
+    for place, number in enumerate(numbered_events(script)):
+        verb, caller, *words = lines[number - 1].split(" ")
+        if verb == "submit" and not (outcomes and outcomes[place].startswith("refused ")):
+            answer = answers.get(f"{caller}.{counts[caller]}")
+            yield number, any(word.startswith("@") for word in words), answer
+            counts[caller] += 1
+
+
+def wrongly_noted(mode, script, report, told):
+    """The call that is answered otherwise than its note says, or by such a fault without a note, if there is one."""
+    noted = {note.line: note.fault for note in told.notes}
+    for line, takes_a_future, answer in submissions(mode, script, report):
+        fault = (answer or "?").partition("(")[0]
+        if line in noted and fault not in (noted[line], "Dependency", "ActorDied", "?"):
+            return f"the call of line {line} is answered by {answer}, and its note says {noted[line]}"
+        if line not in noted and (fault == "NoMethod" or fault == "BadArgs" and not takes_a_future):
+            return f"the call of line {line} is answered by {answer}, and has no note"
     return None
 
 
@@ -284,6 +478,7 @@ def scripts_of(seed, count):
     scripts |= {f"worked play {path.stem}": path.read_bytes() for path in sorted(fuzz.ROWS.glob("*.actors"))}
     scripts |= {f"example {path.stem}": path.read_bytes() for path in sorted(threads.EXAMPLES.glob("*.actors"))}
     scripts |= {f"the mistake {name}": mistake.script for name, mistake in MISTAKES.items()}
+    scripts |= {f"the note {name}": script for name, (_, script, *_) in NOTES.items()}
     return scripts | {f"the refusal {name}": script for name, (script, *_) in REFUSALS.items()}
 
 
@@ -302,7 +497,7 @@ class Comparison:
         self.passed = self.failed = 0
         self.faults = collections.Counter()
         self.refusals = collections.Counter()
-        self.general = 0
+        self.general = self.notes = 0
 
     def judge(self, name, mode, script, why):
         if why is None:
@@ -317,6 +512,7 @@ class Comparison:
         self.faults.update([told.fault.name] if told.fault else [])
         self.general += told.finding is not None and told.finding.is_general
         self.refusals.update(name for *_, name in refused_by_explain(told.text()))
+        self.notes += len(told.notes)
 
     def compare(self):
         for mode in RUNS:
@@ -347,6 +543,7 @@ class Comparison:
     def too_seldom(self):
         """The faults and refusals that no script came to."""
         missing = [name for name in [*explain.OF_FAULTS, "TooLong"] if not self.faults[name]]
+        missing += [] if self.notes else ["a note"]
         return missing + [name for name in explain_refusals.SENTENCES if not self.refusals[name]]
 
     def share(self):
@@ -374,6 +571,8 @@ def by_command():
     for words in ["play"], ["play", "-"]:
         yield f"standard input as {words}", run_command(words, faulty) == (1, told, "")
     yield "a path of another folder", run_command(["play", "one_call.actors"], folder=TOP / "examples")[::2] == (0, "")
+    status, text, _ = run_command(["play"], ROLE + b"submit c1 a1 deposit 5")
+    yield "a note", status == 0 and "\nnote, line 2: submit c1 a1 deposit 5\n" in text
     yield "a script for threads", run_command(["threads", TOP / "examples/bank.actors"])[::2] == (0, "")
     yield "a folder", run_command(["play", "."]) == (2, "", "explain: can't read .: Is a directory\n")
     yield "no file", run_command(["play", "none"]) == (2, "", "explain: can't read none: No such file or directory\n")
@@ -383,18 +582,32 @@ def by_command():
     yield "--help", run_command(["--help"]) == (0, explain.__doc__, "")
 
 
+def by_checker(path):
+    """Whether the program tells of each history in the table what the table says."""
+    checks = [path, *program.CHECKS.words]
+    orders = [program.kept_alone("explained", program.ORDERS)]
+    for name, unread in UNREAD.items():
+        command = orders if unread.history.startswith(program.BY_ORDER) else checks
+        done = subprocess.run(command, input=unread.history, stdout=subprocess.PIPE, timeout=60)
+        begin = f"line {unread.line}: {unread.name}".encode()
+        is_told = done.returncode == 1 and re.match(rb"%s\b" % begin, done.stdout)
+        yield f"./check of {name}", [] if is_told else [f"{begin} is due, and {done.stdout} told"]
+
+
 def chosen_options():
     options = argparse.ArgumentParser(description=__doc__.splitlines()[0])
     options.add_argument("--seed", type=int, default=1)
     options.add_argument("--count", type=int, default=600, help="how many random scripts of events; of threads a third")
     options.add_argument("--program", type=pathlib.Path, help="run this one, and not the one that ./run takes")
+    options.add_argument("--checker", type=pathlib.Path, help="the same of the one that ./check takes")
     return options.parse_args()
 
 
 def main():
     chosen = chosen_options()
     path = program.program_of("explained", chosen.program)
-    checks = [*by_table(), *((f"./explain with {name}", [] if is_well else ["told otherwise"]) for name, is_well in by_command())]
+    checker = program.program_of("explained", chosen.checker, program.CHECKS)
+    checks = [*by_table(), *by_checker(checker), *((f"./explain with {name}", [] if is_well else ["told otherwise"]) for name, is_well in by_command())]
     wrong = {name: why for name, why in checks if why}
     print("".join(f"{name}: {'; '.join(why)}\n" for name, why in wrong.items()), end="")
     damaged = Comparison(path, scripts_of(chosen.seed, chosen.count)).compare()

@@ -68,9 +68,23 @@ class Sources:
         for path, text in self.texts.items():
             if re.match(r"crates/\w+/src/.*\.rt", path):
                 ghosts = words_of(" ".join(re.findall(r"^ *ghost \w+ = .*", text, re.M)))
-                for name, words in heads_in(text):
-                    found.setdefault(name, set()).update(words, ghosts)
+                for _, name, head in heads_in(text):
+                    found.setdefault(name, set()).update(words_of(head), ghosts)
         return found
+
+    @functools.cached_property
+    def contracts(self):
+        """Of each crate its functions, as `contracts_in` has them."""
+        found = {}
+        for path, text in self.texts.items():
+            if place := re.match(r"crates/(\w+)/src/.*\.rt", path):
+                found.setdefault(place[1], []).extend(contracts_in(text))
+        return found
+
+    @functools.lru_cache(maxsize=None)
+    def definitions(self, path):
+        """The definitions of a spec, as `definitions_in` has them; `None` where there is no such file."""
+        return definitions_in(self.texts[path]) if path in self.texts else None
 
     @functools.cached_property
     def endings(self):
@@ -90,18 +104,85 @@ class Sources:
         return [file for end, files in self.endings.items() if fnmatch.fnmatch(end, path) for file in files]
 
 
+# Functions with their contracts, what contracts see of types, and definitions.
+
+FUNCTION = re.compile(r"( *)(?:pub(?:\(\w+\))? )?(?:const |unsafe )*fn (\w+)")
+CLAUSE = re.compile(r"^ *(ensures|requires) (?:(\w+) )?\{(.*?)(?=\n *(?:ensures|requires) |\Z)", re.M | re.S)
+GHOST = re.compile(r"^ *(ghost) (\w+) = \{(.*?)\};$", re.M | re.S)
+DEFINITION = re.compile(r"^(?!pub use|pub mod)(?:(?:abbrev|unfoldable|pub|record|data) )+(\w+)", re.M)
+
+
 def heads_in(text):
-    """Each function of a source with the words of its head.
+    """Each function of a source: the number of its first line, from 0, its name, and its head.
 
     That ends at its body; one without a body ends at a `;` before an empty line or the end of its trait.
     """
     lines = [*text.split("\n"), ""]
     for at, line in enumerate(lines):
-        if begin := re.match(r"( *)(?:pub(?:\(\w+\))? )?(?:const |unsafe )*fn (\w+)", line):
-            bodies = {begin[1] + "{", begin[1] + "{}"}
-            pairs = zip(lines[at:], lines[at + 1 :])
-            ends = (n for n, (each, after) in enumerate(pairs) if after in bodies or each[-1:] in ";{" and after in ("", "}"))
-            yield begin[2], words_of(" ".join(lines[at : at + 1 + next(ends, 0)]))
+        if begin := FUNCTION.match(line):
+            yield at, begin[2], "\n".join(lines[at : end_of_head(lines, at, begin[1]) + 1])
+
+
+def end_of_head(lines, at, indent):
+    """The number of the last line of a head that begins there."""
+    bodies, has_contract = {indent + "{", indent + "{}"}, False
+    for number in range(at, len(lines) - 1):
+        line, after = lines[number].rstrip(), lines[number + 1].rstrip()
+        has_contract |= bool(re.match(r" *(?:requires|ensures)\b", line))
+        ends_bare = not has_contract and line.endswith(("{", "{}", " }"))
+        if after in bodies or ends_bare or (line[-1:] == ";" and after in ("", "}")):
+            return number
+    return at
+
+
+def contracts_in(text):
+    """Of each function of a source its type or trait, its name, and its clauses and premises.
+
+    A clause or a premise is by its label the words that it says; one without a label has an empty one. A type, without
+    another, has what contracts see of it as clauses: its invariant, its view, and what an `impl` gives for a trait.
+    """
+    owners = owners_by_line(text)
+    for at, name, head in heads_in(text):
+        yield owners[at], name, said_in(CLAUSE, head, "ensures"), said_in(CLAUSE, head, "requires")
+    for owner, block in sorted(ghosts_in(text).items()):
+        yield None, owner, said_in(GHOST, block, "ghost"), {}
+
+
+def said_in(pattern, text, sort):
+    """Of each clause of this sort the words, by its label."""
+    found = {}
+    for each, label, said in pattern.findall(text):
+        if each == sort:
+            found.setdefault(label, set()).update(words_of(said))
+    return found
+
+
+def owners_by_line(text):
+    """Of each line of a source the type or trait in whose block it stands, or `None`."""
+    owner, owners = None, []
+    for line in [*text.split("\n"), ""]:
+        if found := OWNER.match(line):
+            owner = next(name for name in found.groups() if name)
+        owners.append(owner if line.startswith(" ") else None)
+        if line.startswith("}"):
+            owner = None
+    return owners
+
+
+def ghosts_in(text):
+    """The lines of the blocks of each type."""
+    blocks = {}
+    for owner, line in zip(owners_by_line(text), text.split("\n")):
+        if owner:
+            blocks[owner] = blocks.get(owner, "") + line + "\n"
+    return blocks
+
+
+def definitions_in(text):
+    """Of each definition of a spec the words of it, those of its equations included."""
+    begins = [*DEFINITION.finditer(text)]
+    ends = [found.start() for found in begins[1:]] + [len(text)]
+    return {found[1]: words_of(text[found.start() : end]) for found, end in zip(begins, ends)}
 
 
 def opened(path):

@@ -4,27 +4,33 @@
 The version is the newest of CHANGELOG.md, and each place of VERSIONED must name it and no other. tools/README.md must
 have a line for each tool, and for nothing else, with a star where ./test runs it. Each line of docs/glossary.md ends
 with a name and its file, which must have that name. Each crate of crates.txt has a README.md of at most 30 lines, which
-tells on which crates it stands.
+tells on which crates it stands. The pages of SHORT_PAGES have at most so many lines, and the index of docs/notes links
+each note.
 
-No page, and none of those READMEs, has a line over 120 columns, but where a block quotes a file, or a sentence of over
-30 words. Of docs/edits.md, which is a list, none count. It is counted so:
+No page of the repository, in whatever folder, has a line over 120 columns, but where a block quotes a file, or a
+sentence of over 30 words. In docs/edits.md, which is a list that a tool writes, sentences don't count. It is counted so:
 
-  - Prose is what stands in no block: neither behind a fence nor four spaces in. Headings and pictures are none.
+  - Prose is what is in no block: neither behind a fence nor four spaces in. Headings and pictures are none.
   - A paragraph, an item of a list and a cell of a table are each a text of their own.
   - A sentence ends at a `.`, `?` or `!` before a space or the end of its text; `..` ends none, nor do `:` and `;`.
   - A word is what stands between spaces and has a letter or a digit. A piece of code is one word, and of a link its
     text counts.
 """
+import os
+import pathlib
 import re
 
 import program
 import steps
+from named import LEFT_BY_RUNS
 from program import TOP
 
 VERSIONED = ["README.md", "crates.txt", "crates/ray_actors/src/main.rt"]
 GLOSSARY = "docs/glossary.md"
-PAGES = ["*.md", "docs/*.md", "examples/*.md", "tools/*.md", "crates/*/README.md"]
 WRITTEN_BY_TOOLS = {"docs/edits.md"}
+# Pages that are for a first reading, and how many lines each may have.
+SHORT_PAGES = {"README.md": 120, "docs/architecture.md": 130, "docs/measures.md": 150}
+NOTES = "docs/notes/README.md"
 # What a crate's README may have.
 MAX_LINES = 30
 MAX_COLUMNS = 120
@@ -95,6 +101,21 @@ def told_below(page):
     return sorted(word.strip() for word in words if word.strip() != "none of the others")
 
 
+def faults_of_lengths():
+    """The pages for a first reading that are too long for it."""
+    for page, most in SHORT_PAGES.items():
+        if (count := (TOP / page).read_text().count("\n")) > most:
+            yield f"{page} has {count} lines, and may have {most}"
+
+
+def faults_of_notes():
+    """The notes that their index doesn't link."""
+    index = TOP / NOTES
+    linked = set(re.findall(r"\]\((\w+\.md)\)", index.read_text()))
+    notes = {path.name for path in index.parent.glob("*.md")} - {index.name}
+    yield from (f"{NOTES} has no link to {name}" for name in sorted(notes - linked))
+
+
 # Plain English.
 
 
@@ -150,7 +171,13 @@ def faults_of_sentences(page):
 
 
 def all_pages():
-    return {str(path.relative_to(TOP)) for pattern in PAGES for path in TOP.glob(pattern)}
+    """Each page of the repository, in whatever folder, but those that runs and builds leave."""
+    found = set()
+    for folder, folders, names in os.walk(TOP):
+        folders[:] = set(folders) - LEFT_BY_RUNS
+        pages = (pathlib.Path(folder, name) for name in names if name.endswith(".md"))
+        found.update(str(page.relative_to(TOP)) for page in pages)
+    return found
 
 
 def plain_pages():
@@ -164,6 +191,8 @@ def main():
         *faults_of_tools(),
         *faults_of_words(),
         *faults_of_crates(),
+        *faults_of_lengths(),
+        *faults_of_notes(),
         *(fault for page in sorted(all_pages()) for fault in faults_of_columns(page)),
         *(fault for page in sorted(plain_pages()) for fault in faults_of_sentences(page)),
     ]

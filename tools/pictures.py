@@ -6,13 +6,15 @@
 With `--check` nothing is written: it fails where a picture isn't, byte for byte, what is drawn now, where
 one is missing or too many, and where a picture isn't sound. It is sound where it parses as XML and
 
-  - has a row for each of its events, with its line, the words at its lane and the reason of a refusal;
+  - has a row for each of its events, with its line, the words at its lane and the reason of a refusal. At the
+    beginning of a whole run many submissions are one row, which tells how many calls there are of each caller;
   - has a lane for each caller and actor at which one of the events happens, cut where its actor ends;
   - has a dot, a box or a bar at its lane for each event of which the report tells such;
-  - names all other callers and actors as left out;
+  - tells below each lane how it is at the end, and names all other callers and actors as left out;
   - has exactly one line for each delivery, collection and taken kill that the report tells, which goes from
     lane to lane and from row to row; where it is cut, from the upper edge or to the lower one. A line that
-    would go through from edge to edge is counted in its words instead;
+    would go through from edge to edge is counted in its words instead. What travels more than 15 rows has a
+    stub at each of its ends that is shown, and the words there tell the other end;
   - has exactly one stub for each letter, notice and kill that arrives nowhere;
   - explains in its legend just the colours, dashes, dots and other signs that it has;
   - is at most 1000 pixels wide, and no words of it stand on others, or outside, or in the way of others.
@@ -20,6 +22,10 @@ one is missing or too many, and where a picture isn't sound. It is sound where i
 This check reads the script, the report and the picture, and shares no code with the drawing. It is tried
 itself: a picture from which a line, a sign, a lane, a sample of the legend or a name was taken, to which a line
 was added twice, or in which one ends a row too low, must be refused.
+
+Of the page that `./draw --page` makes of each such run the same is checked: its data have each event once, in order,
+with its lane and with the call to which it belongs, each way of the report and no other, and each sign; and the page
+asks for nothing from elsewhere. What it does in a browser isn't tried here.
 
 The reports are those of the proved program; with `--reading` they are made by the second reading of the
 rules, and no program is needed. Pictures of random scripts, whose reports the reading makes, must be sound,
@@ -29,6 +35,8 @@ line of an example, of events or for threads, doesn't end with the command that 
 import argparse
 import collections
 import copy
+import functools
+import json
 import random
 import re
 import subprocess
@@ -47,9 +55,11 @@ CROWDS = 5
 CROWDED = 210  # lines
 CUTS = 4
 LEAST_LETTERS = 8  # of a line
-MAX_WIDTH = 1000
+MAX_WIDTH, MAX_WIDTH_OF_PAGE = 1000, 1240
 LETTER = 7.22  # as wide as a letter of the pictures' font is
 BOX_BEGINS, UNDER_A_BOX = 3, 9
+FAR, MOST_FAR = 15, 3
+LEAST_STAIRS = 16
 SVG = "{http://www.w3.org/2000/svg}"
 
 
@@ -93,13 +103,18 @@ def report_of(path, program):
 class Told:
     """Of the events that are shown: the lines, the stubs and the lanes that are due."""
 
-    def __init__(self, script, report, shown=None):
+    def __init__(self, script, report, shown=None, folds=True):
         lines = [line.split(" ") for line in script.decode("ascii").splitlines() if line and line[0] != "#"]
         self.roles = [words for words in lines if words[0] == "actor"]
         self.events = [words for words in lines if words[0] != "actor"]
         self.outcomes = re.findall(r"^[0-9]+: (.*)$", report.decode("ascii"), re.MULTILINE)
         self.terminates = set(re.findall(r"^(a\d+)\.(\d+) c\d+\.\d+ terminate$", report.decode("ascii"), re.MULTILINE))
         self.shown = range(len(self.events)) if shown is None else shown
+        self.folds = folds
+        items = re.findall(r"^(a\d+)\.(\d+) (c\d+\.\d+) ", report.decode("ascii"), re.MULTILINE)
+        self.ends = dict(re.findall(r"^(a\d+) (.*)$", report.decode("ascii"), re.MULTILINE))
+        self.answers = re.findall(r"^(c\d+)\.\d+ a\d+ (?:= )?(.*)$", report.decode("ascii"), re.MULTILINE)
+        self.ran = {(actor, place): future for actor, place, future in items}
         self.letters = self.begun(r"mail (\d+)")
         self.notices = self.begun(r"(?:place \d+ )?reply (\d+)")
 
@@ -108,6 +123,7 @@ class Told:
         found = ((re.fullmatch(pattern, outcome), place) for place, outcome in enumerate(self.outcomes))
         return {int(each[1]): place for each, place in found if each}
 
+    @functools.cached_property
     def all_lanes(self):
         return {word for words in self.roles for word in words[1:] if re.fullmatch(r"[ac]\d+", word)}
 
@@ -124,8 +140,9 @@ class Told:
             return None if outcome == "refused NoMail" else self.target_of(self.letters[int(words[1])])
         if words[0] == "collect":
             return None if outcome == "refused NoReply" else self.events[self.notices[int(words[1])]][2]
-        return words[1] if words[1] in self.all_lanes() else None
+        return words[1] if words[1] in self.all_lanes else None
 
+    @functools.cached_property
     def lanes_due(self):
         return {self.lane_of(place) for place in self.shown} - {None}
 
@@ -142,10 +159,39 @@ class Told:
             elif words[0] == "collect" and outcome != "refused NoReply":
                 yield NOTICES[outcome.split(" ")[0]], self.notices[int(words[1])], place
 
+    def stairs(self):
+        """How many submissions come first and are one row."""
+        if len(self.shown) < len(self.events) or not self.folds:
+            return 0
+        first = (place for place, outcome in enumerate(self.outcomes) if not outcome.startswith("future "))
+        count = next(first, len(self.events))
+        return count if count >= LEAST_STAIRS else 0
+
+    def stairs_line(self):
+        counts = collections.Counter(words[1] for words in self.events[: self.stairs()]).values()
+        least, most = min(counts), max(counts)
+        calls = f"{least} calls" if least == most else f"{least} to {most} calls"
+        return f"..{self.stairs() - 1}: {calls}" + (" each" if len(counts) > 1 else "")
+
+    def far_due(self):
+        """Of each end of what travels far, where it is shown: its sort, its two places, that one, and the lane there."""
+        for sort, begin, end in self.arrivals():
+            if end - begin > FAR:
+                yield from ((sort, begin, end, place, self.lane_of(place)) for place in (begin, end) if place in self.shown)
+
+    def far_words(self):
+        """Of each event at which something leaves or arrives that travels far, what its words tell of that."""
+        others = collections.defaultdict(list)
+        for _, begin, end, place, _ in self.far_due():
+            others[place].append(end if place == begin else begin)
+        signs = {place: "→" if min(far) > place else "←" for place, far in others.items()}
+        shown = {place: " ".join(map(str, sorted(far)[:MOST_FAR])) for place, far in others.items()}
+        return {place: f"{signs[place]} {shown[place]}" + " …" * (len(others[place]) > MOST_FAR) for place in others}
+
     def lines_due(self):
         """Of each line its sort, its two places, and the lanes at those that are shown."""
         for sort, begin, end in self.arrivals():
-            if begin in self.shown or end in self.shown:
+            if end - begin <= FAR and (begin in self.shown or end in self.shown):
                 ends = (self.lane_of(place) if place in self.shown else None for place in (begin, end))
                 yield sort, begin, end, *ends
 
@@ -158,6 +204,41 @@ class Told:
             if makes and place not in arrived:
                 yield f"{sort}_lost", place, self.lane_of(place)
 
+    def end_of(self, lane):
+        """How a lane is at the end, by the summary of the report."""
+        if lane in self.ends:
+            return self.ends[lane]
+        answers = [answer for caller, answer in self.answers if caller == lane]
+        calls = "1 call" if len(answers) == 1 else f"{len(answers)} calls"
+        return f"{calls}, {answers.count('?')} open" if "?" in answers else calls
+
+    def goes_to(self, place):
+        """The lane to which what begins at an event goes, or that of the event, where nothing happens at the other."""
+        makes_a_letter = self.outcomes[place].startswith("mail ")
+        target = self.target_of(place) if makes_a_letter else self.events[place][2]
+        return target if target in self.lanes_due else self.lane_of(place)
+
+    def chain_of(self, place):
+        """The name of what an event belongs to: its call; or a note, the kills of an actor, or a death; or nothing."""
+        verb, outcome, words = self.events[place][0], self.outcomes[place], self.events[place]
+        if outcome.startswith("future "):
+            return outcome.removeprefix("future ")
+        if verb == "send" and outcome.startswith("mail "):
+            return f"{words[1]}.{words[2]}"
+        if outcome.startswith("mail "):
+            return f"{outcome}: note"
+        if verb == "deliver" and outcome != "refused NoMail":
+            return self.chain_of(self.letters[int(words[1])])
+        if run := re.fullmatch(r"place (\d+) reply \d+", outcome):
+            return self.ran[words[1], run[1]]
+        if verb == "tell" and outcome.startswith("reply "):
+            return f"{outcome}: {words[1]} died"
+        if verb == "collect" and outcome != "refused NoReply":
+            return self.chain_of(self.notices[int(words[1])])
+        if outcome == "asked" or outcome == "dead" and place in {end for _, _, end in self.arrivals()}:
+            return f"kill {words[2] if outcome == 'asked' else words[1]}"
+        return None
+
     def is_end(self, place):
         """Whether an actor dies or retires at this event."""
         run = re.fullmatch(r"place (\d+) reply \d+", self.outcomes[place])
@@ -169,7 +250,8 @@ class Told:
 
     def signs_due(self):
         """Of each sign at a lane its sort, its place and its lane."""
-        for place in self.shown:
+        yield from (("dot submit", 0, caller) for caller in {words[1] for words in self.events[: self.stairs()]})
+        for place in self.shown[self.stairs() :]:
             verb, outcome, lane = self.events[place][0], self.outcomes[place], self.lane_of(place)
             first = outcome.split(" ")[0]
             if first in SIGNS and lane and (verb, outcome) != ("deliver", "refused ActorEnded"):
@@ -199,12 +281,13 @@ def classes(element):
 
 
 def of_class(picture, name):
-    return [element for element in picture.iter() if name in classes(element)]
+    return [element for element in picture.iter() if name in element.get("class", "") and name in classes(element)]
 
 
 def heights_of(picture):
-    """Of each event's row the place and the height."""
-    return {int(row.get("data-place")): int(row.get("data-height")) for row in of_class(picture, "event")}
+    """Of each event the height of its row; the first row may be of several."""
+    rows = ((int(row.get("data-place")), int(row.get("data-last", row.get("data-place"))), row) for row in of_class(picture, "event"))
+    return {place: int(row.get("data-height")) for first, last, row in rows for place in range(first, last + 1)}
 
 
 def lanes_of(picture):
@@ -247,6 +330,18 @@ def stub_of(element, lanes, heights):
     x, y = map(int, re.fullmatch(r"M(\d+),(\d+) H\d+", way).groups())
     lane = next((name for name, place in lanes.items() if place == x), None)
     return classes(element)[1], place if heights.get(place) == y else None, lane
+
+
+def far_of(element, lanes, heights):
+    """Of a stub of what travels far what is compared; nothing where it doesn't leave or reach a lane along a row."""
+    begin, end, sort = int(element.get("data-begin")), int(element.get("data-end")), classes(element)[1]
+    (way,) = (path.get("d") for path in element.iter(SVG + "path") if path.get("class") == "way")
+    x, y, ahead = map(int, re.fullmatch(r"M(\d+),(\d+) H(\d+)", way).groups())
+    named = {place: name for name, place in lanes.items()}
+    if (ahead > x) != sort.startswith(("letter", "kill")):
+        return None
+    ends = [(begin, x), (end, ahead)]
+    return next(((sort, begin, end, place, named[at]) for place, at in ends if heights.get(place) == y and at in named), None)
 
 
 def middle_of(sign):
@@ -310,8 +405,10 @@ def leaders_of(picture):
 
 
 def rows_unsound(picture, told):
-    heights = heights_of(picture)
-    if sorted(heights) != list(told.shown) or sorted(heights.values()) != list(dict.fromkeys(heights.values())):
+    heights, stairs = heights_of(picture), told.stairs()
+    below = [heights[place] for place in sorted(heights)]
+    first, rest = {*below[:stairs]}, below[max(stairs - 1, 0) :]
+    if sorted(heights) != list(told.shown) or rest != sorted({*rest}) or len(first) != min(stairs, 1):
         yield "it has not one row for each event, one below the other"
 
 
@@ -325,7 +422,12 @@ def texts_unsound(picture, told):
     words = collections.defaultdict(list)
     for y, _, _, text in sorted(words_of(picture)):
         words[y].append(text)
+    stairs, far = told.stairs(), told.far_words()
+    if stairs and words[heights_of(picture)[0]] != ["0", told.stairs_line()]:
+        yield f"the row of the first {stairs} events has {words[heights_of(picture)[0]]}"
     for place, y in heights_of(picture).items():
+        if place < stairs:
+            continue
         number, line, *others = words[y]
         whole, outcome = " ".join(told.events[place]), told.outcomes[place]
         line, refused, reason = line.partition("  refused ")
@@ -333,16 +435,20 @@ def texts_unsound(picture, told):
             yield f"'{line}' stands in the row of '{whole}'"
         if len(others) != (told.lane_of(place) is not None):
             yield f"in the row of '{whole}' stands {others}"
-        told_there = [(refused + reason).strip(), *others]
+        if not "".join(others).endswith(f" {far[place]}" if place in far else ""):
+            yield f"in the row of '{whole}' stands {others}, and not {far[place]}"
+        if place not in far and re.search("[→←]", "".join(others)):
+            yield f"in the row of '{whole}' stands {others}, and nothing travels far"
+        told_there = [(refused + reason).strip(), *(re.sub(" [→←] .*", "", other) for other in others)]
         if outcome.startswith("refused ") and not any(stands_for(each, outcome) for each in told_there):
             yield f"'{outcome}' isn't told of '{whole}'"
 
 
 def lanes_unsound(picture, told):
     lanes, left_out = set(lanes_of(picture)), set(re.findall(r"\b[ac]\d+\b", note_of(picture, "left_out")))
-    if lanes != told.lanes_due():
-        yield f"it has the lanes {sorted(lanes)}, and {sorted(told.lanes_due())} are due"
-    if left_out != told.all_lanes() - told.lanes_due():
+    if lanes != told.lanes_due:
+        yield f"it has the lanes {sorted(lanes)}, and {sorted(told.lanes_due)} are due"
+    if left_out != told.all_lanes - told.lanes_due:
         yield f"it says that {sorted(left_out)} are left out"
 
 
@@ -356,10 +462,25 @@ def ends_unsound(picture, told):
             yield f"the lane {lane.get('data-lane')} doesn't end at {end}"
 
 
+def labels_unsound(picture, told):
+    """Below each lane stands how it is at the end; of callers that are alike one tells it of each."""
+    legend = {*of_class(picture, "legend")[0].iter()}
+    words = [text.text for text in of_class(picture, "end") if text not in legend]
+    each = [word.removesuffix(" each") for word in words if word.endswith(" each")]
+    due = {lane: told.end_of(lane) for lane in lanes_of(picture)}
+    for lane, end in due.items():
+        alike = lane.startswith("c") and [end] == each
+        if not alike and not any(stands_for(word, end) for word in words):
+            yield f"it doesn't tell that {lane} is '{end}' at the end"
+    if len(words) - 1 != len([lane for lane in due if not (each and lane.startswith("c"))]) + len(each):
+        yield f"at the end it tells {words}"
+
+
 def signs_unsound(picture, told):
     """Each sign stands at its lane, in its row; the bar of a run that ends its actor stands under the box."""
     lanes = {x: name for name, x in lanes_of(picture).items()}
-    places = {y + lower: place for place, y in heights_of(picture).items() for lower in (0, UNDER_A_BOX)}
+    heights = sorted(heights_of(picture).items(), reverse=True)
+    places = {y + lower: place for place, y in heights for lower in (0, UNDER_A_BOX)}
     drawn = [(sort, places.get(y), lanes.get(x)) for sort, x, y in signs_in(picture)]
     yield from difference("signs", drawn, told.signs_due())
 
@@ -374,6 +495,7 @@ def lines_unsound(picture, told):
     lanes, heights, edges = lanes_of(picture), heights_of(picture), edges_of(picture)
     drawn = [line_of(each, lanes, heights, edges) for each in of_class(picture, "arrow")]
     yield from difference("lines", drawn, told.lines_due())
+    yield from difference("far ends", [far_of(each, lanes, heights) for each in of_class(picture, "far")], told.far_due())
     stubs = [stub_of(each, lanes, heights) for each in of_class(picture, "lost")]
     yield from difference("stubs", stubs, told.stubs_due())
     yield from difference("passing", passing_of(picture).elements(), told.passing_due().elements())
@@ -381,8 +503,11 @@ def lines_unsound(picture, told):
 
 def legend_unsound(picture, _):
     (legend,) = of_class(picture, "legend")
-    drawn = {*looks_in(picture), *(classes(each)[1] for name in ("arrow", "lost") for each in of_class(picture, name))}
+    drawn = {*looks_in(picture), *(classes(each)[1] for name in LINES for each in of_class(picture, name))}
     explained = {*looks_in(legend), *(classes(each)[1] for each in of_class(legend, "sample"))}
+    drawn |= {sign for each in picture.iter(SVG + "text") for sign in re.findall("[→←]", each.text or "") if each not in [*legend]}
+    explained |= {sign for each in legend.iter(SVG + "text") for sign in re.findall("[→←] 9", each.text)}
+    explained = {each[:1] if isinstance(each, str) and each.endswith(" 9") else each for each in explained}
     if drawn != explained:
         yield f"the legend doesn't explain {drawn - explained}, and explains {explained - drawn}, which isn't there"
 
@@ -406,9 +531,130 @@ def unsound(picture, told):
     return next((why for check in CHECKS for why in check(picture, told)), None)
 
 
+# What is drawn of something that goes from lane to lane.
+LINES = "arrow", "far", "lost"
 CHECKS = [
-    rows_unsound, texts_unsound, lanes_unsound, ends_unsound, signs_unsound, lines_unsound, legend_unsound, words_unsound,
+    rows_unsound, texts_unsound, lanes_unsound, ends_unsound, labels_unsound, signs_unsound, lines_unsound, legend_unsound, words_unsound,
 ]  # fmt: skip
+
+
+# The page of a run.
+
+
+def data_of(page):
+    """The data of a page."""
+    return json.loads(re.search("^const RUN = (.*);$", page, re.M)[1])
+
+
+class PageData:
+    """The data of a page, with names in the place of numbers."""
+
+    def __init__(self, data):
+        lanes, chains = [lane["name"] for lane in data["lanes"]] + [None], data["chains"] + [None]
+        self.width, self.lanes, self.dots = data["width"], lanes[:-1], data["dots"]
+        self.ended = {lane["name"]: lane["ended"] for lane in data["lanes"]}
+        self.events = [(line, outcome, lanes[lane], chains[chain]) for line, outcome, lane, *_, chain, _ in data["events"]]
+        self.marks = [(lanes[lane], sort, words, begin) for _, _, lane, sort, words, begin, _, _ in data["events"]]
+        self.shown = [shown for *_, shown in data["events"]]
+        self.ways = [
+            (data["looks"][look]["name"], begin, end, lanes[source], lanes[target], chains[chain])
+            for look, _, begin, end, source, target, chain, _ in data["ways"]
+        ]
+
+    def signs(self):
+        """The signs that are drawn, each with its place and its lane."""
+        others = {"run": "box", "gap": "dot gap", "dead": "bar dead", "retired": "bar retired"}
+        for place, (lane, sort, *_) in enumerate(self.marks):
+            sign = f"dot {self.dots[sort]}" if sort in self.dots else others.get(sort)
+            if sign:
+                yield sign, place, lane
+            if sort == "run" and self.ended[lane] == place:
+                yield "bar dead", place, lane
+
+
+def events_of_page(data, told):
+    events = zip(map(" ".join, told.events), told.outcomes)
+    due = [(*event, told.lane_of(place), told.chain_of(place)) for place, event in enumerate(events)]
+    if data.events != due:
+        yield f"its events aren't those of the run, in order: {[each for each in due if each not in data.events][:3]}"
+
+
+def lanes_of_page(data, told):
+    if {*data.lanes} != told.lanes_due or len(data.lanes) != len({*data.lanes}):
+        yield f"it has the lanes {data.lanes}"
+    if data.ended != {name: told.ended().get(name) for name in data.lanes}:
+        yield "an actor ends elsewhere"
+
+
+def ways_of_page(data, told):
+    arrived = [(sort, begin, end, told.lane_of(begin), told.lane_of(end)) for sort, begin, end in told.arrivals()]
+    lost = [(sort, begin, -1, lane, told.goes_to(begin)) for sort, begin, lane in told.stubs_due()]
+    yield from difference("ways", [way[:-1] for way in data.ways], arrived + lost)
+    for sort, begin, end, _, _, chain in data.ways:
+        if {chain} != {told.chain_of(place) for place in (begin, end) if place >= 0}:
+            yield f"the {sort} of {begin} is of the chain {chain}"
+
+
+def marks_of_page(data, told):
+    yield from difference("signs", data.signs(), told.signs_due())
+    far = told.far_words()
+    for place, ((lane, _, words, begin), shown) in enumerate(zip(data.marks, data.shown)):
+        if not words.endswith(far.get(place, "")) or (lane is None) != (not words):
+            yield f"the words of {place} are '{words}'"
+        if begin < 0 or begin + len(words) * LETTER > data.width or shown and not shown.rstrip("…").strip():
+            yield f"the words of {place} have no room"
+    if data.width > MAX_WIDTH_OF_PAGE:
+        yield f"it is {data.width} pixels wide"
+
+
+CHECKS_OF_PAGE = [events_of_page, lanes_of_page, ways_of_page, marks_of_page]
+
+
+def data_unsound(data, told):
+    """Why the data of a page aren't those of the run; nothing where they are."""
+    try:
+        data = PageData(data)
+    except IndexError:
+        return "a number names no lane, chain or look"
+    return next((why for check in CHECKS_OF_PAGE for why in check(data, told)), None)
+
+
+def page_unsound(page, told):
+    """Why a page isn't the one of this run: what it has, and what it asks for."""
+    asked = re.search(r"https?:|\b(?:src|href)\s*=|url[(]|\bfetch[(]|XMLHttp|WebSocket|\bimport\s*[({'\"]|@@", page)
+    if asked:
+        return f"it asks for something else: {page[asked.start() : asked.start() + 60]!r}"
+    return data_unsound(data_of(page), told)
+
+
+def spoilt_data(data):
+    """Data that aren't those of the run, and what was done to them."""
+    for list_name, place, part, value in (
+        ("events", -1, 1, "kept"), ("events", 0, 0, "run a1 c1"), ("events", -1, 2, 0), ("events", -1, 6, 0), ("events", 0, 4, ""),
+        ("ways", 0, 3, 0), ("ways", 0, 2, 1), ("ways", 0, 5, -1), ("ways", 0, 6, -1), ("ways", -1, 0, 5),
+    ):  # fmt: skip
+        other = copy.deepcopy(data)
+        if other[list_name] and other[list_name][place][part] != value:
+            other[list_name][place][part] = value
+            yield f"{part} of {list_name} {place} changed", other
+    for list_name in "events", "ways", "lanes":
+        for how, change in ("left out", lambda items: items.pop()), ("doubled", lambda items: items.append(items[-1])):
+            other = copy.deepcopy(data)
+            change(other[list_name])
+            yield f"one of {list_name} {how}", other
+    other = copy.deepcopy(data)
+    other["lanes"][0]["ended"] = 1
+    yield "a lane ended", other
+
+
+def page_failures(name, script, report):
+    """What is wrong with the page of a run, or with the check where it passes a spoilt one; and how many were made."""
+    page, told = draw.page(script, report, name), Told(script, report, folds=False)
+    why, others = page_unsound(page, told), [*spoilt_data(data_of(page))]
+    failures = [f"{name}, its page: {why}"] if why else []
+    failures += [f"{name}, its page: the check finds nothing wrong with {how}" for how, data in others if not data_unsound(data, told)]
+    network = page.replace("</body>", '<img src="picture.png"></body>')
+    return 2 + len(others), failures + ([] if page_unsound(network, told) else [f"{name}, its page: what it asks for isn't seen"])
 
 
 # The check itself is tried.
@@ -442,9 +688,9 @@ def spoilt(picture):
     """Pictures that aren't sound, and what was done to each."""
     for place, element in enumerate(picture):
         (sort, *_), sorts = classes(element), set(classes(element))
-        if sorts & {"arrow", "lost", "of_lane", "event", "left_out", "passing", "dot", "box", "bar"}:
+        if sorts & {*LINES, "of_lane", "event", "left_out", "passing", "dot", "box", "bar"} or sort == "end":
             yield f"{sort} {place} left out", without(picture, place)
-        if sorts & {"arrow", "lost"}:
+        if sorts & {*LINES}:
             yield f"{sort} {place} moved", with_a_line_moved(picture, place)
             yield f"{sort} {place} doubled", with_a_line_twice(picture, place)
         if "legend" in sorts:
@@ -492,7 +738,27 @@ def long_words():
         yield from (f"send c{caller} {call}", f"deliver {place}", f"run a{caller % 8 + 1} c{caller}", f"collect {place}")
 
 
+def in_phases(callers, actors, calls):
+    """All calls are submitted, then all are sent, and so on, as threads may do it."""
+    turns = [(caller, number) for number in range(calls) for caller in range(1, callers + 1)]
+    called = [(caller + number) % actors + 1 for caller, number in turns]
+    yield from (f"actor a{actor} counter " + " ".join(f"c{caller}" for caller in range(1, callers + 1)) for actor in range(1, actors + 1))
+    yield from (f"submit c{caller} a{actor} add 1" for (caller, _), actor in zip(turns, called))
+    yield "submit c1 a1 get"
+    yield from (f"send c{caller} {number}" for caller, number in turns)
+    yield from (f"deliver {place}" for place in [*range(len(turns)), 0])
+    yield from (f"run a{actor} c{caller}" for (caller, _), actor in zip(turns, called))
+    yield from (f"kill c{caller} a1" for caller in range(1, callers + 1))
+    yield from (f"collect {place}" for place in [*range(len(turns)), 0])
+    yield from ("take a1", "tell a1 c1", f"collect {len(turns)}", "deliver 0")
+
+
+def script_in_phases(*counts):
+    return "".join(f"{line}\n" for line in in_phases(*counts)).encode()
+
+
 def random_scripts():
+    yield "phases", script_in_phases(16, 8, 3)
     yield "long words", "".join(f"{line}\n" for line in long_words()).encode()
     for place in range(RANDOM_SCRIPTS):
         yield f"random script {place}", fuzz.random_script("pictures", place)
@@ -515,8 +781,9 @@ def random_runs():
 
 def sorts_in(picture):
     """What the check of a picture had to do with."""
-    yield from (classes(each)[1] for name in ("arrow", "lost") for each in of_class(picture, name))
-    yield from (name for name in ("left_out", "passing") if of_class(picture, name))
+    yield from (classes(each)[1] for name in LINES for each in of_class(picture, name))
+    yield from (name for name in ("left_out", "passing", "far", "tie") if of_class(picture, name))
+    yield from ("stairs" for row in of_class(picture, "event") if row.get("data-last"))
     for each in of_class(picture, "arrow"):
         _, _, begins, ends = way_of(each)
         yield from ["from the upper edge"] * (not begins) + ["to the lower edge"] * (not ends)
@@ -524,7 +791,7 @@ def sorts_in(picture):
 
 SORTS = {
     "letter", "letter_repeat", "letter_turned_away", "letter_lost", "reply", "reply_late", "reply_lost", "death", "death_lost",
-    "kill", "kill_lost", "left_out", "passing", "from the upper edge", "to the lower edge",
+    "kill", "kill_lost", "left_out", "passing", "far", "tie", "stairs", "from the upper edge", "to the lower edge",
 }  # fmt: skip
 
 
@@ -532,6 +799,9 @@ def random_failures():
     """How many pictures of random runs were checked, and what is wrong with them or missing in all of them."""
     checks, failures, met = len(SORTS), [], set()
     for name, script, report, shown in random_runs():
+        if shown is None:
+            why = page_unsound(draw.page(script, report, name), Told(script, report, folds=False))
+            checks, failures = checks + 1, failures + ([f"{name}, its page: {why}"] if why else [])
         picture = xml.fromstring(draw.picture(script, report, name, shown))
         why = unsound(picture, Told(script, report, shown))
         checks, failures = checks + 1, failures + ([f"{name}: {why}"] if why else [])
@@ -544,7 +814,11 @@ def cut_failures():
     script = Crowd(random.Random("cut")).script().encode()
     report, _ = reading.play(script)
     shown = range(CROWDED // 2, CROWDED // 2 + 30)
-    return failures_of("a cut crowd", draw.picture(script, report, "crowd", shown), Told(script, report, shown))
+    made, failures = failures_of("a cut crowd", draw.picture(script, report, "crowd", shown), Told(script, report, shown))
+    script = script_in_phases(4, 2, 4)
+    report, _ = reading.play(script)
+    more, others = failures_of("phases", draw.picture(script, report, "phases"), Told(script, report))
+    return made + more, failures + others
 
 
 # The tool.
@@ -560,7 +834,8 @@ def checked(reports):
         there = PICTURES / f"{path.stem}.svg"
         if not there.exists() or there.read_bytes() != text.encode():
             wrong.append(f"{path.stem}: docs/pictures has another picture, or none; tools/pictures.py draws it anew")
-        checks, failures = checks + made + 1, failures + wrong
+        of_page, wrong_page = page_failures(path.stem, path.read_bytes(), report)
+        checks, failures = checks + made + 1 + of_page, failures + wrong + wrong_page
     for made, wrong in wrong_heads(), cut_failures(), random_failures():
         checks, failures = checks + made, failures + wrong
     return checks, failures

@@ -17,6 +17,8 @@ CRATES = TOP / "crates"
 CODE = ["src"]
 PROVED_CODE = ["src", "specs", "proofs"]
 LONGEST_SCRIPT = 1_048_576
+# The first line of a history that is judged by its order alone.
+BY_ORDER = b"history order\n"
 WRONG_WORDS = 2
 WRITE_FAILED = 4
 
@@ -37,6 +39,8 @@ CHECKS_ALL = Program("ray_commands", "check-all")
 PROVED = RUNS.proved
 # The one that is built unproved, for all of them.
 UNPROVED = "ray_commands"
+# The line of crates.txt below which tools/new_app.py puts apps.
+APPS = "# apps of your own"
 KEPT_IN = TOP / ".built"
 PROJECT = "nelovashum"
 
@@ -59,6 +63,13 @@ def note(text):
         os.write(2, text.encode())
 
 
+def note_fault(text):
+    """Says on the standard error what is wrong. Its first line, which is the program's, is left out where both outputs
+    are a terminal, since it was shown there."""
+    is_shown = os.isatty(1) and os.isatty(2)
+    note(text.partition("\n")[2] if is_shown else text)
+
+
 def ended(tool, main):
     """Runs a tool to its end: a Stop is one line and its status, and so is an interrupt."""
     try:
@@ -74,9 +85,19 @@ def ended(tool, main):
 # The crates that a program stands on.
 
 
-def listed():
+def listed(top=TOP):
     """Of each crate of crates.txt the libraries that its line names."""
-    lines = [line.partition("#")[0] for line in (TOP / "crates.txt").read_text().splitlines()]
+    return crates_in((top / "crates.txt").read_text())
+
+
+def ours():
+    """The same without the apps that somebody made in this clone, of which no page of the repository tells."""
+    return crates_in((TOP / "crates.txt").read_text().partition(f"\n{APPS}\n")[0])
+
+
+def crates_in(text):
+    """Of each crate of such a text the libraries that its line names."""
+    lines = [line.partition("#")[0] for line in text.splitlines()]
     crates = (line.partition(":") for line in lines if ":" in line)
     return {head.split()[0]: libraries.split() for head, _, libraries in crates}
 
@@ -205,8 +226,8 @@ def script_in(path):
 
 
 def write_out(text):
-    """Writes all of it to the standard output."""
-    left = text.encode()
+    """Writes all of it, which is text or bytes, to the standard output."""
+    left = text if isinstance(text, bytes) else text.encode()
     try:
         while left:
             left = left[os.write(1, left) :]

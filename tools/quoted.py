@@ -3,8 +3,8 @@
 
 A page quotes by a fenced block whose first line names the file, as "```rust crates/../main.rt". The lines
 of the block must stand in that file one after another, but for the spaces that all of them begin with. The
-README has to quote the first program whole. The page on the library and the README of each crate show no code but
-quotes, and each crate's README shows some.
+guide has to quote the first program whole, and the README a part of it. The guide and the README of each
+crate show no code but quotes, and each crate's README shows some.
 """
 import sys
 from dataclasses import dataclass
@@ -12,14 +12,15 @@ from pathlib import Path
 
 TOP = Path(__file__).resolve().parent.parent
 README = "README.md"
-LIBRARY = "docs/library.md"
+GUIDE = "docs/guide.md"
+FIRST_PROGRAM = "crates/example_first/src/main.rt"
 # The files that a page quotes whole, or in part.
-WHOLE = {README: ["crates/first_program/src/main.rt"], LIBRARY: []}
-IN_PART = {README: [], LIBRARY: ["crates/traced_run/src/main.rt"]}
+WHOLE = {GUIDE: [FIRST_PROGRAM]}
+IN_PART = {README: [FIRST_PROGRAM], GUIDE: ["crates/example_traced/src/main.rt"]}
 # The README of each crate.
 OF_CRATES = sorted(str(path.relative_to(TOP)) for path in TOP.glob("crates/*/README.md"))
 # Pages that show no code but quotes.
-QUOTES_ALONE = {LIBRARY, *OF_CRATES}
+QUOTES_ALONE = {GUIDE, *OF_CRATES}
 FENCE = "```"
 
 
@@ -71,17 +72,19 @@ def stands_in(quote, lines):
     return any(flush(lines[at : at + count]) == wanted for at in range(len(lines) - count + 1))
 
 
-def fault_of(block, whole):
+def is_whole(block):
+    """Whether a quote has all lines of its file."""
+    return block.lines + [""] == lines_of(block.path())
+
+
+def fault_of(block):
     """Why a block is no quote, or None."""
     path = block.path()
     if path is None or not (TOP / path).is_file():
         return "the block names no file that it quotes"
-    lines = lines_of(path)
     if not any(block.lines):
         return "the block is empty"
-    if path in whole and block.lines + [""] != lines:
-        return f"this is not the whole of {path}"
-    return None if stands_in(block.lines, lines) else f"these lines don't stand so in {path}"
+    return None if stands_in(block.lines, lines_of(path)) else f"these lines don't stand so in {path}"
 
 
 def indented(others):
@@ -92,22 +95,25 @@ def indented(others):
 def faults_in(page):
     """What is wrong with a page, each with its line."""
     blocks, others = parts_of(page)
-    whole, in_part = WHOLE.get(page, []), IN_PART.get(page, [])
     named = [block for block in blocks if page in QUOTES_ALONE or block.path()]
-    told = [(block.first, fault) for block in named if (fault := fault_of(block, whole))]
+    told = [(block.first, fault) for block in named if (fault := fault_of(block))]
     if page in QUOTES_ALONE:
         told += [(number, "code stands here without a fence") for number in indented(others)]
     if not named:
         told.append((1, "the page quotes nothing"))
-    quoted = {block.path() for block in named}
-    missing = [path for path in whole + in_part if path not in quoted]
-    return told + [(1, f"the page doesn't quote {path}") for path in missing], len(named)
+    for path in {*WHOLE.get(page, []), *IN_PART.get(page, [])}:
+        quotes = [block for block in named if block.path() == path]
+        if not quotes:
+            told.append((1, f"the page doesn't quote {path}"))
+        elif path in WHOLE.get(page, []) and not any(map(is_whole, quotes)):
+            told.append((quotes[0].first, f"this is not the whole of {path}"))
+    return told, len(named)
 
 
 def main():
     """Whether each page is as the code is."""
     failed, count = 0, 0
-    for page in (README, LIBRARY, *OF_CRATES):
+    for page in (README, GUIDE, *OF_CRATES):
         faults, quotes = faults_in(page)
         for line, fault in sorted(faults):
             print(f"quoted: {page}:{line}: {fault}")

@@ -1,16 +1,19 @@
 #!/usr/bin/env python3
-"""Runs what README.md shows: the commands of its quick start, and the scripts that stand beside their reports.
+"""Runs what README.md shows: the commands of its quick start, and the scripts that have their reports next to them.
 
-Each command but those of `./test` is run in a folder of links, one after another, as a reader would who copies them;
-it must end with the status of ENDS, write something, and complain of nothing. What the play of a record ends in must be
-allowed by the second reading of the rules. A script that stands on the left of a block must give the report on its
-right. One without events is run in threads, and several times, since the page says that it gives the same whatever the
-schedule.
+Each command of a block but those of `./test` is run in a folder of links, one after another, as a reader would who
+copies them; and then each that the text names with an example. It must end with the status of ENDS, write something,
+and complain of nothing. A file that it writes into the clone must be one that .gitignore knows. What the play of a
+record ends in must be allowed by the second reading of the rules.
+
+A script on the left of a block must give the report on its right, and each page must have those of SCRIPTS. One without
+events is run in threads, and several times, since the page says that it gives the same whatever the schedule.
 
 Of examples/README.md the scripts are run in threads whose lines tell what each call is answered by. Of the examples
 that are played each text in the quotes of a comment must stand in the script or in its report. What a comment says of a
 run in threads depends on the schedule; tools/threads.py judges such runs.
 """
+import fnmatch
 import pathlib
 import re
 import subprocess
@@ -20,12 +23,17 @@ import tempfile
 import program
 from program import TOP
 
-COMMANDS = ["run", "draw", "record", "check", "explore", "explain", "examples", "test"]
+# What README.md has to show, and the names that are in the folder in which it is run.
+COMMANDS = ["./run", "./draw", "./record", "./check", "./explore", "./explain"]
+LINKED = ["examples", *COMMANDS]
 # How a command ends that doesn't end with 0: the history that is shown breaks a rule.
 ENDS = {"./check": 5}
 # What runs this tool isn't run here.
 LEFT_OUT = "./test"
 EVENTS = {"send", "deliver", "run", "collect", "take", "tell", "retire"}
+# The scripts that a page shows, each with its report, by how they are run.
+SCRIPTS = {"README.md": ["play"], "examples/README.md": ["threads"]}
+REPORT = r"\d+: |[ac]\d+[. ]"
 RUNS_IN_THREADS = 20
 MAX_SECONDS = 120
 RECORD = "bank.play"
@@ -45,10 +53,17 @@ def blocks_of(text):
 
 
 def commands_of(text):
-    """The commands that the page shows, without what is said of them."""
+    """The commands that a page shows in blocks, without what is said of them, and those in its text with an example."""
     lines = [line for block in blocks_of(text) for line in block if line.startswith("./")]
     commands = [re.split(r"\s+# ", line)[0].rstrip() for line in lines]
+    commands += [" ".join(code.split()) for code in re.findall(r"`(\./[^`]*\sexamples/[^`]*)`", text)]
     return [command for command in commands if command.split()[0] != LEFT_OUT]
+
+
+def written_by(command):
+    """The file into which a command writes, or None."""
+    into = re.search(r" > (\S+)$", command)
+    return into and into[1]
 
 
 def columns_of(block):
@@ -61,20 +76,25 @@ def columns_of(block):
 
 
 def scripts_of(text):
-    """The scripts that stand beside something: their lines, and those on the right."""
+    """The scripts that have something on their right: their lines, and those."""
     pairs = [columns_of(block) for block in blocks_of(text) if not block[0].startswith("./")]
     return [(script, beside) for script, beside in pairs if beside]
+
+
+def reported_of(text):
+    """The scripts that have their report on their right, and the reports."""
+    return [(script, beside) for script, beside in scripts_of(text) if re.match(REPORT, beside[0])]
 
 
 def mode_of(script):
     return "play" if EVENTS & {line.split()[0] for line in script} else "threads"
 
 
-def faults_of_reports(text, run):
-    """The scripts of README.md that don't give the report beside them; `run` plays one or runs it in threads."""
-    pairs = scripts_of(text)
-    if [mode_of(script) for script, _ in pairs] != ["play", "threads"]:
-        yield "README.md shows no script of events and one for threads, each beside its report"
+def faults_of_reports(page, text, run):
+    """The scripts of a page that don't give the report next to them; `run` plays one or runs it in threads."""
+    pairs = reported_of(text)
+    if (modes := [mode_of(script) for script, _ in pairs]) != SCRIPTS[page]:
+        yield f"{page} has scripts with reports for {modes}, and should have some for {SCRIPTS[page]}"
     for script, report in pairs:
         mode = mode_of(script)
         for _ in range(RUNS_IN_THREADS if mode == "threads" else 1):
@@ -134,22 +154,30 @@ def fault_of_command(command, done):
 
 def faults_of_commands(text, folder):
     """The commands of README.md that don't do what they are shown for, run in this folder."""
-    for name in COMMANDS:
+    for name in LINKED:
         (folder / name).symlink_to(TOP / name)
-    commands = commands_of(text)
-    if len(commands) < len(COMMANDS) - 2:
-        yield f"README.md shows {len(commands)} commands"
-    for command in commands:
+    for command in commands_of(text):
         how = {"cwd": folder, "capture_output": True, "text": True, "timeout": MAX_SECONDS, "check": False}
         done = subprocess.run(["bash", "-c", command], **how)
         if fault := fault_of_command(command, done):
             yield fault
-        into = re.search(r" > (\S+)$", command)
-        written = (folder / into[1]).read_text() if into and (folder / into[1]).exists() else done.stdout
+        into = written_by(command)
+        written = (folder / into).read_text() if into and (folder / into).exists() else done.stdout
         if not written.strip():
             yield f"{command}: it wrote nothing"
         if command.endswith(f" {RECORD}"):
             yield from faults_of_end(command, done.stdout)
+
+
+def faults_of_shown(text, ignored):
+    """The commands that README.md doesn't show, and those that leave a file in the clone, by what .gitignore has."""
+    commands, known = commands_of(text), [line.removeprefix("/") for line in ignored.splitlines()]
+    for missing in sorted({*COMMANDS} - {command.split()[0] for command in commands}):
+        yield f"README.md doesn't show {missing}"
+    for command in commands:
+        into = written_by(command)
+        if into and not any(fnmatch.fnmatchcase(into, pattern) for pattern in known):
+            yield f"{command}: .gitignore doesn't know {into}"
 
 
 def faults_of_end(command, report):
@@ -166,17 +194,20 @@ def faults_of_end(command, report):
 def main():
     for each in program.RUNS, program.RECORDS, program.CHECKS:
         program.kept("readme", each)
-    readme = (TOP / "README.md").read_text()
+    texts = {page: (TOP / page).read_text() for page in SCRIPTS}
+    readme = texts["README.md"]
     with tempfile.TemporaryDirectory(prefix="readme-") as folder:
         faults = [
+            *faults_of_shown(readme, (TOP / ".gitignore").read_text()),
             *faults_of_commands(readme, pathlib.Path(folder)),
-            *faults_of_reports(readme, run_script),
-            *faults_of_answers((TOP / "examples/README.md").read_text(), run_script),
+            *(fault for each in texts.items() for fault in faults_of_reports(*each, run_script)),
+            *faults_of_answers(texts["examples/README.md"], run_script),
             *(fault for each in played_examples().items() for fault in faults_of_example(*each, run_script)),
         ]
     for fault in faults:
         print(fault)
-    counts = f"{len(commands_of(readme))} commands, {len(scripts_of(readme))} scripts and {len(played_examples())} examples"
+    scripts = sum(len(reported_of(text)) for text in texts.values())
+    counts = f"{len(commands_of(readme))} commands, {scripts} scripts and {len(played_examples())} examples"
     print(f"readme: {counts} run: {len(faults)} failed")
     return 1 if faults else 0
 

@@ -27,7 +27,7 @@ def main():
         return program.WRONG_WORDS
     script = program.script_in(words[0] if words else "-")
     records = program.RECORDS
-    return run.run_by("record", [program.kept("record", records), *records.words], "threads", script)[0]
+    return run.run("record", [program.kept("record", records), *records.words], "threads", script)
 
 
 if __name__ == "__main__":

@@ -13,6 +13,7 @@ import sys
 import program
 
 USAGE = "usage: ./run play|threads [FILE]    (without FILE, or where it is `-`, the standard input)\n"
+FAULT = 1
 FOR_BOTH = {b"actor", b"submit", b"copy", b"release", b"kill"}
 
 
@@ -21,37 +22,44 @@ def first_words(script):
     return {line.split(b" ")[0] for line in script.split(b"\n") if line and not line.startswith(b"#")}
 
 
-def tell_unsent(tool, script):
-    """Of a script that was played: says so where no call was ever sent, as in one for threads."""
+def tell_unsent(tool, script, way="./run threads FILE"):
+    """Of a script that was played: says so where no call was ever sent, as in one for threads, for which there is a
+    way."""
     words = first_words(script)
     if b"submit" in words and b"send" not in words:
-        like_threads = "; the script looks like one for threads: ./run threads FILE" if words <= FOR_BOTH else ""
+        like_threads = f"; the script looks like one for threads: {way}" if words <= FOR_BOTH else ""
         program.say(tool, "no call was ever sent, since no line says `send`" + like_threads)
 
 
-def explanation(script, mode):
-    """What is told of a script that the program refuses."""
+def explained(script, mode):
+    """What ./explain tells of a script."""
     import explain  # a fault is rare, and its imports are dear
 
-    return explain.explain(script, mode)
+    return explain.explained(mode, script)
 
 
-def run(tool, mode, script, output=None):
-    """Runs the program, and tells what a reader of the report may miss. Its status, and what it wrote to a pipe."""
-    return run_by(tool, [program.kept(tool), mode], mode, script, output)
+def explanation(script, mode):
+    """The same as text."""
+    return explained(script, mode).text()
 
 
-def run_by(tool, command, mode, script, output=None):
-    """The same by a command that reads scripts of this mode."""
+def outcome_of(command, script, output=None):
+    """Runs a command on a script. Its status, and what it wrote to a pipe."""
     # Where nobody reads on, the program is to say so, and not to be ended by the signal.
     done = subprocess.run(command, input=script, stdout=output, restore_signals=False)
     if done.returncode < 0:
         raise program.Stop(f"the program was ended by signal {-done.returncode}", 128 - done.returncode)
-    if done.returncode == 0 and mode == "play":
-        tell_unsent(tool, script)
-    if done.returncode == 1:
-        program.note(explanation(script, mode))
     return done.returncode, done.stdout
+
+
+def run(tool, command, mode, script):
+    """Runs a command that reads scripts of this mode, and tells what a reader of its report may miss. Its status."""
+    status, _ = outcome_of(command, script)
+    if status == 0 and mode == "play":
+        tell_unsent(tool, script)
+    if status == FAULT:
+        program.note_fault(explanation(script, mode))
+    return status
 
 
 def main():
@@ -64,7 +72,7 @@ def main():
         program.note(USAGE)
         return program.WRONG_WORDS
     script = program.script_in(words[1] if len(words) == 2 else "-")
-    return run("run", words[0], script)[0]
+    return run("run", [program.kept("run"), words[0]], words[0], script)
 
 
 if __name__ == "__main__":

@@ -24,13 +24,14 @@ from page import Page
 
 CHECKS = [
     "rows_of_theorems.py", "rows_in_test.py --check", "audit.py --check", "test_edits.py", "more_edits.py --check",
-    "pages.py", "claims.py", "test_claims.py", "quoted.py", "door.py",
+    "pages.py", "claims.py", "test_claims.py", "quoted.py", "door.py", "reference.py --check", "test_reference.py",
+    "test_new_app.py",
 ]  # fmt: skip
 # What can run over any programs: {run}, {record}, {check} and {explore} stand for those that these commands take.
 OVER_ANY = [
     "commands.py", "readme.py", "recorded.py --noted --program {record} --player {run}", "pictures.py --check",
     "fuzz.py --program {run}", "threads.py --program {run}", "check_histories.py --program {check} --runs {run}",
-    "explained.py --program {run}", "plain_play.py --small --may-miss --program {run}",
+    "explained.py --program {run} --checker {check}", "plain_play.py --small --may-miss --program {run}",
     "test_ray_history.py --program {check}", "peers_checked.py --small --may-miss --program {check}",
     "orders.py --small",
 ]  # fmt: skip
