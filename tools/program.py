@@ -71,9 +71,15 @@ def note_fault(text):
 
 
 def ended(tool, main):
-    """Runs a tool to its end: a Stop is one line and its status, and so is an interrupt."""
+    """Runs a tool to its end: a Stop is one line and its status, and so is an interrupt. A reader that has read enough
+    is no failure to tell of."""
     try:
-        sys.exit(main())
+        status = main()
+        sys.stdout.flush()
+        sys.exit(status)
+    except BrokenPipeError:
+        os.dup2(os.open(os.devnull, os.O_WRONLY), sys.stdout.fileno())
+        sys.exit(141)
     except Stop as why:
         say(tool, why)
         sys.exit(why.status)
