@@ -1,11 +1,12 @@
 -- The counts, the waiting calls and the free calls after an entry, a telling and a sending.
-use Rattle.act_resolver.proofs.Common.{◌≡◌, ◌≢◌, ℕ, zero, suc, ◌+◌, ◌-◌, ◌<◌, ◌≤◌, ◌==◌, ◌&&◌, ◌⊎◌, inl, inr, Bool, true, false, cond, not, eqb, Option, Some}
-use Rattle.act_resolver.proofs.Common.{None, List, [], ◌∷◌, ◌++◌, length, get_or, take, drop, find, count_by, refl, sym, ◌∙◌, ap, arith, slice_set, slice_get}
-use Rattle.act_resolver.proofs.Common.{list_all, range_with_len, option_map_or, length-set, length_push, get_or-set_other, get_or-set_same, get_or_push}
-use Rattle.act_resolver.proofs.Common.{get_or_past, take_all, drop_all, append-nil, sum_by-cons, slice_get-get_or, slice_get_past, slice_get_within}
-use Rattle.act_resolver.proofs.Common.{slice_get_read, cases_lt, cases_eq, eq-eqb, false≢true, eqb_tells, Entered, new_call, is_answered, is_told}
-use Rattle.act_resolver.proofs.Common.{is_next_ready, least_ready, changed_at, IsLeast, waiters_of, futures_at, missing_of, count_number, places_for, is_free}
-use Rattle.act_resolver.proofs.Common.{AreCounted, AreFree, IsResolver, IsTelling}
+use Rattle.act_resolver.proofs.Common.{◌≡◌, ◌≢◌, ℕ, zero, suc, ◌+◌, ◌-◌, ◌<◌, ◌≤◌, ◌==◌, ◌&&◌, ◌⊎◌, inl, inr, Bool, true, false, cond, not, eqb, Option}
+use Rattle.act_resolver.proofs.Common.{Some, None, List, [], ◌∷◌, ◌++◌, length, get_or, take, drop, find, count_by, refl, sym, ◌∙◌, ap, arith, slice_set}
+use Rattle.act_resolver.proofs.Common.{slice_get, list_all, range_with_len, option_map, option_map_or, length-map, length-set, length_push, map-append}
+use Rattle.act_resolver.proofs.Common.{map-set, set-get_or, get_or-set_other, get_or-set_same, take_all, drop_all, append-nil, sum_by-cons}
+use Rattle.act_resolver.proofs.Common.{slice_get-get_or, slice_get-map, slice_get_past, slice_get_within, slice_get_read, get_or_from_slice_get, cases_lt}
+use Rattle.act_resolver.proofs.Common.{cases_eq, eq-eqb, false≢true, eqb_tells, Entered, new_call, is_answered, is_told, is_next_ready, least_ready}
+use Rattle.act_resolver.proofs.Common.{changed_at, IsLeast, waiters_of, futures_at, missing_of, count_number, places_for, is_free, AreCounted, AreFree}
+use Rattle.act_resolver.proofs.Common.{IsResolver, IsTelling, Row, calls_of, missing_at, with_one_less}
 
 not_eqb : (a b : ℕ) → a ≢ b → eqb a b ≡ false
 not_eqb a b other = elim (eqb_tells a b) [ inl told ↦ absurd (other told.1) | inr told ↦ told.0 ]
@@ -33,12 +34,6 @@ get-push_other [] y (suc i) other = refl
 get-push_other (x ∷ xs) y zero other = refl
 get-push_other (x ∷ xs) y (suc i) other = get-push_other xs y i (λ e. other (ap suc e))
 
-get_or-push_other : {X : Type 0} (xs : List X) (y d : X) (i : ℕ) → i ≢ length xs → get_or (xs ++ y ∷ []) i d ≡ get_or xs i d
-get_or-push_other [] y d zero other = absurd (other refl)
-get_or-push_other [] y d (suc i) other = refl
-get_or-push_other (x ∷ xs) y d zero other = refl
-get_or-push_other (x ∷ xs) y d (suc i) other = get_or-push_other xs y d i (λ e. other (ap suc e))
-
 get_or-push_default : {X : Type 0} (xs : List X) (d : X) (i : ℕ) → get_or (xs ++ d ∷ []) i d ≡ get_or xs i d
 get_or-push_default [] d zero = refl
 get_or-push_default [] d (suc i) = refl
@@ -46,18 +41,29 @@ get_or-push_default (x ∷ xs) d zero = refl
 get_or-push_default (x ∷ xs) d (suc i) = get_or-push_default xs d i
 
 -- what is looked up in a list with the same element there
-field_same : {Y : Type 0} (g : Entered → Y) (calls : List Entered) (k i : ℕ) (old new : Entered) (z : Y) → slice_get calls k ≡ Some old → g new ≡ g old → option_map_or g (slice_get (slice_set calls k new) i) z ≡ option_map_or g (slice_get calls i) z
-field_same g calls k i old new z found same =
+field_same : {X Y : Type 0} (g : X → Y) (xs : List X) (k i : ℕ) (old new : X) (z : Y) → slice_get xs k ≡ Some old → g new ≡ g old → option_map_or g (slice_get (slice_set xs k new) i) z ≡ option_map_or g (slice_get xs i) z
+field_same g xs k i old new z found same =
     elim (cases_eq i k) [
-      | inl e ↦ rw (e, get-set_same calls k new (slice_get_within calls k old found), found) same
-      | inr other ↦ rw (get-set_other calls k i new other) refl
+      | inl e ↦ rw (e, get-set_same xs k new (slice_get_within xs k old found), found) same
+      | inr other ↦ rw (get-set_other xs k i new other) refl
     ]
 
-field-set_other : {Y : Type 0} (g : Entered → Y) (calls : List Entered) (k i : ℕ) (new : Entered) (z : Y) → i ≢ k → option_map_or g (slice_get (slice_set calls k new) i) z ≡ option_map_or g (slice_get calls i) z
-field-set_other g calls k i new z other = rw (get-set_other calls k i new other) refl
+field-set_other : {X Y : Type 0} (g : X → Y) (xs : List X) (k i : ℕ) (new : X) (z : Y) → i ≢ k → option_map_or g (slice_get (slice_set xs k new) i) z ≡ option_map_or g (slice_get xs i) z
+field-set_other g xs k i new z other = rw (get-set_other xs k i new other) refl
 
-field-set_same : {Y : Type 0} (g : Entered → Y) (calls : List Entered) (k : ℕ) (new : Entered) (z : Y) → k < length calls → option_map_or g (slice_get (slice_set calls k new) k) z ≡ g new
-field-set_same g calls k new z lt = rw (get-set_same calls k new lt) refl
+-- the calls of rows, where one of these is read and written
+get-calls : (rows : List Row) (k : ℕ) (row : Row) → slice_get rows k ≡ Some row → slice_get (calls_of rows) k ≡ Some row.call
+get-calls rows k row found = slice_get-map (λ (r : Row). r.call) rows k ∙ ap (option_map (λ (r : Row). r.call)) found
+
+pub length-calls : (rows : List Row) → length (calls_of rows) ≡ length rows
+length-calls rows = length-map rows (λ (r : Row). r.call)
+
+set-calls : (rows : List Row) (k : ℕ) (new : Row) → calls_of (slice_set rows k new) ≡ slice_set (calls_of rows) k new.call
+set-calls rows k new = map-set (λ (r : Row). r.call) rows k new
+
+call_same : {Y : Type 0} (g : Entered → Y) (rows : List Row) (k i : ℕ) (old new : Row) (z : Y) → slice_get rows k ≡ Some old → g new.call ≡ g old.call → option_map_or g (slice_get (calls_of (slice_set rows k new)) i) z ≡ option_map_or g (slice_get (calls_of rows) i) z
+call_same g rows k i old new z found same =
+    rw (set-calls rows k new) (field_same g (calls_of rows) k i old.call new.call z (get-calls rows k old found) same)
 
 -- equal tests count the same
 count_same : (p q : ℕ → Bool) (xs : List ℕ) → ((x : ℕ) → p x ≡ q x) → count_by p xs ≡ count_by q xs
@@ -97,36 +103,26 @@ all_told told [] = refl
 all_told told (x ∷ xs) =
     rw (sum_by-cons (λ y. cond (not (told y)) 1 0) x xs) (all_told_more (told x) (count_by (λ y. not (told y)) xs) (list_all told xs) (all_told told xs))
 
-count_known : (calls : List Entered) (counts : List ℕ) (k : ℕ) (call : Entered) → AreCounted calls counts → slice_get calls k ≡ Some call → (get_or counts k 0 == 0) ≡ list_all (is_answered calls) call.futures
-count_known calls counts k call counted found =
-    let named : futures_at calls k ≡ call.futures = rw found refl in
-    ap (λ n. n == 0) (counted k ∙ ap (missing_of calls) named) ∙ all_told (is_answered calls) call.futures
+count_known : (rows : List Row) (k : ℕ) (row : Row) → AreCounted rows → slice_get rows k ≡ Some row → (row.missing == 0) ≡ list_all (is_answered (calls_of rows)) row.call.futures
+count_known rows k row counted found =
+    let here : missing_at rows k ≡ row.missing = rw found refl in
+    let named : futures_at (calls_of rows) k ≡ row.call.futures = rw (get-calls rows k row found) refl in
+    ap (λ n. n == 0) (sym here ∙ counted k ∙ ap (missing_of (calls_of rows)) named) ∙ all_told (is_answered (calls_of rows)) row.call.futures
 
-known_at : (calls : List Entered) (counts : List ℕ) (k : ℕ) → length counts ≡ length calls → AreCounted calls counts → (found : Option Entered) → slice_get calls k ≡ found → option_map_or (λ count. count == 0) (slice_get counts k) false ≡ is_told calls k
-known_at calls counts k size counted None found =
-    elim (cases_lt k (length calls)) [
-      | inl lt ↦ absurd (none_at calls k lt found)
-      | inr le ↦ rw (slice_get_past counts k (omega arith), found) refl
-    ]
-  where
-    none_at : (xs : List Entered) (i : ℕ) → i < length xs → slice_get xs i ≡ None → ⊥
-    none_at [] i lt e = omega arith
-    none_at (x ∷ xs) zero lt e = cc
-    none_at (x ∷ xs) (suc i) lt e = none_at xs i (omega arith) e
-known_at calls counts k size counted (Some call) found =
-    let lt = slice_get_within calls k call found in
-    rw (slice_get-get_or counts k 0 (omega arith), found) (count_known calls counts k call counted found)
+known_at : (rows : List Row) (k : ℕ) → AreCounted rows → (found : Option Row) → slice_get rows k ≡ found → option_map_or (λ row. row.missing == 0) (slice_get rows k) false ≡ is_told (calls_of rows) k
+known_at rows k counted None found = rw (slice_get-map (λ (r : Row). r.call) rows k, found) refl
+known_at rows k counted (Some row) found = rw (get-calls rows k row found, found) (count_known rows k row counted found)
 
-pub known_is : (calls : List Entered) (counts : List ℕ) (k : ℕ) → length counts ≡ length calls → AreCounted calls counts → option_map_or (λ count. count == 0) (slice_get counts k) false ≡ is_told calls k
-known_is calls counts k size counted = known_at calls counts k size counted (slice_get calls k) refl
+pub known_is : (rows : List Row) (k : ℕ) → AreCounted rows → option_map_or (λ row. row.missing == 0) (slice_get rows k) false ≡ is_told (calls_of rows) k
+known_is rows k counted = known_at rows k counted (slice_get rows k) refl
 
 -- the free calls are those that are ready
-free_at : (calls : List Entered) (counts : List ℕ) (k : ℕ) → AreCounted calls counts → (found : Option Entered) → slice_get calls k ≡ found → is_free calls counts k ≡ is_next_ready calls k
-free_at calls counts k counted None found = rw found refl
-free_at calls counts k counted (Some call) found = rw found (ap (λ b. b && not call.sent && not call.answered) (count_known calls counts k call counted found))
+free_at : (rows : List Row) (k : ℕ) → AreCounted rows → (found : Option Row) → slice_get rows k ≡ found → is_free rows k ≡ is_next_ready (calls_of rows) k
+free_at rows k counted None found = rw (slice_get-map (λ (r : Row). r.call) rows k, found) refl
+free_at rows k counted (Some row) found = rw (get-calls rows k row found, found) (ap (λ b. b && not row.call.sent && not row.call.answered) (count_known rows k row counted found))
 
-free_is_ready : (calls : List Entered) (counts : List ℕ) → AreCounted calls counts → (k : ℕ) → is_free calls counts k ≡ is_next_ready calls k
-free_is_ready calls counts counted k = free_at calls counts k counted (slice_get calls k) refl
+free_is_ready : (rows : List Row) → AreCounted rows → (k : ℕ) → is_free rows k ≡ is_next_ready (calls_of rows) k
+free_is_ready rows counted k = free_at rows k counted (slice_get rows k) refl
 
 -- the first number from a on that passes
 find_none : (p : ℕ → Bool) (a n : ℕ) → ((k : ℕ) → p k ≡ false) → find p (range_with_len a n) ≡ None
@@ -141,101 +137,91 @@ find_first p a (suc n) r from below passes first =
       | inr le ↦ let here : a ≡ r = omega arith in rw (here, passes) refl
     ]
 
-ready_within : (calls : List Entered) (counts : List ℕ) (k : ℕ) → is_free calls counts k ≡ true → k < length calls
-ready_within calls counts k free =
-    elim (cases_lt k (length calls)) [
+ready_within : (rows : List Row) (k : ℕ) → is_free rows k ≡ true → k < length rows
+ready_within rows k free =
+    elim (cases_lt k (length rows)) [
       | inl lt ↦ lt
-      | inr le ↦ let none : is_free calls counts k ≡ false = rw (slice_get_past calls k le) refl in absurd (false≢true (sym none ∙ free))
+      | inr le ↦ let none : is_free rows k ≡ false = rw (slice_get_past rows k le) refl in absurd (false≢true (sym none ∙ free))
     ]
 
 -- the least of the free calls is the first that is ready
-pub first_ready_is : (calls : List Entered) (counts : List ℕ) (ready : List Bool) (least : Option ℕ) → AreCounted calls counts → AreFree calls counts ready → IsLeast ready least → least ≡ least_ready calls
-first_ready_is calls counts ready None counted free none =
-    sym (find_none (is_next_ready calls) 0 (length calls) (λ k. sym (free_is_ready calls counts counted k) ∙ sym (free k) ∙ none k))
-first_ready_is calls counts ready (Some r) counted free least =
-    let here : is_free calls counts r ≡ true = sym (free r) ∙ least.0 in
-    let within = ready_within calls counts r here in
-    sym (find_first (is_next_ready calls) 0 (length calls) r (omega arith) (omega arith) (sym (free_is_ready calls counts counted r) ∙ here) (λ k lt. sym (free_is_ready calls counts counted k) ∙ sym (free k) ∙ least.1 k lt))
+pub first_ready_is : (rows : List Row) (ready : List Bool) (least : Option ℕ) → AreCounted rows → AreFree rows ready → IsLeast ready least → least ≡ least_ready (calls_of rows)
+first_ready_is rows ready None counted free none =
+    sym (find_none (is_next_ready (calls_of rows)) 0 (length (calls_of rows)) (λ k. sym (free_is_ready rows counted k) ∙ sym (free k) ∙ none k))
+first_ready_is rows ready (Some r) counted free least =
+    let here : is_free rows r ≡ true = sym (free r) ∙ least.0 in
+    let within = ready_within rows r here in
+    sym (find_first (is_next_ready (calls_of rows)) 0 (length (calls_of rows)) r (omega arith) (omega (arith, length-calls rows)) (sym (free_is_ready rows counted r) ∙ here) (λ k lt. sym (free_is_ready rows counted k) ∙ sym (free k) ∙ least.1 k lt))
 
 -- a call that was read at its place, and opened
-pub found_at : (calls known : List Entered) (len i k : ℕ) (call read : Entered) → calls ≡ known → len ≡ length calls → i ≡ k → k < length known → read ≡ get_or calls i read → call ≡ read → slice_get calls i ≡ Some call
-found_at calls known len i k call read same size here within is opened =
-    slice_get_read calls len i read size (omega (arith, ap length same)) is ∙ ap Some (sym opened)
+pub found_at : (rows : List Row) (known : List Entered) (len i k : ℕ) (row read : Row) → calls_of rows ≡ known → len ≡ length rows → i ≡ k → k < length known → read ≡ get_or rows i read → row ≡ read → slice_get rows i ≡ Some row
+found_at rows known len i k row read same size here within is opened =
+    slice_get_read rows len i read size (omega (arith, length-calls rows, ap length same)) is ∙ ap Some (sym opened)
 
 -- what a write of a changed call leaves
-pub changed_is : (calls : List Entered) (i k : ℕ) (found : Entered) (change : Entered → Entered) → i ≡ k → slice_get calls k ≡ Some found → slice_set calls i (change found) ≡ changed_at calls k change
-changed_is calls i k found change same is = rw (same, is) refl
+pub changed_is : (rows : List Row) (k : ℕ) (found : Row) (change : Entered → Entered) → slice_get rows k ≡ Some found → calls_of (slice_set rows k (record found { call = change found.call })) ≡ changed_at (calls_of rows) k change
+changed_is rows k found change is = rw (set-calls rows k (record found { call = change found.call }), get-calls rows k found is) refl
 
 -- calls that were told and name futures as before
-counted_same : (calls after : List Entered) (counts : List ℕ) → ((future : ℕ) → is_answered after future ≡ is_answered calls future) → ((k : ℕ) → futures_at after k ≡ futures_at calls k) → AreCounted calls counts → AreCounted after counts
-counted_same calls after counts told named counted k =
-    counted k ∙ ap (missing_of calls) (sym (named k)) ∙ count_same (λ future. not (is_answered calls future)) (λ future. not (is_answered after future)) (futures_at after k) (λ future. ap not (sym (told future)))
+counted_same : (rows after : List Row) → ((future : ℕ) → is_answered (calls_of after) future ≡ is_answered (calls_of rows) future) → ((k : ℕ) → futures_at (calls_of after) k ≡ futures_at (calls_of rows) k) → ((k : ℕ) → missing_at after k ≡ missing_at rows k) → AreCounted rows → AreCounted after
+counted_same rows after told named same counted k =
+    same k ∙ counted k ∙ ap (missing_of (calls_of rows)) (sym (named k)) ∙ count_same (λ future. not (is_answered (calls_of rows) future)) (λ future. not (is_answered (calls_of after) future)) (futures_at (calls_of after) k) (λ future. ap not (sym (told future)))
 
 places_same : (calls after : List Entered) → ((future : ℕ) → is_answered after future ≡ is_answered calls future) → ((k : ℕ) → futures_at after k ≡ futures_at calls k) → (future k : ℕ) → places_for calls future k ≡ places_for after future k
 places_same calls after told named future k = rw (told future, named k) refl
 
+-- the free calls after a write
+free_after : (rows : List Row) (ready : List Bool) (k : ℕ) (new : Row) (free : Bool) → k < length rows → length rows ≤ length ready → AreFree rows ready → free ≡ is_free (slice_set rows k new) k → AreFree (slice_set rows k new) (slice_set ready k free)
+free_after rows ready k new free lt room fine is i =
+    elim (cases_eq i k) [
+      | inl e ↦ rw (e, get_or-set_same ready k free false (omega arith)) is
+      | inr other ↦ get_or-set_other ready k i free false other ∙ fine i ∙ rw (get-set_other rows k i new other) refl
+    ]
+
 -- a call is sent
-pub sent_fine : (calls : List Entered) (counts : List ℕ) (lists : List (List ℕ)) (ready : List Bool) (k : ℕ) (call : Entered) → IsResolver calls counts lists ready → slice_get calls k ≡ Some call → IsResolver (slice_set calls k (record call { sent = true })) counts lists (slice_set ready k false)
-sent_fine calls counts lists ready k call fine found =
-    let sent : Entered = record call { sent = true } in
-    let after = slice_set calls k sent in
-    let size = length-set calls k sent in
-    let lt = slice_get_within calls k call found in
-    let told : (future : ℕ) → is_answered after future ≡ is_answered calls future = λ future. field_same (λ (c : Entered). c.answered) calls k future call sent false found refl in
-    let named : (i : ℕ) → futures_at after i ≡ futures_at calls i = λ i. field_same (λ (c : Entered). c.futures) calls k i call sent [] found refl in
+pub sent_fine : (rows : List Row) (lists : List (List ℕ)) (ready : List Bool) (k : ℕ) (row : Row) → IsResolver rows lists ready → slice_get rows k ≡ Some row → IsResolver (slice_set rows k (record row { call = record row.call { sent = true } })) lists (slice_set ready k false)
+sent_fine rows lists ready k row fine found =
+    let sent : Row = record row { call = record row.call { sent = true } } in
+    let after = slice_set rows k sent in
+    let size = length-set rows k sent in
+    let lt = slice_get_within rows k row found in
+    let told : (future : ℕ) → is_answered (calls_of after) future ≡ is_answered (calls_of rows) future = λ future. call_same (λ c. c.answered) rows k future row sent false found refl in
+    let named : (i : ℕ) → futures_at (calls_of after) i ≡ futures_at (calls_of rows) i = λ i. call_same (λ c. c.futures) rows k i row sent [] found refl in
     record {
-      size_counts = omega (arith, size, fine.size_counts);
       size_lists = omega (arith, size, fine.size_lists);
       size_ready = omega (arith, size, fine.size_ready, length-set ready k false);
-      counted = counted_same calls after counts told named fine.counted;
-      waits = λ future i. fine.waits future i ∙ places_same calls after told named future i;
-      free = free;
+      counted = counted_same rows after told named (λ i. field_same (λ (r : Row). r.missing) rows k i row sent 0 found refl) fine.counted;
+      waits = λ future i. fine.waits future i ∙ places_same (calls_of rows) (calls_of after) told named future i;
+      free = free_after rows ready k sent false lt fine.size_ready fine.free (rw (get-set_same rows k sent lt) (never (row.missing == 0) (not row.call.answered)));
     }
   where
     never : (a b : Bool) → false ≡ (a && false && b)
     never true b = refl
     never false b = refl
 
-    free : AreFree (slice_set calls k (record call { sent = true })) counts (slice_set ready k false)
-    free i =
-        let lt = slice_get_within calls k call found in
-        elim (cases_eq i k) [
-          | inl e ↦ rw (e, get_or-set_same ready k false false (omega (arith, fine.size_ready)), get-set_same calls k (record call { sent = true }) lt) (never (get_or counts k 0 == 0) (not call.answered))
-          | inr other ↦ get_or-set_other ready k i false false other ∙ fine.free i ∙ sym (field-set_other (λ (c : Entered). (get_or counts i 0 == 0) && not c.sent && not c.answered) calls k i (record call { sent = true }) false other)
-        ]
-
 -- a future is told: the calls that wait for it are yet to be counted down
-pub told_start : (calls : List Entered) (counts : List ℕ) (lists : List (List ℕ)) (ready : List Bool) (k : ℕ) (call : Entered) → IsResolver calls counts lists ready → slice_get calls k ≡ Some call → IsTelling k (slice_set calls k (record call { answered = true })) counts lists (slice_set ready k false)
-told_start calls counts lists ready k call fine found =
-    let told : Entered = record call { answered = true } in
-    let after = slice_set calls k told in
-    let size = length-set calls k told in
-    let lt = slice_get_within calls k call found in
-    let is : is_answered after k ≡ true = field-set_same (λ (c : Entered). c.answered) calls k told false lt in
-    let others : (future : ℕ) → future ≢ k → is_answered after future ≡ is_answered calls future = λ future other. field-set_other (λ (c : Entered). c.answered) calls k future told false other in
-    let named : (i : ℕ) → futures_at after i ≡ futures_at calls i = λ i. field_same (λ (c : Entered). c.futures) calls k i call told [] found refl in
+pub told_start : (rows : List Row) (lists : List (List ℕ)) (ready : List Bool) (k : ℕ) (row : Row) → IsResolver rows lists ready → slice_get rows k ≡ Some row → IsTelling k (slice_set rows k (record row { call = record row.call { answered = true } })) lists (slice_set ready k false)
+told_start rows lists ready k row fine found =
+    let told : Row = record row { call = record row.call { answered = true } } in
+    let after = slice_set rows k told in
+    let size = length-set rows k told in
+    let lt = slice_get_within rows k row found in
+    let is : is_answered (calls_of after) k ≡ true = rw (get-calls after k told (get-set_same rows k told lt)) refl in
+    let others : (future : ℕ) → future ≢ k → is_answered (calls_of after) future ≡ is_answered (calls_of rows) future = λ future other. rw (set-calls rows k told) (field-set_other (λ (c : Entered). c.answered) (calls_of rows) k future told.call false other) in
+    let named : (i : ℕ) → futures_at (calls_of after) i ≡ futures_at (calls_of rows) i = λ i. call_same (λ c. c.futures) rows k i row told [] found refl in
     record {
-      size_counts = omega (arith, size, fine.size_counts);
       size_lists = omega (arith, size, fine.size_lists);
       size_ready = omega (arith, size, fine.size_ready, length-set ready k false);
-      counted = λ i. rw (named i, fine.waits k i) (fine.counted i ∙ count_told (is_answered calls) (is_answered after) k (futures_at calls i) is others);
+      counted = λ i. rw (named i, fine.waits k i) (field_same (λ (r : Row). r.missing) rows k i row told 0 found refl ∙ fine.counted i ∙ count_told (is_answered (calls_of rows)) (is_answered (calls_of after)) k (futures_at (calls_of rows) i) is others);
       waits = λ future i other. fine.waits future i ∙ rw (others future other, named i) refl;
       answered = is;
-      free = free;
+      free = free_after rows ready k told false lt fine.size_ready fine.free (rw (get-set_same rows k told lt) (never (row.missing == 0) (not row.call.sent)));
     }
   where
     never : (a b : Bool) → false ≡ (a && b && false)
     never true true = refl
     never true false = refl
     never false b = refl
-
-    free : AreFree (slice_set calls k (record call { answered = true })) counts (slice_set ready k false)
-    free i =
-        let lt = slice_get_within calls k call found in
-        elim (cases_eq i k) [
-          | inl e ↦ rw (e, get_or-set_same ready k false false (omega (arith, fine.size_ready)), get-set_same calls k (record call { answered = true }) lt) (never (get_or counts k 0 == 0) (not call.sent))
-          | inr other ↦ get_or-set_other ready k i false false other ∙ fine.free i ∙ sym (field-set_other (λ (c : Entered). (get_or counts i 0 == 0) && not c.sent && not c.answered) calls k i (record call { answered = true }) false other)
-        ]
 
 -- the first call of those that wait
 first_waits : (waiters : List ℕ) (k : ℕ) → slice_get waiters 0 ≡ Some k → waiters ≡ k ∷ drop 1 waiters
@@ -246,79 +232,99 @@ times-cons : (k x : ℕ) (xs : List ℕ) → count_number k (x ∷ xs) ≡ cond 
 times-cons k x xs = sum_by-cons (λ y. cond (y == k) 1 0) x xs
 
 -- it has a count, so it was entered
-pub waiter_counted : (k : ℕ) (calls : List Entered) (counts : List ℕ) (lists : List (List ℕ)) (ready : List Bool) (waiter : ℕ) → IsTelling k calls counts lists ready → slice_get (waiters_of lists k) 0 ≡ Some waiter → 1 ≤ get_or counts waiter 0
-waiter_counted k calls counts lists ready waiter fine first =
+pub waiter_counted : (k : ℕ) (rows : List Row) (lists : List (List ℕ)) (ready : List Bool) (waiter : ℕ) → IsTelling k rows lists ready → slice_get (waiters_of lists k) 0 ≡ Some waiter → 1 ≤ missing_at rows waiter
+waiter_counted k rows lists ready waiter fine first =
     let here : count_number waiter (waiters_of lists k) ≡ 1 + count_number waiter (drop 1 (waiters_of lists k)) = ap (count_number waiter) (first_waits (waiters_of lists k) waiter first) ∙ times-cons waiter waiter (drop 1 (waiters_of lists k)) ∙ rw (eq-eqb waiter waiter refl) refl in
     omega (arith, fine.counted waiter)
 
-pub waiter_entered : (k : ℕ) (calls : List Entered) (counts : List ℕ) (lists : List (List ℕ)) (ready : List Bool) (waiter : ℕ) → IsTelling k calls counts lists ready → slice_get (waiters_of lists k) 0 ≡ Some waiter → waiter < length calls
-waiter_entered k calls counts lists ready waiter fine first =
-    elim (cases_lt waiter (length calls)) [
+pub waiter_entered : (rows : List Row) (waiter : ℕ) → 1 ≤ missing_at rows waiter → waiter < length rows
+waiter_entered rows waiter counted =
+    elim (cases_lt waiter (length rows)) [
       | inl lt ↦ lt
-      | inr le ↦ absurd (omega (arith, waiter_counted k calls counts lists ready waiter fine first, get_or_past counts waiter 0 (omega (arith, fine.size_counts))))
+      | inr le ↦ let none : missing_at rows waiter ≡ 0 = rw (slice_get_past rows waiter le) refl in absurd (omega (arith, none))
     ]
 
-told_entered : (calls : List Entered) (k : ℕ) → is_answered calls k ≡ true → k < length calls
-told_entered calls k told =
-    elim (cases_lt k (length calls)) [
+told_entered : (rows : List Row) (k : ℕ) → is_answered (calls_of rows) k ≡ true → k < length rows
+told_entered rows k told =
+    elim (cases_lt k (length rows)) [
       | inl lt ↦ lt
-      | inr le ↦ let none : is_answered calls k ≡ false = rw (slice_get_past calls k le) refl in absurd (false≢true (sym none ∙ told))
+      | inr le ↦ let none : is_answered (calls_of rows) k ≡ false = rw (slice_get_past (calls_of rows) k (omega (arith, length-calls rows))) refl in absurd (false≢true (sym none ∙ told))
     ]
+
+-- a row that is there
+abbrev row_of : List Row → ℕ → Row
+row_of rows k = get_or rows k (record { call = new_call []; missing = 0 })
+
+row_at : (rows : List Row) (k : ℕ) → k < length rows → slice_get rows k ≡ Some (row_of rows k)
+row_at rows k lt = slice_get-get_or rows k (record { call = new_call []; missing = 0 }) lt
+
+pub same_calls : (rows : List Row) (k : ℕ) → k < length rows → calls_of (with_one_less rows k) ≡ calls_of rows
+same_calls rows k lt =
+    let row = row_of rows k in
+    let found = get-calls rows k row (row_at rows k lt) in
+    rw (row_at rows k lt) (set-calls rows k (record row { missing = row.missing - 1 })
+    ∙ ap (slice_set (calls_of rows) k) (sym (get_or_from_slice_get (calls_of rows) k row.call row.call found))
+    ∙ set-get_or (calls_of rows) k row.call)
 
 -- one place of a call that waits is told
-pub told_step : (k : ℕ) (calls : List Entered) (counts : List ℕ) (lists : List (List ℕ)) (ready : List Bool) (waiter : ℕ) → IsTelling k calls counts lists ready → slice_get (waiters_of lists k) 0 ≡ Some waiter → IsTelling k calls (slice_set counts waiter (get_or counts waiter 0 - 1)) (slice_set lists k (drop 1 (waiters_of lists k))) (slice_set ready waiter (is_free calls (slice_set counts waiter (get_or counts waiter 0 - 1)) waiter))
-told_step k calls counts lists ready waiter fine first =
-    let lt = told_entered calls k fine.answered in
+pub told_step : (k : ℕ) (rows : List Row) (lists : List (List ℕ)) (ready : List Bool) (waiter : ℕ) → IsTelling k rows lists ready → slice_get (waiters_of lists k) 0 ≡ Some waiter → IsTelling k (with_one_less rows waiter) (slice_set lists k (drop 1 (waiters_of lists k))) (slice_set ready waiter (is_free (with_one_less rows waiter) waiter))
+told_step k rows lists ready waiter fine first =
+    let counted = waiter_counted k rows lists ready waiter fine first in
+    let within = waiter_entered rows waiter counted in
+    let lt = told_entered rows k fine.answered in
     let rest = drop 1 (waiters_of lists k) in
-    let less = get_or counts waiter 0 - 1 in
+    let row = row_of rows waiter in
+    let less : Row = record row { missing = row.missing - 1 } in
+    let before : missing_at rows waiter ≡ row.missing = rw (row_at rows waiter within) refl in
+    let after : with_one_less rows waiter ≡ slice_set rows waiter less = rw (row_at rows waiter within) refl in
+    let same : calls_of (slice_set rows waiter less) ≡ calls_of rows = ap calls_of (sym after) ∙ same_calls rows waiter within in
     let is : waiters_of lists k ≡ waiter ∷ rest = first_waits (waiters_of lists k) waiter first in
     let shorter : waiters_of (slice_set lists k rest) k ≡ rest = get_or-set_same lists k rest [] (omega (arith, fine.size_lists)) in
-    let within = waiter_entered k calls counts lists ready waiter fine first in
-    let counted = waiter_counted k calls counts lists ready waiter fine first in
-    record {
-      size_counts = omega (arith, fine.size_counts, length-set counts waiter less);
-      size_lists = omega (arith, fine.size_lists, length-set lists k rest);
-      size_ready = omega (arith, fine.size_ready, length-set ready waiter (is_free calls (slice_set counts waiter less) waiter));
-      counted = λ i. rw shorter (elim (cases_eq i waiter) [
+    let free = is_free (slice_set rows waiter less) waiter in
+    rw after (record {
+      size_lists = omega (arith, fine.size_lists, length-set lists k rest, length-set rows waiter less);
+      size_ready = omega (arith, fine.size_ready, length-set ready waiter free, length-set rows waiter less);
+      counted = λ i. rw (same, shorter) (elim (cases_eq i waiter) [
         | inl e ↦
             let here : count_number waiter (waiters_of lists k) ≡ 1 + count_number waiter rest = ap (count_number waiter) is ∙ times-cons waiter waiter rest ∙ rw (eq-eqb waiter waiter refl) refl in
-            rw (e, get_or-set_same counts waiter less 0 (omega (arith, fine.size_counts))) (omega (arith, fine.counted waiter))
+            rw (e, get-set_same rows waiter less within) (omega (arith, fine.counted waiter))
         | inr other ↦
             let here : count_number i (waiters_of lists k) ≡ 0 + count_number i rest = ap (count_number i) is ∙ times-cons i waiter rest ∙ rw (not_eqb waiter i (λ e. other (sym e))) refl in
-            rw (get_or-set_other counts waiter i less 0 other) (omega (arith, fine.counted i))
+            rw (get-set_other rows waiter i less other) (omega (arith, fine.counted i))
       ]);
-      waits = λ future i other. rw (get_or-set_other lists k future rest [] other) (fine.waits future i other);
-      answered = fine.answered;
-      free = λ i. elim (cases_eq i waiter) [
-        | inl e ↦ rw (e, get_or-set_same ready waiter (is_free calls (slice_set counts waiter less) waiter) false (omega (arith, fine.size_ready))) refl
-        | inr other ↦ get_or-set_other ready waiter i (is_free calls (slice_set counts waiter less) waiter) false other ∙ fine.free i ∙ rw (get_or-set_other counts waiter i less 0 other) refl
-      ];
-    }
+      waits = λ future i other. rw (same, get_or-set_other lists k future rest [] other) (fine.waits future i other);
+      answered = rw same fine.answered;
+      free = free_after rows ready waiter less free within fine.size_ready fine.free refl;
+    })
 
 -- a call is entered
-pub entered_fine : (calls : List Entered) (counts : List ℕ) (lists after : List (List ℕ)) (ready : List Bool) (k count : ℕ) (futures : List ℕ) → IsResolver calls counts lists ready → k ≡ length calls → k < length ready → count ≡ missing_of calls futures → length after ≡ length (lists ++ [] ∷ []) → ((future call : ℕ) → count_number call (waiters_of after future) ≡ count_number call (waiters_of (lists ++ [] ∷ []) future) + cond ((call == k) && not (is_answered calls future)) (count_number future futures) 0) → IsResolver (calls ++ new_call futures ∷ []) (counts ++ count ∷ []) after (slice_set ready k (count == 0))
-entered_fine calls counts lists after ready k count futures fine next room is size waits =
+pub entered_fine : (rows : List Row) (lists after : List (List ℕ)) (ready : List Bool) (k count : ℕ) (futures : List ℕ) → IsResolver rows lists ready → k ≡ length rows → k < length ready → count ≡ missing_of (calls_of rows) futures → length after ≡ length (lists ++ [] ∷ []) → ((future call : ℕ) → count_number call (waiters_of after future) ≡ count_number call (waiters_of (lists ++ [] ∷ []) future) + cond ((call == k) && not (is_answered (calls_of rows) future)) (count_number future futures) 0) → IsResolver (rows ++ record { call = new_call futures; missing = count } ∷ []) after (slice_set ready k (count == 0))
+entered_fine rows lists after ready k count futures fine next room is size waits =
+    let calls = calls_of rows in
     let new : Entered = new_call futures in
+    let row : Row = record { call = new; missing = count } in
     let more = calls ++ new ∷ [] in
+    let all : calls_of (rows ++ row ∷ []) ≡ more = map-append (λ (r : Row). r.call) rows (row ∷ []) in
+    let next_call : k ≡ length calls = next ∙ sym (length-calls rows) in
     let told : (future : ℕ) → is_answered more future ≡ is_answered calls future = λ future. elim (cases_eq future (length calls)) [
       | inl e ↦ rw (e, get-push_here calls new, slice_get_past calls (length calls) (omega arith)) refl
       | inr other ↦ rw (get-push_other calls new future other) refl
     ] in
-    let named : (i : ℕ) → i ≢ k → futures_at more i ≡ futures_at calls i = λ i other. rw (get-push_other calls new i (λ e. other (e ∙ sym next))) refl in
-    let here : futures_at more k ≡ futures = rw (next, get-push_here calls new) refl in
+    let named : (i : ℕ) → i ≢ k → futures_at more i ≡ futures_at calls i = λ i other. rw (get-push_other calls new i (λ e. other (e ∙ sym next_call))) refl in
+    let here : futures_at more k ≡ futures = rw (next_call, get-push_here calls new) refl in
     let nothing : futures_at calls k ≡ [] = rw (slice_get_past calls k (omega arith)) refl in
+    let waiting : (future : ℕ) (xs : List ℕ) → missing_of calls xs ≡ missing_of more xs = λ future xs. count_same (λ future. not (is_answered calls future)) (λ future. not (is_answered more future)) xs (λ future. ap not (sym (told future))) in
     record {
-      size_counts = omega (arith, fine.size_counts, length_push calls new, length_push counts count);
-      size_lists = omega (arith, fine.size_lists, length_push calls new, length_push lists []);
-      size_ready = omega (arith, length_push calls new, length-set ready k (count == 0));
-      counted = λ i. elim (cases_eq i k) [
-        | inl e ↦ rw (e, here) (get_or_push counts count 0 k (omega (arith, fine.size_counts)) ∙ is ∙ count_same (λ future. not (is_answered calls future)) (λ future. not (is_answered more future)) futures (λ future. ap not (sym (told future))))
-        | inr other ↦ get_or-push_other counts count 0 i (λ e. other (e ∙ fine.size_counts ∙ sym next)) ∙ fine.counted i ∙ ap (missing_of calls) (sym (named i other)) ∙ count_same (λ future. not (is_answered calls future)) (λ future. not (is_answered more future)) (futures_at more i) (λ future. ap not (sym (told future)))
-      ];
-      waits = λ future i. waits future i ∙ rw (get_or-push_default lists [] future, told future) (elim (cases_eq i k) [
+      size_lists = omega (arith, fine.size_lists, length_push rows row, length_push lists []);
+      size_ready = omega (arith, length_push rows row, length-set ready k (count == 0));
+      counted = λ i. rw all (elim (cases_eq i k) [
+        | inl e ↦ rw (e, here, next, get-push_here rows row) (is ∙ waiting k futures)
+        | inr other ↦ rw (get-push_other rows row i (λ e. other (e ∙ sym next)), named i other) (fine.counted i ∙ waiting i (futures_at calls i))
+      ]);
+      waits = λ future i. rw all (waits future i ∙ rw (get_or-push_default lists [] future, told future) (elim (cases_eq i k) [
         | inl e ↦ rw (e, eq-eqb k k refl, here, fine.waits future k, nothing) (new_places (is_answered calls future) (count_number future futures))
         | inr other ↦ rw (not_eqb i k other, named i other, fine.waits future i) (omega arith)
-      ]);
+      ]));
       free = free;
     }
   where
@@ -330,11 +336,12 @@ entered_fine calls counts lists after ready k count futures fine next room is si
     plain true = refl
     plain false = refl
 
-    free : AreFree (calls ++ new_call futures ∷ []) (counts ++ count ∷ []) (slice_set ready k (count == 0))
+    free : AreFree (rows ++ record { call = new_call futures; missing = count } ∷ []) (slice_set ready k (count == 0))
     free i =
+        let row : Row = record { call = new_call futures; missing = count } in
         elim (cases_eq i k) [
-          | inl e ↦ rw (e, get_or-set_same ready k (count == 0) false room, get_or_push counts count 0 k (omega (arith, fine.size_counts)), next, get-push_here calls (new_call futures)) (plain (count == 0))
-          | inr other ↦ get_or-set_other ready k i (count == 0) false other ∙ fine.free i ∙ rw (get-push_other calls (new_call futures) i (λ e. other (e ∙ sym next)), get_or-push_other counts count 0 i (λ e. other (e ∙ fine.size_counts ∙ sym next))) refl
+          | inl e ↦ rw (e, get_or-set_same ready k (count == 0) false room, next, get-push_here rows row) (plain (count == 0))
+          | inr other ↦ get_or-set_other ready k i (count == 0) false other ∙ fine.free i ∙ rw (get-push_other rows row i (λ e. other (e ∙ sym next))) refl
         ]
 
 -- a list that was written over as a slice

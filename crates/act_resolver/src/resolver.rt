@@ -1,9 +1,9 @@
 //! The calls of one caller, and which of them may be sent next.
 
-ghost use Rattle.std.specs.Prelude.{◌≡◌, ℕ, ◌+◌, ◌-◌, ◌<◌, ◌≤◌, ◌==◌, ◌&&◌, not, false, Some, None, [], ◌∷◌, ◌++◌, if◌then◌else◌, length, All, IsOk, OnOk, OnErr, slice_get, slice_set, slice_index, slice_index_or, ◌*◌, drop};
-ghost use Rattle.std.specs.Option.{option_copied, option_map_or};
+ghost use Rattle.std.specs.Prelude.{◌≡◌, ℕ, ◌+◌, ◌-◌, ◌<◌, ◌≤◌, ◌==◌, ◌&&◌, not, false, Some, None, [], ◌∷◌, ◌++◌, if◌then◌else◌, length, All, IsOk, OnOk, OnErr, slice_get, slice_set, slice_index_or, ◌*◌, drop};
+ghost use Rattle.std.specs.Option.{option_copied};
 ghost use Rattle.act_resolver.specs.Resolver.{new_call, is_answered, is_marked_sent, is_told, least_ready, with_told, with_mark};
-ghost use Rattle.act_resolver.specs.Counts.{is_free, count_number, missing_of};
+ghost use Rattle.act_resolver.specs.Counts.{calls_of, is_free, count_number, missing_at, missing_of, with_one_less};
 ghost use Rattle.act_resolver.specs.Waiters.{waiters_of};
 
 use crate::least::LeastSet;
@@ -14,17 +14,43 @@ use std::marker::Model;
 /// A call that was entered.
 #[derive(Drop)]
 struct Call {
-    futures: Futures,
+    /// The futures among its arguments are so many of these. As `Futures` they would take four bytes more.
+    futures: [FutureId; MAX_ARGS],
+    count: u8,
+    /// How many places among its arguments wait for an answer.
+    missing: u8,
     answered: bool,
     sent: bool,
 }
 
 impl Model for Call {
-    ghost use Rattle.act_resolver.specs.Resolver.{Entered};
+    ghost use Rattle.std.specs.Prelude.{take};
+    ghost use Rattle.act_resolver.specs.Counts.{Row};
 
-    ghost Value = { Entered };
+    ghost Value = { Row };
 
-    ghost view = { λ call. record { futures = call.futures; answered = call.answered; sent = call.sent } };
+    ghost view = { λ call. record {
+      call = record { futures = take call.count call.futures; answered = call.answered; sent = call.sent };
+      missing = call.missing;
+    } };
+}
+
+impl Call {
+    fn new(futures: &[FutureId], missing: u8) -> Call
+        requires { length futures.now ≤ MAX_ARGS }
+        ensures { result ≡ record { call = new_call futures.now; missing = missing } }
+    {
+        let mut places = [FutureId::new(0); MAX_ARGS];
+        let len = futures.len();
+        places[..len].copy_from_slice(futures);
+        Call {
+            futures: places,
+            count: len as u8,
+            missing,
+            answered: false,
+            sent: false,
+        }
+    }
 }
 
 /// The calls of one caller, numbered from 0 as their futures are. Each names the futures that it
@@ -32,8 +58,6 @@ impl Model for Call {
 #[derive(Drop)]
 pub struct Resolver {
     calls: Vec<Call>,
-    /// Of each call, how many places among its arguments wait for an answer.
-    missing: Vec<u8>,
     waiters: Waiters,
     ready: LeastSet,
 }
@@ -41,21 +65,19 @@ pub struct Resolver {
 impl Model for Resolver {
     ghost use Rattle.std.specs.Prelude.{◌-◌, ◌/◌, min, length, vec_len, vec_capacity};
     ghost use Rattle.act_types.specs.declared.limits.TheConstants.{MAX_ARGS};
-    ghost use Rattle.act_resolver.specs.Counts.{IsResolver};
+    ghost use Rattle.act_resolver.specs.Counts.{IsResolver, calls_of};
     ghost use Rattle.act_resolver.specs.Resolver.{ResolverView};
 
     ghost Value = { ResolverView };
 
     ghost view = { λ resolver. record {
-      calls = resolver.calls.items;
-      spare = min (min (vec_capacity resolver.calls - vec_len resolver.calls)
-          (vec_capacity resolver.missing - vec_len resolver.missing))
+      calls = calls_of resolver.calls.items;
+      spare = min (vec_capacity resolver.calls - vec_len resolver.calls)
           (min (min resolver.waiters.future_room (resolver.waiters.place_room / MAX_ARGS))
           (length resolver.ready - vec_len resolver.calls));
     } };
 
-    ghost invariant = { λ resolver.
-        IsResolver resolver.calls.items resolver.missing.items resolver.waiters.lists resolver.ready };
+    ghost invariant = { λ resolver. IsResolver resolver.calls.items resolver.waiters.lists resolver.ready };
 }
 
 impl Resolver {
@@ -65,7 +87,6 @@ impl Resolver {
     {
         Resolver {
             calls: Vec::new(alloc),
-            missing: Vec::new(alloc),
             waiters: Waiters::new(alloc),
             ready: LeastSet::new(alloc),
         }
@@ -79,7 +100,6 @@ impl Resolver {
         ensures spare { self.old.spare ≤ self.new.spare }
     {
         self.calls.reserve(1)?;
-        self.missing.reserve(1)?;
         self.waiters.reserve_one()?;
         self.ready.make_room(self.calls.len() + 1)?;
         Ok(())
@@ -94,7 +114,6 @@ impl Resolver {
         ensures spare { self.old.spare ≤ self.new.spare }
     {
         self.calls.reserve(count)?;
-        self.missing.reserve(count)?;
         self.waiters.reserve(count)?;
         self.ready.make_room(self.calls.len() + count)?;
         Ok(())
@@ -107,7 +126,6 @@ impl Resolver {
         ensures spare { self.old.spare ≤ self.new.spare }
     {
         self.calls.reserve(calls)?;
-        self.missing.reserve(calls)?;
         self.waiters.reserve_futures(calls)?;
         self.ready.make_room(self.calls.len() + calls)?;
         Ok(())
@@ -143,12 +161,7 @@ impl Resolver {
         prove_eq!(k.number() as usize, self.calls.len());
         self.waiters.add_future();
         let missing = add_places(&self.calls, &mut self.waiters, k, futures);
-        self.calls.push_reserved(Call {
-            futures: Futures::new(futures),
-            answered: false,
-            sent: false,
-        });
-        self.missing.push_reserved(missing);
+        self.calls.push_reserved(Call::new(futures, missing));
         self.ready.set(k.number() as usize, missing == 0);
     }
 
@@ -166,7 +179,7 @@ impl Resolver {
         call.answered = true;
         take_out(&mut self.ready, place, may_be_ready);
         while let Some(waiter) = self.waiters.pop(k) {
-            tell_place(&self.calls, &mut self.missing, &mut self.ready, waiter);
+            tell_place(&mut self.calls, &mut self.ready, waiter);
         }
     }
 
@@ -194,20 +207,14 @@ impl Resolver {
     pub fn is_sent(&self, k: FutureId) -> bool
         ensures { result ≡ is_marked_sent self.now.calls k }
     {
-        self.call(k).is_some_and(|call| call.sent)
+        call_at(&self.calls, k).is_some_and(|call| call.sent)
     }
 
     /// Whether call `k` was entered and every future among its arguments is answered.
     pub fn is_known(&self, k: FutureId) -> bool
         ensures { result ≡ is_told self.now.calls k }
     {
-        is_zero(&self.missing, k)
-    }
-
-    fn call(&self, k: FutureId) -> Option<&Call>
-        ensures { option_copied result ≡ slice_get self.now.calls k }
-    {
-        self.calls.get(k.number() as usize)
+        call_at(&self.calls, k).is_some_and(|call| call.missing == 0)
     }
 }
 
@@ -228,11 +235,12 @@ fn add_places(calls: &[Call], waiters: &mut Waiters, k: FutureId, futures: &[Fut
     requires earlier { All (λ future. future < length waiters.old.lists) futures.now }
     requires room { MAX_ARGS ≤ waiters.old.place_room }
 
-    ensures count { result ≡ missing_of calls.now futures.now }
+    ensures count { result ≡ missing_of (calls_of calls.now) futures.now }
     ensures lists { (future call : ℕ) →
         count_number call (waiters_of waiters.new.lists future)
         ≡ count_number call (waiters_of waiters.old.lists future)
-        + (if (call == k) && not (is_answered calls.now future) then count_number future futures.now else 0) }
+        + (if (call == k) && not (is_answered (calls_of calls.now) future) then count_number future futures.now
+            else 0) }
     ensures length { length waiters.new.lists ≡ length waiters.old.lists }
     ensures future_room { waiters.new.future_room ≡ waiters.old.future_room }
     ensures place_room { waiters.old.place_room ≤ waiters.new.place_room + MAX_ARGS }
@@ -248,35 +256,30 @@ fn add_places(calls: &[Call], waiters: &mut Waiters, k: FutureId, futures: &[Fut
 }
 
 fn is_answered(calls: &[Call], k: FutureId) -> bool
-    ensures { result ≡ is_answered calls.now k }
+    ensures { result ≡ is_answered (calls_of calls.now) k }
 {
-    calls
-        .get(k.number() as usize)
-        .is_some_and(|call| call.answered)
+    call_at(calls, k).is_some_and(|call| call.answered)
 }
 
-fn is_zero(counts: &[u8], k: FutureId) -> bool
-    ensures { result ≡ option_map_or (λ count. count == 0) (slice_get counts.now k) false }
+fn call_at(calls: &[Call], k: FutureId) -> Option<&Call>
+    ensures { option_copied result ≡ slice_get calls.now k }
 {
-    counts
-        .get(k.number() as usize)
-        .is_some_and(|count| *count == 0)
+    calls.get(k.number() as usize)
 }
 
 /// One place of call `k` waits no more.
-fn tell_place(calls: &[Call], missing: &mut [u8], ready: &mut LeastSet, k: FutureId)
-    requires entered { k < length calls.now }
-    requires counted { length missing.old ≡ length calls.now }
-    requires waits { 1 ≤ slice_index missing.old k }
-    requires room { length calls.now ≤ length ready.old }
+fn tell_place(calls: &mut [Call], ready: &mut LeastSet, k: FutureId)
+    requires entered { k < length calls.old }
+    requires waits { 1 ≤ missing_at calls.old k }
+    requires room { length calls.old ≤ length ready.old }
 
-    ensures missing { missing.new ≡ slice_set missing.old k (slice_index missing.old k - 1) }
-    ensures ready { ready.new ≡ slice_set ready.old k (is_free calls.now missing.new k) }
+    ensures calls { calls.new ≡ with_one_less calls.old k }
+    ensures ready { ready.new ≡ slice_set ready.old k (is_free calls.new k) }
 {
     let place = k.number() as usize;
-    missing[place] -= 1;
-    let call = &calls[place];
-    let is_free = missing[place] == 0 && !call.sent && !call.answered;
+    let call = &mut calls[place];
+    call.missing -= 1;
+    let is_free = call.missing == 0 && !call.sent && !call.answered;
     ready.set(place, is_free);
 }
 

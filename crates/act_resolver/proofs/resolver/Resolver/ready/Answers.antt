@@ -6,5 +6,5 @@ pub returns : goal.returns
 returns c =
     let same : c.map.result ≡ c.least.result = search rules in
     same
-    ∙ first_ready_is c.self.inside.calls.items c.self.inside.missing.items c.self.inside.ready c.least.result c.self.invariant.counted c.self.invariant.free c.least.ensures
+    ∙ first_ready_is c.self.inside.calls.items c.self.inside.ready c.least.result c.self.invariant.counted c.self.invariant.free c.least.ensures
     ∙ ap (λ v. least_ready v.calls) c.self.view_is
