@@ -4,6 +4,7 @@ pub mod Placed
 pub mod Roles
 pub mod ThreadsRun
 pub mod Told
+pub mod Signs
 pub mod Stocked
 pub mod Shown
 pub mod Sorting

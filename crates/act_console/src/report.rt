@@ -1,6 +1,6 @@
 //! The text of a report.
 
-ghost use Rattle.std.specs.Prelude.{◌≡◌, ◌≤◌, ◌+◌, ◌++◌, List, [], OnOk, OnErr, IfOk, string_bytes, length, option_copied, decimal};
+ghost use Rattle.std.specs.Prelude.{◌≡◌, ◌≤◌, ◌+◌, ◌++◌, List, [], OnOk, OnErr, IfOk, true, false, string_bytes, length, option_copied, decimal};
 ghost use Rattle.std.specs.List.{flat_map};
 ghost use Rattle.std.specs.Vec.{vec_len};
 ghost use Rattle.act_types.specs.Texts.{space, actor_text, settled_text, value_text};
@@ -83,7 +83,33 @@ fn push_kept(text: &mut String, kept: Option<&Answer>) -> Result<(), AllocError>
     }
 }
 
-/// Adds the line of a future: its actor, and what is kept.
+/// Puts what is kept of a future, and the end of its line, where both are short. Tells whether it did.
+fn put_kept(end: &mut Tail, kept: Option<&Answer>) -> bool
+    requires { end.old ≡ [] }
+    ensures whole { result ≡ true → end.new ≡ line (kept_text (option_copied kept.entry)) }
+    ensures none { result ≡ false → end.new ≡ [] }
+    ensures short { length end.new ≤ 40 }
+{
+    match kept {
+        None => {
+            end.put_word(" ?\n");
+            true
+        }
+        Some(Ok(Value::Unit)) => {
+            end.put_word(" = unit\n");
+            true
+        }
+        Some(Ok(Value::Int(number))) => {
+            end.put(b'\n');
+            end.put_int(*number);
+            end.put_word(" = ");
+            true
+        }
+        _ => false,
+    }
+}
+
+/// Adds the line of a future: its actor, and what is kept. Most lines are short, and are added at once.
 fn push_line(
     text: &mut String,
     caller: CallerId,
@@ -95,11 +121,15 @@ fn push_line(
         string_bytes text.old ++ line
         (future_text caller k ++ space ++ actor_text actor ++ kept_text (option_copied kept.entry))) }
 {
-    let mut line = Tail::new();
-    line.put_actor(actor);
-    line.put(b' ');
-    line.put_future(caller, k);
-    text.push_str(line.as_str())?;
+    let mut front = Tail::new();
+    let is_whole = put_kept(&mut front, kept);
+    front.put_actor(actor);
+    front.put(b' ');
+    front.put_future(caller, k);
+    text.push_str(front.as_str())?;
+    if is_whole {
+        return Ok(());
+    }
     push_kept(text, kept)
 }
 
@@ -123,10 +153,23 @@ pub(crate) fn push_futures(text: &mut String, owner: &Owner) -> Result<(), Alloc
     Ok(())
 }
 
+/// Adds a number after a space.
+fn push_spaced(text: &mut String, number: i64) -> Result<(), AllocError>
+    ensures { OnOk result (string_bytes text.new ≡ string_bytes text.old ++ (space ++ signed_decimal number)) }
+{
+    let mut word = Tail::new();
+    word.put_int(number);
+    word.put(b' ');
+    text.push_str(word.as_str())
+}
+
 /// Adds an argument of a call that ran, after a space.
 fn push_arg(text: &mut String, arg: &Settled) -> Result<(), AllocError>
     ensures { OnOk result (string_bytes text.new ≡ string_bytes text.old ++ (space ++ settled_text arg.now)) }
 {
+    if let Settled::Good(Value::Int(number)) = arg {
+        return push_spaced(text, *number);
+    }
     text.push_str(" ")?;
     push_settled(text, arg)
 }
@@ -408,23 +451,35 @@ pub(crate) fn push_settled(text: &mut String, arg: &Settled) -> Result<(), Alloc
     }
 }
 
-/// Puts what an event did before the end of its line.
+/// Puts what an event did before the end of its line. What most events do is spelled out, so that the
+/// length of each word is known where it is put.
 fn put_did(line: &mut Tail, did: &Did)
     requires room { length line.old ≤ 4 }
     ensures text { line.new ≡ did_text did.now ++ line.old }
     ensures short { length line.new ≤ length line.old + 60 }
 {
     match *did {
-        Did::Future(caller, future) => put_named(line, "future ", caller, future),
+        Did::Future(caller, future) => {
+            line.put_future(caller, future);
+            line.put_word("future ");
+        }
         Did::Copies(copies) => put_numbered(line, "copies ", copies as u64),
-        Did::Mail(place) => put_numbered(line, "mail ", place as u64),
+        Did::Mail(place) => {
+            line.put_number(place as u64);
+            line.put_word("mail ");
+        }
         Did::Arrived(arrival) => line.put_word(arrival.word()),
         Did::Ran(place, reply) => {
-            put_numbered(line, " reply ", reply as u64);
-            put_numbered(line, "place ", place as u64);
+            line.put_number(reply as u64);
+            line.put_word(" reply ");
+            line.put_number(place as u64);
+            line.put_word("place ");
         }
         Did::Gap => line.put_word("gap"),
-        Did::Kept(caller, future) => put_named(line, "kept ", caller, future),
+        Did::Kept(caller, future) => {
+            line.put_future(caller, future);
+            line.put_word("kept ");
+        }
         Did::Late(caller, future) => put_named(line, "late ", caller, future),
         Did::Died(answered) => put_numbered(line, "died ", answered as u64),
         Did::Asked => line.put_word("asked"),

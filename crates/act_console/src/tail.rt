@@ -2,6 +2,7 @@
 
 ghost use Rattle.std.specs.Prelude.{◌≡◌, ◌+◌, ◌≤◌, ◌<◌, ℕ, List, [], ◌∷◌, ◌++◌, length, drop, decimal};
 ghost use Rattle.std.specs.Str.{IsAscii};
+ghost use Rattle.std.specs.Fmt.{signed_decimal};
 ghost use Rattle.act_types.specs.Texts.{actor_text};
 ghost use Rattle.act_rules.specs.Report.{future_text};
 
@@ -79,6 +80,20 @@ impl Tail {
         ensures short { length self.new ≤ length self.old + 20 }
     {
         self.start = write_digits(number, &mut self.bytes, self.start);
+    }
+
+    /// Puts a signed number before it.
+    #[inline(always)]
+    #[tactic(auto, using(crate::proofs::Signs::signed_below, crate::proofs::Signs::signed_other))]
+    pub(crate) fn put_int(&mut self, number: i64)
+        requires room { length self.old + 21 ≤ 128 }
+        ensures text { self.new ≡ signed_decimal number ++ self.old }
+        ensures short { length self.new ≤ length self.old + 21 }
+    {
+        self.put_number(number.unsigned_abs());
+        if number.is_negative() {
+            self.put(b'-');
+        }
     }
 
     /// Puts the number of a caller or an actor before it. Most have one digit.
