@@ -34,7 +34,7 @@ pub use Rattle.std.proofs.lemmas.Map.Made.{IsDistinct-from_AllPairs}
 pub use Rattle.std.proofs.lemmas.Map.Steps.{length-le_from_distinct_below}
 pub use Rattle.std.proofs.lemmas.Result.{err_from_is_err_and}
 pub use Rattle.std.proofs.lemmas.Str.Ascii.{IsAscii-cons, IsAscii-nil}
-pub use Rattle.std.proofs.lemmas.Str.Parse.{parse_digits, parse_signed_digits, parse_signed_minus}
+pub use Rattle.std.proofs.lemmas.Str.Parse.{parse_plain, parse_signed_digits, parse_signed_minus}
 pub use Rattle.std.proofs.lemmas.Str.Pattern.{strip_prefix_char, strip_suffix_char}
 pub use Rattle.std.specs.Int.{w64}
 pub use Rattle.std.specs.List.{IsDistinct, list_all, list_any, onto_first, slice_split}

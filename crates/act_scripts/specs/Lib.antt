@@ -1,3 +1,4 @@
 pub mod Gives
 pub mod Spelled
 pub mod Roles
+pub mod Numerals

@@ -1,6 +1,6 @@
 //! Lines and scripts.
 
-ghost use Rattle.std.specs.Prelude.{◌≡◌, ◌==◌, true, ◌≤◌, ◌<◌, ◌^◌, ◌+◌, ◌++◌, ◌∷◌, [], List, ℕ, map, take, drop, Ok, IfOk, OnOk, IfErr, IfSome, length};
+ghost use Rattle.std.specs.Prelude.{◌≡◌, ◌==◌, true, ◌≤◌, ◌<◌, ◌^◌, ◌+◌, ◌++◌, ◌∷◌, [], List, ℕ, map, take, drop, Ok, IfOk, OnOk, IfErr, length};
 ghost use Rattle.std.specs.List.{list_all, list_any};
 ghost use Rattle.act_scripts.specs.Gives.{Gives, Fails};
 ghost use Rattle.act_scripts.specs.Spelled.{IsLineOf, LeavesScript, GivesScript, mode_of, count_of, spelled_script, fault_at_line};
@@ -102,25 +102,6 @@ fn cut<'a>(words: &mut Vec<&'a str>, bytes: &'a [u8]) -> Result<usize, LineFault
     }
     push_word(words, &bytes[word..])?;
     Ok(bytes.len())
-}
-
-/// What a short and plain line says, whose words these are, and nothing for one that is skipped.
-#[tactic(auto, unfolding(act_rules::specs::Grammar::line_at))]
-fn line_of(
-    alloc: Global,
-    mode: Mode,
-    words: &[&str],
-    line: &[u8],
-) -> Result<Option<Line>, LineFault>
-    requires plain { plain_at line.now ≡ Ok line.now }
-    requires words { map (λ w. w.now) words.now ≡ words_in line.now }
-    ensures said { Gives (λ x. x) result (line_at (forms_of mode) line.now) }
-    ensures of_mode { IfOk result (λ said. IfSome said (IsLineOf mode)) }
-{
-    match line {
-        [] | [b'#', ..] => Ok(None),
-        _ => Ok(Some(form_of(alloc, mode, words)?)),
-    }
 }
 
 /// Whether a caller is one of these.
@@ -241,7 +222,8 @@ fn add(script: &mut Script, line: Line, number: u32) -> Result<(), LineFault>
     }
 }
 
-/// Adds what the line of this number says, whose words these are, if it isn't skipped.
+/// Adds what the short and plain line of this number says, whose words these are, if it isn't skipped.
+#[tactic(auto, unfolding(act_rules::specs::Grammar::line_at))]
 fn add_line(
     alloc: Global,
     mode: Mode,
@@ -259,9 +241,9 @@ fn add_line(
         (line_added (forms_of mode) (spelled_script script.old) number line.now) }
     ensures few { count_of script.new.items ≤ count_of script.old.items + 1 }
 {
-    match line_of(alloc, mode, words, line)? {
-        None => Ok(()),
-        Some(line) => add(script, line, number),
+    match line {
+        [] | [b'#', ..] => Ok(()),
+        _ => add(script, form_of(alloc, mode, words)?, number),
     }
 }
 

@@ -4,6 +4,7 @@ ghost use Rattle.std.specs.Prelude.{◌≡◌, ◌<◌, List, [], ◌∷◌, Som
 ghost use Rattle.std.specs.List.{list_all};
 ghost use Rattle.std.specs.Char.{is_ascii_digit};
 ghost use Rattle.act_scripts.specs.Gives.{Gives};
+ghost use Rattle.act_scripts.specs.Numerals.{begins_numeral};
 ghost use Rattle.act_rules.specs.Submissions.{IsLimit};
 ghost use Rattle.act_rules.specs.Words.{named_by, kind_text, all_kinds, method_at, number_at, limit_at, is_numeral, is_integer, int_at, marked_at, closed_at, caller_at, actor_at, text_at, value_at, arg_at};
 
@@ -94,8 +95,18 @@ fn number_of_digit(digit: u8) -> Result<u32, LineFault>
     }
 }
 
+/// Whether a numeral of more than one digit begins so: with a digit that isn't 0.
+fn begins_numeral(word: &[u8]) -> bool
+    ensures { result ≡ begins_numeral word.now }
+{
+    if word.is_empty() {
+        return false;
+    }
+    b'1' <= word[0] && word[0] <= b'9'
+}
+
 /// The number that a word spells, in its one spelling.
-#[tactic(auto, using(crate::proofs::Numbers::number_from_parse), unfolding(act_rules::specs::Words::number_at))]
+#[tactic(auto, using(crate::proofs::Numbers::number_from_parse, crate::proofs::Numbers::number_from_none), unfolding(act_rules::specs::Words::number_at))]
 pub fn number_of(word: &str) -> Result<u32, LineFault>
     ensures { Gives (λ x. x) result (number_at word.now) }
 {
@@ -103,7 +114,8 @@ pub fn number_of(word: &str) -> Result<u32, LineFault>
     if let [digit] = word.as_bytes() {
         return number_of_digit(*digit);
     }
-    if !is_numeral_text(word.as_bytes()) {
+    // The parser looks at the other digits.
+    if !begins_numeral(word.as_bytes()) {
         return Err(BAD_LINE);
     }
     match word.parse() {
