@@ -23,7 +23,6 @@ use act_types::{ListOf, MAX_ACTORS, NoMemory};
 use act_world::World;
 use std::alloc::Global;
 use std::io::{Read, Write};
-use std::mem;
 
 /// The report of roles and events, played with kinds of the stock.
 fn report_on(
@@ -39,10 +38,7 @@ fn report_on(
 {
     let casts = casts_of(alloc, stock, roles)?;
     let mut world = World::open(alloc, casts)?;
-    let text = play_and_report(alloc, &mut world, events);
-    // The program ends once the text is written, and its memory goes back as a whole.
-    mem::forget(world);
-    text
+    play_and_report(alloc, &mut world, events)
 }
 
 /// The report of a script of events.

@@ -13,8 +13,8 @@ open-requires g c = (
 pub returns : goal.returns
 returns g c =
     let casts = map (actor_spec (λ b. (goal.Actor-dyn g (b.vtable, b.value)).state b.value)) c.in_ok-casts.casts.items in
-    IfOk-weaker c.play_and_report-text.result _ _
+    IfOk-weaker c.play_and_report.result _ _
     (λ text written.
     told_of_same (λ (casts : List ActorSpec) (events : List Event). report (opening casts) events) (string_bytes text) casts (map actor_spec_of c.args.roles) c.args.events c.args.events
     c.in_ok-casts.ensures refl (written casts c.in_ok-world.ensures.reached))
-    c.play_and_report-text.ensures.report
+    c.play_and_report.ensures.report
