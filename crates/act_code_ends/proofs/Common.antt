@@ -3,8 +3,9 @@ pub use Rattle.act_actor.specs.Casts.{actor_spec, limits_that_name}
 pub use Rattle.act_actor.specs.declared.cast.Cast.{Cast}
 pub use Rattle.act_code_ends.specs.Ends.{IsEnd, IsLeft, IsThrough, SaysAt, opened_of}
 pub use Rattle.act_code_ends.specs.FoundEnds.{AreEnds}
-pub use Rattle.act_code_ends.specs.Rehearsals.{AreSame, HasEnded, OnlyTakes}
+pub use Rattle.act_code_ends.specs.Rehearsals.{HasEnded, OnlyTakes}
 pub use Rattle.act_code_ends.specs.declared.certified.Played.{Played}
+pub use Rattle.act_compare.specs.Same.{AreSame}
 pub use Rattle.act_drive.proofs.CodeSteps.{hears_trans, later_trans}
 pub use Rattle.act_drive.proofs.Drivers.{notice_keeps}
 pub use Rattle.act_drive.specs.Driven.{KeptOn}

@@ -5,11 +5,6 @@ use Rattle.act_code_ends.proofs.Common.{limits_that_name, ActorSpec, History, op
 use Rattle.act_code_ends.proofs.Common.{OwnerView, opened_with, WorldView, IsOwnerAt, IsReachedBy, HasPlayed, SessionView, AreSame, HasEnded, IsThrough}
 use Rattle.act_code_ends.proofs.Common.{opened_of}
 
--- what a world told of the events is what the rules tell
-pub told_in : (casts : List ActorSpec) (events : List Event) (old new : WorldView) (empty told : List Outcome) (r : Bool) → empty ≡ [] → HasPlayed events old new empty told → (IsTrue r ↔ All IsOk told) → IsReachedBy casts [] old → IsTrue r ↔ All IsOk (outcomes (opening casts) events)
-told_in casts events old new empty told r none played tells opened =
-    subst (λ (told : List Outcome). IsTrue r ↔ All IsOk told) ((played casts [] opened).1 ∙ ap (λ (front : List Outcome). front ++ outcomes (opening casts) events) none) tells
-
 kept_below : (kept : List (Option Answer)) (k : ℕ) (answer : Answer) → kept_at kept k ≡ Some answer → k < length kept
 kept_below [] k answer has = absurd (cc has)
 kept_below (x ∷ xs) zero answer has = omega arith

@@ -1,8 +1,7 @@
 -- What a caller's code does while it is rehearsed.
-use Rattle.std.specs.Prelude.{◌≡◌, ℕ, ◌<◌, length, List, Option}
+use Rattle.std.specs.Prelude.{◌≡◌, List, Option}
 use Rattle.act_rules.specs.declared.history.Submission.{Submission}
 use Rattle.act_rules.specs.RunList.{Answer}
-use Rattle.act_rules.specs.Submissions.{kept_at}
 use Rattle.act_owner.specs.Owner.{OwnerView}
 use Rattle.act_drive.specs.Driven.{KeptOn}
 use Rattle.act_drive.specs.Sessions.{SessionView, session_view, IsLater, OnlyHears}
@@ -12,11 +11,6 @@ pub record OnlyTakes (old new : SessionView) : Type 0 where
   pub hears : OnlyHears old new
   pub on : IsLater old new
   pub did : new.did ≡ old.did
-
--- two callers have the same calls, and for each the same answer
-pub record AreSame (one other : OwnerView) : Type 0 where
-  pub calls : one.calls ≡ other.calls
-  pub answers : (k : ℕ) → k < length one.calls → kept_at one.kept k ≡ kept_at other.kept k
 
 -- the code of a caller that was opened so came to its end, and what it tells holds of what it saw there: these were
 -- its calls, and these answers are those that it saw, or came later

@@ -7,10 +7,10 @@ ghost use Rattle.act_rules.specs.History.{ActorSpec, opening as at_first};
 ghost use Rattle.act_rules.specs.Rules.{outcomes};
 ghost use Rattle.act_actor.specs.Cast.{IsFitting};
 ghost use Rattle.act_actor.specs.Casts.{actor_spec};
-ghost use Rattle.act_world.specs.IsReachedBy.{IsReachedBy, HasRoom};
+ghost use Rattle.act_world.specs.IsReachedBy.{IsReachedBy};
 ghost use Rattle.act_world.specs.View.{world_view};
+ghost use Rattle.act_compare.specs.Same.{AreSame};
 ghost use Rattle.act_code_ends.specs.declared.rehearsed.Standing.TheVariants.{Ended};
-ghost use Rattle.act_code_ends.specs.Rehearsals.{AreSame};
 ghost use Rattle.act_code_ends.specs.Ends.{IsLeft, IsEnd};
 
 use crate::choices::rehearse_again;
@@ -18,13 +18,13 @@ use crate::fault::CodeFault;
 use crate::opening::Codes;
 use crate::play::{Play, Player};
 use crate::rehearsed::{Rehearsed, Standing};
-use crate::same::same_owner;
 use act_actor::Cast;
+use act_compare::{play_in, same_owner};
 use act_drive::Code;
 use act_explore::Opening;
 use act_kinds::Actor;
 use act_owner::Owner;
-use act_rules::{Event, Outcome};
+use act_rules::Event;
 use act_types::{CallerId, MAX_CALLERS, NoMemory};
 use act_world::World;
 use std::alloc::Global;
@@ -37,46 +37,6 @@ const MAX_EVENTS: usize = 4_294_967_296;
 pub struct Played<K> {
     pub events: Vec<Event>,
     pub world: World<K>,
-}
-
-/// Whether an event was accepted.
-fn is_accepted(told: &Outcome) -> bool
-    ensures { IsTrue result ↔ IsOk told.now }
-{
-    told.is_ok()
-}
-
-/// Whether all events were accepted.
-fn are_accepted(told: &[Outcome]) -> bool
-    ensures { IsTrue result ↔ All IsOk told.now }
-{
-    for outcome in told {
-        if !is_accepted(outcome) {
-            return false;
-        }
-    }
-    true
-}
-
-/// Plays events in a world, and tells whether all of them were accepted.
-fn play_in<K: Actor>(
-    alloc: Global,
-    world: &mut World<K>,
-    events: &[Event],
-) -> Result<bool, NoMemory>
-    requires room { HasRoom (length events.now) world.old.network }
-    ensures accepted { IfOk result (λ is.
-        (casts : List ActorSpec) → IsReachedBy casts [] (world_view K.state world.old) →
-        IsTrue is ↔ All IsOk (outcomes (at_first casts) events.now)) }
-    ensures reached { IfOk result (λ _.
-        (casts : List ActorSpec) → IsReachedBy casts [] (world_view K.state world.old) →
-        IsReachedBy casts events.now (world_view K.state world.new)) }
-{
-    let mut told = Vec::new(alloc);
-    let Ok(()) = world.play(events, &mut told) else {
-        return Err(NoMemory);
-    };
-    Ok(are_accepted(&told))
 }
 
 /// A world that played these events, each of which was accepted.

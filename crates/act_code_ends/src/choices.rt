@@ -9,10 +9,11 @@ ghost use Rattle.act_code_ends.specs.Rehearsals.{HasEnded};
 
 use crate::fault::CodeFault;
 use crate::opening::Codes;
-use crate::play::{Play, Player, same_event};
+use crate::play::{Play, Player};
 use crate::rehearsal::Pause;
 use crate::rehearsed::{Rehearsed, Standing, new_owner, rehearse};
 use act_actor::Cast;
+use act_compare::same_event;
 use act_drive::Code;
 use act_kinds::Actor;
 use act_rules::Event;

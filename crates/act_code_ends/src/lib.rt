@@ -11,7 +11,6 @@ mod opening;
 mod play;
 mod rehearsal;
 mod rehearsed;
-mod same;
 mod session;
 
 pub use certified::Played;

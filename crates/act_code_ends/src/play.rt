@@ -8,7 +8,6 @@ ghost use Rattle.act_actor.specs.Cast.{IsFitting, CallersDiffer};
 
 use crate::rehearsal::Pause;
 use crate::rehearsed::{Standing, new_owner};
-use crate::same::{same_args, same_method};
 use act_actor::{Cast, Live};
 use act_kinds::Actor;
 use act_owner::Owner;
@@ -55,20 +54,6 @@ pub(crate) struct Play<K> {
     /// How many letters were sent, and how many notices told.
     letters: u32,
     notices: u32,
-}
-
-/// Whether a code did the same again.
-pub(crate) fn same_event(one: &Event, other: &Event) -> bool {
-    match (one, other) {
-        (Event::Submit(_, a, method, args), Event::Submit(_, b, again, same)) => {
-            a == b && same_method(method, again) && same_args(args.as_slice(), same.as_slice())
-        }
-        (Event::Copy(_, a), Event::Copy(_, b)) => a == b,
-        (Event::Release(_, a), Event::Release(_, b)) => a == b,
-        (Event::AskKill(_, a), Event::AskKill(_, b)) => a == b,
-        (Event::Collect(j), Event::Collect(k)) => j == k,
-        _ => false,
-    }
 }
 
 impl Player {

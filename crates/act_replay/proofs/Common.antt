@@ -2,6 +2,7 @@
 pub use Rattle.act_actor.specs.Cast.{CallersDiffer, IsFitting}
 pub use Rattle.act_actor.specs.Casts.{actor_spec}
 pub use Rattle.act_actor.specs.declared.cast.Cast.{Cast}
+pub use Rattle.act_compare.specs.Same.{AreSame}
 pub use Rattle.act_executor.specs.Joined.{IsJoined, RanAll, calls_in, calls_of_owner, is_killed_end, is_starved, kept_in, kept_of_owner, killed_in, log_in}
 pub use Rattle.act_executor.specs.Joined.{log_of_end}
 pub use Rattle.act_executor.specs.PlanPlays.{DoesPlanIn, IsMeanwhile, step_of}
@@ -9,15 +10,14 @@ pub use Rattle.act_executor.specs.Plays.{IsEndIn, IsOwnerIn, IsPlayOf}
 pub use Rattle.act_executor.specs.Runs.{IsFault, plan_view}
 pub use Rattle.act_mailbox.specs.declared.thread.Page.{Page}
 pub use Rattle.act_owner.proofs.Told.{is_death-only}
-pub use Rattle.act_owner.specs.Owner.{OwnerView, call_at, is_death, numbered_call}
-pub use Rattle.act_owner.specs.declared.owner.Call.{Call}
+pub use Rattle.act_owner.specs.Owner.{OwnerView, is_death}
 pub use Rattle.act_plans.specs.Runs.{first_bad_plan, limits_naming, plan_of, steps_of_plan}
 pub use Rattle.act_replay.specs.AwaitCircle.{IsUnplanned, await_calls, await_end, await_ends, await_log, await_owner, await_owners, await_plan, await_plans}
 pub use Rattle.act_replay.specs.Circle.{HasAllOf, IsNoPlay, IsUnplayed, circle_calls, circle_cast, circle_casts, circle_end, circle_ends, circle_log}
 pub use Rattle.act_replay.specs.Circle.{circle_owners, circle_plan, circle_plans, circle_push, circle_ran, first_future, five_arg, owner}
 pub use Rattle.act_replay.specs.Faults.{IsPlayFault, IsRecordFault}
 pub use Rattle.act_replay.specs.Notes.{AreWhole, marks_of}
-pub use Rattle.act_replay.specs.Play.{AreSame, IsSameEnd}
+pub use Rattle.act_replay.specs.Play.{IsSameEnd}
 pub use Rattle.act_replay.specs.declared.run.RecordFault.{RecordFault}
 pub use Rattle.act_replay.specs.declared.run.RecordFault.TheVariants.{Unplayed}
 pub use Rattle.act_rules.proofs.Ended.{dead_stays, under-push}
@@ -54,11 +54,10 @@ pub use Rattle.act_world.specs.IsReachedBy.{HasPlayed, IsReachedBy}
 pub use Rattle.act_world.specs.Refines.{IsOwnerAt, IsStage}
 pub use Rattle.act_world.specs.View.{Died, Ended, Runs, SlotView, Vacant, WorldView, stage_view, world_view}
 pub use Rattle.std.proofs.Common.{All, AllPairs, Bool, Err, IsOk, IsTrue, List, None, Ok, Option, Some, [], ap, append-nil, append_assoc, arith, cond, false}
-pub use Rattle.std.proofs.Common.{get_or, inl, inr, is_some, length, map, ne_eqb, option_map, pos, refl, rules, slice_get, subst, suc, sym, take, true}
-pub use Rattle.std.proofs.Common.{true≢false, zero, ℕ, ◌++◌, ◌+◌, ◌<◌, ◌==◌, ◌↔◌, ◌∙◌, ◌∷◌, ◌≡◌, ◌≢◌, ◌≤◌, ◌⊎◌}
+pub use Rattle.std.proofs.Common.{get_or, inl, inr, is_some, length, map, ne_eqb, pos, refl, rules, slice_get, subst, suc, sym, take, true}
+pub use Rattle.std.proofs.Common.{true≢false, zero, ℕ, ◌++◌, ◌+◌, ◌<◌, ◌==◌, ◌↔◌, ◌∙◌, ◌∷◌, ◌≡◌, ◌≢◌, ◌⊎◌}
 pub use Rattle.std.proofs.lemmas.Bool.{eqb-true, or_parts}
-pub use Rattle.std.proofs.lemmas.List.{get_or-map, length-map, take_all, take_more_same}
-pub use Rattle.std.proofs.lemmas.List.Elements.{All-get_or, All-map, All-more, recursion_from_All}
+pub use Rattle.std.proofs.lemmas.List.{get_or-map, length-map}
+pub use Rattle.std.proofs.lemmas.List.Elements.{All-map, All-more, recursion_from_All}
 pub use Rattle.std.proofs.lemmas.List.Sums.{sum_by_more}
-pub use Rattle.std.proofs.lemmas.Option.{get_or_from_slice_get, slice_get_cases}
 pub use Rattle.std.specs.List.{AllByRecursion, enumerate_from}

@@ -1,22 +1,5 @@
--- What a loop knows that asks the same of each item of a list.
-use Rattle.act_replay.proofs.Common.{◌≡◌, ◌↔◌, ℕ, ◌+◌, ◌<◌, ◌≤◌, Bool, true, false, List, length, map, take, get_or, refl, sym, ◌∙◌, subst, true≢false, arith}
-use Rattle.act_replay.proofs.Common.{All, IsTrue, take_all, get_or-map, length-map, All-more, All-get_or, All-map}
-
-module _ {X : Type 0} (P : X → Type 0) (xs : List X) where
-  -- it holds of one item more
-  pub each_more : (i : ℕ) (x : X) (r : Bool) → i < length xs → x ≡ get_or xs i x → (IsTrue r ↔ P x) → r ≡ true → All P (take i xs) → All P (take (i + 1) xs)
-  each_more i x r within is tells holds front = All-more P xs i x within front (subst P is (tells.0 holds))
-
-  -- it doesn't hold of one item
-  pub not_each : (i : ℕ) (x : X) (r : Bool) → i < length xs → x ≡ get_or xs i x → (IsTrue r ↔ P x) → r ≡ false → IsTrue false ↔ All P xs
-  not_each i x r within is tells fails = (
-    λ wrong. absurd (true≢false (sym wrong)),
-    λ all. absurd (true≢false (sym (tells.1 (subst P (sym is) (All-get_or P xs i x within all))) ∙ fails)),
-  )
-
-  -- it holds of all
-  pub each : (n : ℕ) → length xs ≤ n → All P (take n xs) → IsTrue true ↔ All P xs
-  each n whole front = (λ _. subst (All P) (take_all n xs whole) front, λ all. refl)
+-- What is asked of all items of a list, and of what is seen of them.
+use Rattle.act_replay.proofs.Common.{◌↔◌, Bool, List, length, map, get_or, subst, arith, All, IsTrue, get_or-map, length-map, All-map}
 
 -- what is asked of each item is asked of what is seen of it
 pub over_map : {X Y : Type 0} (P : X → Type 0) (f : Y → X) (ys : List Y) (r : Bool) → (IsTrue r ↔ All (λ y. P (f y)) ys) → IsTrue r ↔ All P (map f ys)

@@ -68,11 +68,6 @@ end_in h a slot end r is at tells =
 
 -- ---- all of it
 
--- what was told of events that were played
-pub told_in : (casts : List ActorSpec) (events : List Event) (old new : WorldView) (empty told : List Outcome) (r : Bool) → empty ≡ [] → HasPlayed events old new empty told → (IsTrue r ↔ All IsOk told) → IsReachedBy casts [] old → IsTrue r ↔ All IsOk (outcomes (opening casts) events)
-told_in casts events old new empty told r none played tells opened =
-    subst (λ (told : List Outcome). IsTrue r ↔ All IsOk told) ((played casts [] opened).1 ∙ ap (λ (front : List Outcome). front ++ outcomes (opening casts) events) none) tells
-
 module _ (casts : List ActorSpec) (events : List Event) (owners : List OwnerView) (ends : List EndView) where
   -- an event was refused
   pub not_accepted : (r : Bool) → (IsTrue r ↔ All IsOk (outcomes (opening casts) events)) → r ≡ false → IsTrue false ↔ IsPlayOf casts events owners ends

@@ -13,54 +13,13 @@ ghost use Rattle.act_world.specs.View.{stage_view, world_view};
 ghost use Rattle.act_executor.specs.Plays.{IsOwnerIn, IsEndIn, IsPlayOf};
 ghost use Rattle.act_replay.specs.Play.{IsSameEnd};
 
-use crate::same::{same_log, same_owner};
+use act_compare::{play_in, same_log, same_owner};
 use act_kinds::{Actor, Boxed};
 use act_owner::Owner;
-use act_rules::Outcome;
 use act_serve::{Ended, Finished};
 use act_types::{ActorId, NoMemory};
 use act_world::{Cast, Event, Stage, World};
 use std::alloc::Global;
-
-/// Whether an event was accepted.
-fn is_accepted(told: &Outcome) -> bool
-    ensures { IsTrue result ↔ IsOk told.now }
-{
-    told.is_ok()
-}
-
-/// Whether all events were accepted.
-fn are_accepted(told: &[Outcome]) -> bool
-    ensures { IsTrue result ↔ All IsOk told.now }
-{
-    for outcome in told {
-        if !is_accepted(outcome) {
-            return false;
-        }
-    }
-    true
-}
-
-/// Plays events in a world, and tells whether all of them were accepted.
-fn play_in<J: Actor>(
-    alloc: Global,
-    world: &mut World<J>,
-    events: &[Event],
-) -> Result<bool, NoMemory>
-    requires room { HasRoom (length events.now) world.old.network }
-    ensures accepted { IfOk result (λ is.
-        (casts : List ActorSpec) → IsReachedBy casts [] (world_view J.state world.old) →
-        IsTrue is ↔ All IsOk (outcomes (opening casts) events.now)) }
-    ensures reached { IfOk result (λ _.
-        (casts : List ActorSpec) → IsReachedBy casts [] (world_view J.state world.old) →
-        IsReachedBy casts events.now (world_view J.state world.new)) }
-{
-    let mut told = Vec::new(alloc);
-    let Ok(()) = world.play(events, &mut told) else {
-        return Err(NoMemory);
-    };
-    Ok(are_accepted(&told))
-}
 
 /// Whether the world has the caller, with the same calls and the same answers.
 fn has_owner<J: Actor>(world: &World<J>, owner: &Owner) -> bool

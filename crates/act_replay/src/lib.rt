@@ -10,7 +10,6 @@ mod progress;
 mod rebuilt;
 mod recorded;
 mod run;
-mod same;
 
 pub use circle::{a_circle_is_joined_and_no_play, a_circle_of_awaits_is_not_as_planned};
 pub use compared::is_play_of;

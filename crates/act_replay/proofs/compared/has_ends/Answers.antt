@@ -1,5 +1,5 @@
 use Rattle.act_replay.proofs.Common.{arith, history, Finished, end_view, IsEndIn}
-use Rattle.act_replay.proofs.Each.{each_more, not_each, each}
+use Rattle.act_compare.proofs.Each.{each_more, not_each, each}
 use Rattle.act_replay.proofs.compared.has_ends.Goals as goal
 
 pub loop-actor-preserved : goal.loop-actor-preserved

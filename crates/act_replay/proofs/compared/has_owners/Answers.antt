@@ -1,5 +1,5 @@
 use Rattle.act_replay.proofs.Common.{arith, history, IsOwnerIn}
-use Rattle.act_replay.proofs.Each.{each_more, not_each, each}
+use Rattle.act_compare.proofs.Each.{each_more, not_each, each}
 use Rattle.act_replay.proofs.compared.has_owners.Goals as goal
 
 pub loop-owner-preserved : goal.loop-owner-preserved

@@ -1,5 +1,0 @@
-use Rattle.act_code_ends.proofs.Common.{take, All, IsOk}
-use Rattle.act_code_ends.proofs.certified.are_accepted.Given as goal
-
-abbrev pub invariant-loop-outcome : goal.invariant-loop-outcome
-invariant-loop-outcome l = All IsOk (take l.outcome-index l.told)

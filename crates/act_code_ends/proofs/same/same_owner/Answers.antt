@@ -1,7 +1,0 @@
-use Rattle.std.proofs.Common.{arith}
-use Rattle.act_code_ends.proofs.Calls.{below_more}
-use Rattle.act_code_ends.proofs.same.same_owner.Goals as goal
-
-pub loop-number-preserved : goal.loop-number-preserved
-loop-number-preserved c =
-    below_more c.args.one.now c.args.other.now c.loop-number.number c.new.result c.new.ensures (omega arith) (omega arith) (c.same_future.ensures.0 c.if-not-same_future.false) c.loop-number.invariant

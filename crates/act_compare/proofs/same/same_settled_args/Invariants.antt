@@ -1,0 +1,6 @@
+use Rattle.std.proofs.Common.{◌≡◌, take}
+use Rattle.act_compare.proofs.same.same_settled_args.Given as goal
+
+-- the lists are the same so far
+abbrev pub invariant-loop-place : goal.invariant-loop-place
+invariant-loop-place l = take l.place l.one ≡ take l.place l.other
