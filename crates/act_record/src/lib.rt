@@ -8,7 +8,6 @@ mod fault;
 mod printed;
 mod reading;
 mod record;
-mod same;
 
 pub use act_replay::Source;
 pub use answer::Written;

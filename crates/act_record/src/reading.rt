@@ -7,7 +7,7 @@ ghost use Rattle.act_record.specs.Answer.{IsMissing, IsReadAs, IsTextOf};
 use crate::answer::{PlayText, Written};
 use crate::fault::RecordingFault;
 use crate::printed::play_text;
-use crate::same::{same_events, same_roles};
+use act_compare::{same_events, same_roles};
 use act_console::{Items, Script, ScriptFault, read_script};
 use act_replay::Source;
 use act_rules::{Event, Mode, Role};
