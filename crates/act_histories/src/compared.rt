@@ -13,7 +13,7 @@ ghost use Rattle.act_histories.specs.Play.{EndsSo, HasCalls, awaits, DoesSteps, 
 
 use crate::in_order::play_in_order;
 use crate::parts::second_part;
-use crate::same::{same_args, same_method};
+use act_compare::{are_accepted, same_args, same_method};
 use act_console::play_report;
 use act_kinds::Actor;
 use act_owner::Owner;
@@ -21,25 +21,6 @@ use act_rules::{Event, Outcome, Step};
 use act_types::{ActorId, Arg, CallerId, FutureId, MAX_CALLERS, MAX_CALLS, Method, NoMemory};
 use act_world::World;
 use std::alloc::Global;
-
-/// Whether an event was accepted.
-fn is_accepted(told: &Outcome) -> bool
-    ensures { IsTrue result → IsOk told.now }
-{
-    told.is_ok()
-}
-
-/// Whether all events were accepted.
-fn are_accepted(told: &[Outcome]) -> bool
-    ensures { IsTrue result → All IsOk told.now }
-{
-    for outcome in told {
-        if !is_accepted(outcome) {
-            return false;
-        }
-    }
-    true
-}
 
 /// Whether the caller's call of this future goes to the actor, with this method and these arguments.
 fn has_call(owner: &Owner, k: u32, actor: ActorId, method: &Method, args: &[Arg]) -> bool

@@ -4,28 +4,6 @@ use crate::reason::ToldPlace;
 use act_types::{Answer, Settled};
 use std::alloc::AllocError;
 
-/// Whether two answers are the same, as they are written.
-pub(crate) fn same_answer(one: &Answer, other: &Answer) -> bool {
-    match (one, other) {
-        (Ok(value), Ok(other)) => value == other,
-        (Err(fault), Err(other)) => fault == other,
-        _ => false,
-    }
-}
-
-/// Whether the arguments of two calls that ran are the same.
-pub(crate) fn same_args(one: &[Settled], other: &[Settled]) -> bool {
-    if one.len() != other.len() {
-        return false;
-    }
-    for (place, arg) in one.iter().enumerate() {
-        if *arg != other[place] {
-            return false;
-        }
-    }
-    true
-}
-
 fn push_args(text: &mut String, args: &[Settled]) -> Result<(), AllocError> {
     if args.is_empty() {
         return text.push_str(" none");

@@ -14,7 +14,7 @@ ghost use Rattle.act_executor.specs.PlanPlays.{step_of, DoesStepIn};
 ghost use Rattle.act_histories.specs.Play.{is_await, awaits, DoesSteps};
 ghost use Rattle.act_histories.specs.Order.{HasDone, HaveDone, Tells, IsPast};
 
-use crate::same::{same_args, same_method};
+use act_compare::{same_args, same_method};
 use act_kinds::Actor;
 use act_rules::{Event, Outcome, Step};
 use act_types::{ActorId, Arg, CALLER_NUMBERS, CallerId, FutureId, MAX_CALLERS, Method, NoMemory};

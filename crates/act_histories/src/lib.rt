@@ -21,7 +21,6 @@ mod reason;
 mod rebuilt;
 mod replies;
 mod rules;
-mod same;
 mod values;
 
 pub use act_console::Stock;

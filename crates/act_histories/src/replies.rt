@@ -1,10 +1,11 @@
 //! What an actor answers at each place of its run list, and what a call has there as arguments, by what
 //! the history tells alone.
 
-use crate::differs::{push_other_answer, push_other_args, same_answer, same_args};
+use crate::differs::{push_other_answer, push_other_args};
 use crate::history::{Call, History, Kept, Served};
 use crate::reason::ToldPlace;
 use crate::rules::{is_end, may_run_as};
+use act_compare::{same_answer, same_settled_args};
 use act_kinds::{Account, Actor, Counter, ListKind, Table};
 use act_rules::{KindName, RunItem};
 use act_types::{
@@ -150,7 +151,7 @@ impl Replies {
             return Ok(());
         }
         let args = self.settled_args(alloc, history, call, item)?;
-        if !same_args(args.as_slice(), item.args.as_slice()) {
+        if !same_settled_args(args.as_slice(), item.args.as_slice()) {
             push_other_args(text, told, args.as_slice(), item.args.as_slice())?;
         }
         Ok(())

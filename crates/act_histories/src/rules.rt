@@ -2,6 +2,7 @@
 
 use crate::history::{Call, Caller, Ending, History, Ran, Served, future_at, slot_of, told_place};
 use crate::reason::{Blame, CallName, PlaceName, Reason, add_blame};
+use act_compare::same_method;
 use act_rules::RunItem;
 use act_types::{
     ACTOR_NUMBERS, ActorId, Arg, CALLER_NUMBERS, CallerId, FutureId, MAX_ACTORS, MAX_CALLERS,
@@ -80,11 +81,6 @@ fn may_all_settle(args: &[Arg], settled: &[Settled]) -> bool {
         }
     }
     true
-}
-
-/// Whether two methods are the same. A script names none of a kind of one's own.
-fn same_method(one: &Method, other: &Method) -> bool {
-    one.word() == other.word()
 }
 
 /// Whether the call that was submitted can have run as this one.

@@ -1,10 +1,11 @@
 //! What a world shows after a play that was found, beside what a history tells.
 
-use crate::differs::{push_other_answer, push_other_args, same_answer, same_args};
+use crate::differs::{push_other_answer, push_other_args};
 use crate::history::{Call, History, Lines};
 use crate::parts::is_filled_in;
 use crate::printed::push_event;
 use crate::reason::ToldPlace;
+use act_compare::{same_answer, same_settled_args};
 use act_console::play_report;
 use act_kinds::Actor;
 use act_rules::{Did, Event, Outcome, RunItem};
@@ -46,7 +47,7 @@ fn compare_run<K: Actor>(
         (Some(by_rules), Some(ran)) => {
             let by_rules = by_rules.args.as_slice();
             let args = ran.item.args.as_slice();
-            if same_args(by_rules, args) {
+            if same_settled_args(by_rules, args) {
                 return Ok(());
             }
             push_other_args(text, &told, by_rules, args)

@@ -4,7 +4,7 @@ use Rattle.act_histories.proofs.compared.play_in.Goals as goal
 pub returns-then-in_order-clause-accepted : goal.returns-then-in_order-clause-accepted
 returns-then-in_order-clause-accepted g c = λ holds casts opened.
     subst (All IsOk) (c.in_ok-in_order.ensures.tells casts opened).1
-    (subst (λ (told : List Outcome). All IsOk told) c.deref.ensures.value (c.are_accepted.ensures holds))
+    (subst (λ (told : List Outcome). All IsOk told) c.deref.ensures.value (c.are_accepted.ensures.0 holds))
 
 pub returns-then-in_order-clause-reached : goal.returns-then-in_order-clause-reached
 returns-then-in_order-clause-reached g c = λ casts opened. (c.in_ok-in_order.ensures.tells casts opened).0

@@ -1,9 +1,0 @@
-use Rattle.act_histories.proofs.Common.{arith, IsOk}
-use Rattle.act_histories.proofs.Calls.{each_more, each}
-use Rattle.act_histories.proofs.compared.are_accepted.Goals as goal
-
-pub loop-outcome-preserved : goal.loop-outcome-preserved
-loop-outcome-preserved c = each_more IsOk c.args.told.now c.loop-outcome.outcome-index c.outcome-item.result c.is_accepted.result c.loop-outcome-test.true c.outcome-item.is c.is_accepted.ensures c.if-not-is_accepted.false c.loop-outcome.invariant
-
-pub returns : goal.returns
-returns c = λ _. each IsOk c.args.told.now c.loop-outcome.outcome-index (omega arith) c.loop-outcome.invariant
