@@ -530,10 +530,10 @@ fn retired_once_drained(rt: HostRuntime) -> Result<(), Fail> {
 
 /// Plays two calls of `terminate` that are refused, and one in its turn, at place 2, after which
 /// nothing runs.
-fn play_to_the_end(
+fn play_to_the_end<K: Actor>(
     rt: &impl Abort,
     alloc: Global,
-    live: &mut Live<Counter>,
+    live: &mut Live<K>,
 ) -> Result<(), NoMemory> {
     let c1 = CallerId::new(1).unwrap();
     play(rt, alloc, live, &REFUSED_ENDS)?;
@@ -547,22 +547,31 @@ fn play_to_the_end(
 }
 
 /// An actor that ran its `terminate` doesn't retire, and keeps its log.
-fn assert_ended(rt: &impl Abort, live: Live<Counter>) {
+fn assert_ended<K: Actor>(rt: &impl Abort, live: Live<K>) {
     let Err(live) = live.retire() else {
         panic!(rt; "retired after its end");
     };
     assert_killed(rt, live, 3);
 }
 
-#[test]
-fn ended_in_its_turn(rt: HostRuntime) -> Result<(), Fail> {
-    let mut live = opened(rt.alloc(), Counter::open())?;
-    let done = play_to_the_end(&rt, rt.alloc(), &mut live);
+/// Plays to the end, after which the actor is killed.
+fn play_and_end<K: Actor>(
+    rt: &impl Abort,
+    alloc: Global,
+    mut live: Live<K>,
+) -> Result<(), NoMemory> {
+    let done = play_to_the_end(rt, alloc, &mut live);
     match done {
-        Ok(()) => assert_ended(&rt, live),
+        Ok(()) => assert_ended(rt, live),
         Err(_) => drop(live),
     }
-    done?;
+    done
+}
+
+#[test]
+fn ended_in_its_turn(rt: HostRuntime) -> Result<(), Fail> {
+    let live = opened(rt.alloc(), Counter::open())?;
+    play_and_end(&rt, rt.alloc(), live)?;
     Ok(())
 }
 

@@ -1,5 +1,6 @@
 //! The lists and texts that calls carry: what they hold, and whether they hold anything.
 
+use super::rows::assert_is;
 use act_types::{CopyOf, ListOf, NoMemory, SmallList, Text, Value};
 use std::alloc::Global;
 use std::process::Abort;
@@ -26,9 +27,9 @@ fn list_of(alloc: Global, numbers: &[i64]) -> Result<ListOf<Value>, NoMemory> {
 /// Lists that hold these numbers, and nothing else.
 fn assert_hold(rt: &impl Abort, few: &SmallList<Value>, list: &ListOf<Value>, numbers: &[i64]) {
     let wanted = (numbers.len(), numbers.is_empty());
-    assert_eq!(rt; (few.len(), few.is_empty()), wanted);
-    assert_eq!(rt; (list.len(), list.is_empty()), wanted);
-    assert_eq!(rt; few.as_slice(), list.as_slice());
+    assert_is(rt, "a list of few", &(few.len(), few.is_empty()), &wanted);
+    assert_is(rt, "a list", &(list.len(), list.is_empty()), &wanted);
+    assert_is(rt, "their items", &few.as_slice(), &list.as_slice());
 }
 
 #[test]

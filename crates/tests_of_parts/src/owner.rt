@@ -652,6 +652,7 @@ fn of_one_actor(rt: HostRuntime) -> Result<(), Fail> {
     let a2 = ActorId::new(2).unwrap();
     let owner = Owner::open(rt.alloc(), caller(&rt, 1), &[a1])?;
     let seen = (owner.holds(a1), owner.holds(a2));
+    drop(owner);
     assert_is(&rt, "a caller of one actor", &seen, &(1, 0));
     Ok(())
 }

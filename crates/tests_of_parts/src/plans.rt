@@ -1,6 +1,7 @@
 //! Plans that fit and others that don't, steps that would be refused, and casts and plans that are
 //! given out of order.
 
+use super::rows::assert_is;
 use act_actor::{Cast, cast_fits};
 use act_kinds::Counter;
 use act_plans::{CallerSetup, MAX_STEPS, Plan, bad_step, first_bad_setup, plans_fit, prepare};
@@ -126,9 +127,9 @@ fn steps_that_would_be_refused(rt: HostRuntime) -> Result<(), Fail> {
 
 /// Compares the actors of casts.
 fn assert_actors(rt: &impl Abort, casts: &[Cast<Counter>], actors: &[ActorId]) {
-    assert_eq!(rt; casts.len(), actors.len());
+    assert_is(rt, "casts", &casts.len(), &actors.len());
     for (cast, actor) in casts.iter().zip(actors.iter()) {
-        assert_eq!(rt; cast.actor, *actor);
+        assert_is(rt, "an actor", &cast.actor, actor);
     }
 }
 
@@ -138,11 +139,10 @@ fn assert_setups(
     setups: &[CallerSetup],
     wanted: &[(CallerId, [ActorId; 2], usize)],
 ) {
-    assert_eq!(rt; setups.len(), wanted.len());
+    assert_is(rt, "parts", &setups.len(), &wanted.len());
     for (setup, wanted) in setups.iter().zip(wanted.iter()) {
-        assert_eq!(rt; setup.caller, wanted.0);
-        assert_eq!(rt; setup.actors.as_slice(), &wanted.1[..]);
-        assert_eq!(rt; setup.plan.len(), wanted.2);
+        let seen = (setup.caller, setup.actors.as_slice(), setup.plan.len());
+        assert_is(rt, "a part", &seen, &(wanted.0, &wanted.1[..], wanted.2));
     }
 }
 

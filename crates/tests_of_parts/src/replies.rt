@@ -85,7 +85,8 @@ fn play(rt: &impl Abort, table: &mut ReplyTable, rows: &[Row]) -> Result<(), NoM
 
 /// The answer of a future, if it has one.
 fn assert_answer(rt: &impl Abort, table: &ReplyTable, k: u32, wanted: Option<Answer>) {
-    assert_eq!(rt; table.answer(FutureId::new(k)), wanted.as_ref(), "at {k}");
+    let told = (k, table.answer(FutureId::new(k)));
+    assert_is(rt, "an answer", &told, &(k, wanted.as_ref()));
     drop(wanted);
 }
 
@@ -262,11 +263,8 @@ fn assert_waiting(rt: &impl Abort, table: &ReplyTable, futures: &[Plain]) {
 fn assert_same(rt: &impl Abort, table: &ReplyTable, futures: &[Plain]) {
     assert_is(rt, "futures", &(table.count() as usize), &futures.len());
     for (k, future) in (0..table.count()).zip(futures.iter()) {
-        assert_eq!(rt;
-            table.answer(FutureId::new(k)),
-            future.answer.as_ref(),
-            "at {k}"
-        );
+        let told = (k, table.answer(FutureId::new(k)));
+        assert_is(rt, "an answer", &told, &(k, future.answer.as_ref()));
     }
 }
 
