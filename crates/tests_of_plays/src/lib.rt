@@ -8,6 +8,8 @@ mod checked;
 #[cfg(test)]
 mod played;
 #[cfg(test)]
+mod rows;
+#[cfg(test)]
 mod scene;
 #[cfg(test)]
 mod scripts;

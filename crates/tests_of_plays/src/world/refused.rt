@@ -1,281 +1,150 @@
-//! Plays whose first event is refused, told in a list that has no room yet.
+//! Plays whose first event is refused.
 
-use super::{Given, Row, Step, end_of, limited_cast, lists_of};
-use act_kinds::Counter;
-use act_rules::{Arrival, HandleRefusal, SendRefusal, SubmitRefusal};
-use act_types::{ActorId, CallerId, FutureId, Method, NoMemory};
-use act_world::{Did, Outcome, World, WorldRefusal, cast_fits};
+use super::{Line, Play, opened, play_lines, play_whole};
+use crate::rows::assert_is;
+use act_rules::HandleRefusal;
+use act_types::{ActorId, CallerId, NoMemory};
+use act_world::{Did, Event, WorldRefusal};
 use std::alloc::Global;
 use std::process::Abort;
 use std::test::Fail;
 
-const NO_ACTOR: Outcome = Err(WorldRefusal::Handle(HandleRefusal::NoActor));
+/// A counter that its caller may have two calls of without an answer.
+const ONE_COUNTER: &str = "actor a1 counter max 2 c1\n";
 
-const NO_HANDLE: Outcome = Err(WorldRefusal::Handle(HandleRefusal::NoHandle));
+/// Nothing was submitted, sent, asked or posted yet.
+#[rattlefmt::skip]
+static NOTHING_THERE: Play = Play { name: "nothing_there", actors: ONE_COUNTER,
+    lines: &[
+        ("deliver 0", "NoMail"),
+        ("collect 0", "NoReply"),
+        ("take a1", "NoKill"),
+        ("send c1 0", "send: NoFuture"),
+        ("run a1 c1", "gap"),
+        ("run a2 c1", "handle: NoActor"),
+        ("run a1 c2", "NoCaller"),
+        ("tell a1 c1", "NotDead"),
+    ],
+    shown: (&[1], &[1]), end: "a1 live counter 0\n" };
 
-/// A world of one counter that its caller may have two calls of without an answer.
-fn one_counter(
-    rt: &impl Abort,
-    alloc: Global,
-    a: ActorId,
-    c: CallerId,
-) -> Result<World<Counter>, NoMemory> {
-    let casts = limited_cast(alloc, (a, &[c], Counter::open()), 2)?;
-    assert!(rt; cast_fits(casts.as_slice()));
-    World::open(alloc, casts)
-}
+/// Plays that may begin with any of some events, by their names: the events before those, and those.
+#[rattlefmt::skip]
+static BEGINNINGS: [(&str, &[Line], &[Line]); 5] = [
+    // Of a caller or an actor that isn't there.
+    ("begins_with_a_stranger", &[], &[
+        ("submit c2 a1 get", "NoCaller"),
+        ("copy c2 a1", "NoCaller"),
+        ("release c2 a1", "NoCaller"),
+        ("send c2 0", "NoCaller"),
+        ("run a1 c2", "NoCaller"),
+        ("kill c2 a1", "NoCaller"),
+        ("tell a1 c2", "NoCaller"),
+        ("submit c1 a2 get", "submit: NoActor"),
+        ("copy c1 a2", "handle: NoActor"),
+        ("release c1 a2", "handle: NoActor"),
+        ("run a2 c1", "handle: NoActor"),
+        ("kill c1 a2", "handle: NoActor"),
+        ("take a2", "handle: NoActor"),
+        ("tell a2 c1", "handle: NoActor"),
+        ("retire a2", "handle: NoActor"),
+    ]),
+    // That comes too early, or asks too much.
+    ("begins_too_early", &[], &[
+        ("submit c1 a1 add @0", "submit: BadFuture"),
+        ("submit c1 a1 add 0 1 2 3 4", "submit: TooManyArgs"),
+        ("send c1 0", "send: NoFuture"),
+        ("deliver 0", "NoMail"),
+        ("collect 0", "NoReply"),
+        ("take a1", "NoKill"),
+        ("tell a1 c1", "NotDead"),
+        ("retire a1", "NotDrained"),
+    ]),
+    // That comes too late: the handle is gone.
+    ("begins_without_a_handle", &[("release c1 a1", "mail 0")], &[
+        ("submit c1 a1 get", "submit: NoHandle"),
+        ("copy c1 a1", "handle: NoHandle"),
+        ("release c1 a1", "handle: NoHandle"),
+        ("kill c1 a1", "handle: NoHandle"),
+    ]),
+    // That comes too late: the actor is dead, and its death is known.
+    ("begins_after_the_end", &[
+        ("submit c1 a1 get", "future c1.0"),
+        ("kill c1 a1", "asked"),
+        ("take a1", "dead"),
+        ("tell a1 c1", "reply 0"),
+        ("collect 0", "died 1"),
+        ("release c1 a1", "mail 0"),
+    ], &[
+        ("send c1 0", "send: Answered"),
+        ("deliver 0", "ActorEnded"),
+        ("run a1 c1", "ActorEnded"),
+        ("take a1", "ActorEnded"),
+        ("retire a1", "ActorEnded"),
+    ]),
+    // What an earlier call still holds up.
+    ("begins_before_an_answer", &[("submit c1 a1 add 1", "future c1.0"), ("submit c1 a1 add @0", "future c1.1")], &[
+        ("submit c1 a1 get", "submit: PendingLimit"),
+        ("send c1 1", "send: NotReady"),
+    ]),
+];
 
-/// Plays the rows at once, where memory is there, and is told of each what its row says.
-fn assert_told(
-    rt: &impl Abort,
-    alloc: Global,
-    world: &mut World<Counter>,
-    rows: &[Row],
-) -> Result<(), NoMemory> {
-    let (events, wanted) = lists_of(alloc, rows)?;
-    assert!(rt; world.has_room(events.len()));
-    let mut told: Vec<Outcome> = Vec::new(alloc);
-    assert_eq!(rt; told.capacity(), 0);
-    assert_eq!(rt; world.play(events.as_slice(), &mut told), Ok(()));
-    assert_eq!(rt; told.as_slice(), wanted.as_slice());
-    drop(told);
-    drop(wanted);
-    drop(events);
+#[test]
+fn nothing_there(rt: HostRuntime) -> Result<(), Fail> {
+    play_whole(&rt, rt.alloc(), &NOTHING_THERE)?;
     Ok(())
 }
 
-/// Nothing was submitted, sent, asked or posted yet.
-#[test]
-fn nothing_there(rt: HostRuntime) -> Result<(), Fail> {
-    let alloc = rt.alloc();
-    let [a1, a2] = [ActorId::new(1).unwrap(), ActorId::new(2).unwrap()];
-    let [c1, c2] = [CallerId::new(1).unwrap(), CallerId::new(2).unwrap()];
-    let rows = [
-        (Step::Deliver(0), Err(WorldRefusal::NoMail)),
-        (Step::Collect(0), Err(WorldRefusal::NoReply)),
-        (Step::TakeKill(a1), Err(WorldRefusal::NoKill)),
-        (
-            Step::Send(c1, FutureId::new(0)),
-            Err(WorldRefusal::Sending(SendRefusal::NoFuture)),
-        ),
-        (Step::Run(a1, c1), Ok(Did::Gap)),
-        (
-            Step::Run(a2, c1),
-            Err(WorldRefusal::Handle(HandleRefusal::NoActor)),
-        ),
-        (Step::Run(a1, c2), Err(WorldRefusal::NoCaller)),
-        (Step::Tell(a1, c1), Err(WorldRefusal::NotDead)),
-    ];
-    let mut world = one_counter(&rt, alloc, a1, c1)?;
-    let end = match assert_told(&rt, alloc, &mut world, &rows) {
-        Ok(()) => end_of(alloc, &world, &[c1], &[a1]),
+/// Plays the lines before, and then these, which are refused.
+fn play_after(
+    rt: &impl Abort,
+    alloc: Global,
+    name: &str,
+    before: &[Line],
+    refused: &[Line],
+) -> Result<(), NoMemory> {
+    let mut world = opened(rt, alloc, ONE_COUNTER)?;
+    let done = match play_lines(rt, alloc, name, &mut world, ONE_COUNTER, before) {
+        Ok(()) => play_lines(rt, alloc, name, &mut world, ONE_COUNTER, refused),
         Err(error) => Err(error),
     };
     drop(world);
-    assert_eq!(rt; end?.as_str(), "a1 live counter 0\n");
-    Ok(())
+    done
 }
 
-/// After the rows before them these events are refused, whichever of them the play begins with.
-fn assert_refused(
-    rt: &impl Abort,
-    alloc: Global,
-    before: &[Row],
-    refused: &[Row],
-) -> Result<(), NoMemory> {
-    let a1 = ActorId::new(1).unwrap();
-    let c1 = CallerId::new(1).unwrap();
-    for first in 0..refused.len() {
-        let mut world = one_counter(rt, alloc, a1, c1)?;
-        let done = match assert_told(rt, alloc, &mut world, before) {
-            Ok(()) => assert_told(rt, alloc, &mut world, &refused[first..]),
-            Err(error) => Err(error),
-        };
-        drop(world);
-        done?;
+/// After the lines before them these events are refused, whichever of them the play begins with.
+#[test]
+fn begins_with_a_refusal(rt: HostRuntime) -> Result<(), Fail> {
+    for (name, before, refused) in &BEGINNINGS {
+        for first in 0..refused.len() {
+            play_after(&rt, rt.alloc(), name, before, &refused[first..])?;
+        }
     }
-    Ok(())
-}
-
-/// A play may begin with an event of a caller or an actor that isn't there.
-#[test]
-fn begins_with_a_stranger(rt: HostRuntime) -> Result<(), Fail> {
-    let [a1, a2] = [ActorId::new(1).unwrap(), ActorId::new(2).unwrap()];
-    let [c1, c2] = [CallerId::new(1).unwrap(), CallerId::new(2).unwrap()];
-    assert_refused(
-        &rt,
-        rt.alloc(),
-        &[],
-        &[
-            (
-                Step::Submit(c2, a1, Method::Get, Given::Nothing),
-                Err(WorldRefusal::NoCaller),
-            ),
-            (Step::Copy(c2, a1), Err(WorldRefusal::NoCaller)),
-            (Step::Release(c2, a1), Err(WorldRefusal::NoCaller)),
-            (
-                Step::Send(c2, FutureId::new(0)),
-                Err(WorldRefusal::NoCaller),
-            ),
-            (Step::Run(a1, c2), Err(WorldRefusal::NoCaller)),
-            (Step::AskKill(c2, a1), Err(WorldRefusal::NoCaller)),
-            (Step::Tell(a1, c2), Err(WorldRefusal::NoCaller)),
-            (
-                Step::Submit(c1, a2, Method::Get, Given::Nothing),
-                Err(WorldRefusal::Submit(SubmitRefusal::NoActor)),
-            ),
-            (Step::Copy(c1, a2), NO_ACTOR),
-            (Step::Release(c1, a2), NO_ACTOR),
-            (Step::Run(a2, c1), NO_ACTOR),
-            (Step::AskKill(c1, a2), NO_ACTOR),
-            (Step::TakeKill(a2), NO_ACTOR),
-            (Step::Tell(a2, c1), NO_ACTOR),
-            (Step::Retire(a2), NO_ACTOR),
-        ],
-    )?;
-    Ok(())
-}
-
-/// A play may begin with an event that comes too early, or asks too much.
-#[test]
-fn begins_too_early(rt: HostRuntime) -> Result<(), Fail> {
-    let a1 = ActorId::new(1).unwrap();
-    let c1 = CallerId::new(1).unwrap();
-    let k0 = FutureId::new(0);
-    assert_refused(
-        &rt,
-        rt.alloc(),
-        &[],
-        &[
-            (
-                Step::Submit(c1, a1, Method::Add, Given::Future(k0)),
-                Err(WorldRefusal::Submit(SubmitRefusal::BadFuture)),
-            ),
-            (
-                Step::Submit(c1, a1, Method::Add, Given::TooMany),
-                Err(WorldRefusal::Submit(SubmitRefusal::TooManyArgs)),
-            ),
-            (
-                Step::Send(c1, k0),
-                Err(WorldRefusal::Sending(SendRefusal::NoFuture)),
-            ),
-            (Step::Deliver(0), Err(WorldRefusal::NoMail)),
-            (Step::Collect(0), Err(WorldRefusal::NoReply)),
-            (Step::TakeKill(a1), Err(WorldRefusal::NoKill)),
-            (Step::Tell(a1, c1), Err(WorldRefusal::NotDead)),
-            (Step::Retire(a1), Err(WorldRefusal::NotDrained)),
-        ],
-    )?;
-    Ok(())
-}
-
-/// A play may begin with an event that comes too late: the handle is gone.
-#[test]
-fn begins_without_a_handle(rt: HostRuntime) -> Result<(), Fail> {
-    let a1 = ActorId::new(1).unwrap();
-    let c1 = CallerId::new(1).unwrap();
-    assert_refused(
-        &rt,
-        rt.alloc(),
-        &[(Step::Release(c1, a1), Ok(Did::Mail(0)))],
-        &[
-            (
-                Step::Submit(c1, a1, Method::Get, Given::Nothing),
-                Err(WorldRefusal::Submit(SubmitRefusal::NoHandle)),
-            ),
-            (Step::Copy(c1, a1), NO_HANDLE),
-            (Step::Release(c1, a1), NO_HANDLE),
-            (Step::AskKill(c1, a1), NO_HANDLE),
-        ],
-    )?;
-    Ok(())
-}
-
-/// A play may begin with an event that comes too late: the actor is dead, and its death is known.
-#[test]
-fn begins_after_the_end(rt: HostRuntime) -> Result<(), Fail> {
-    let a1 = ActorId::new(1).unwrap();
-    let c1 = CallerId::new(1).unwrap();
-    let k0 = FutureId::new(0);
-    assert_refused(
-        &rt,
-        rt.alloc(),
-        &[
-            (
-                Step::Submit(c1, a1, Method::Get, Given::Nothing),
-                Ok(Did::Future(c1, k0)),
-            ),
-            (Step::AskKill(c1, a1), Ok(Did::Asked)),
-            (Step::TakeKill(a1), Ok(Did::Dead)),
-            (Step::Tell(a1, c1), Ok(Did::Told(0))),
-            (Step::Collect(0), Ok(Did::Died(1))),
-            (Step::Release(c1, a1), Ok(Did::Mail(0))),
-        ],
-        &[
-            (
-                Step::Send(c1, k0),
-                Err(WorldRefusal::Sending(SendRefusal::Answered)),
-            ),
-            (Step::Deliver(0), Err(WorldRefusal::ActorEnded)),
-            (Step::Run(a1, c1), Err(WorldRefusal::ActorEnded)),
-            (Step::TakeKill(a1), Err(WorldRefusal::ActorEnded)),
-            (Step::Retire(a1), Err(WorldRefusal::ActorEnded)),
-        ],
-    )?;
-    Ok(())
-}
-
-/// A play may begin with what an earlier call still holds up.
-#[test]
-fn begins_before_an_answer(rt: HostRuntime) -> Result<(), Fail> {
-    let a1 = ActorId::new(1).unwrap();
-    let c1 = CallerId::new(1).unwrap();
-    let [k0, k1] = [FutureId::new(0), FutureId::new(1)];
-    assert_refused(
-        &rt,
-        rt.alloc(),
-        &[
-            (
-                Step::Submit(c1, a1, Method::Add, Given::Int(1)),
-                Ok(Did::Future(c1, k0)),
-            ),
-            (
-                Step::Submit(c1, a1, Method::Add, Given::Future(k0)),
-                Ok(Did::Future(c1, k1)),
-            ),
-        ],
-        &[
-            (
-                Step::Submit(c1, a1, Method::Get, Given::Nothing),
-                Err(WorldRefusal::Submit(SubmitRefusal::PendingLimit)),
-            ),
-            (
-                Step::Send(c1, k1),
-                Err(WorldRefusal::Sending(SendRefusal::NotReady)),
-            ),
-        ],
-    )?;
     Ok(())
 }
 
 /// A play may begin with one copy of a handle too many.
 #[test]
 fn begins_with_a_copy_too_many(rt: HostRuntime) -> Result<(), Fail> {
-    let alloc = rt.alloc();
-    let a1 = ActorId::new(1).unwrap();
-    let c1 = CallerId::new(1).unwrap();
-    let mut before: Vec<Row> = Vec::new(alloc);
+    let copy = [Event::Copy(CallerId::new(1).unwrap(), ActorId::new(1).unwrap())];
+    let mut world = opened(&rt, rt.alloc(), ONE_COUNTER)?;
+    let mut are_right = true;
     for copies in 2..65_536u32 {
-        before.push((Step::Copy(c1, a1), Ok(Did::Copies(copies))))?;
+        assert!(rt; world.has_room(1));
+        are_right = world.apply(&copy[0]) == Ok(Did::Copies(copies)) && are_right;
     }
-    assert_refused(
+    let mut told = Vec::new(rt.alloc());
+    assert!(rt; world.has_room(1));
+    let played = world.play(&copy, &mut told);
+    drop(world);
+    let refusal = Err(WorldRefusal::Handle(HandleRefusal::TooManyCopies));
+    let is_refused = told.as_slice() == [refusal].as_slice();
+    drop(told);
+    let got = (are_right, played, is_refused);
+    assert_is(
         &rt,
-        alloc,
-        before.as_slice(),
-        &[(
-            Step::Copy(c1, a1),
-            Err(WorldRefusal::Handle(HandleRefusal::TooManyCopies)),
-        )],
-    )?;
+        "begins_with_a_copy_too_many",
+        &got,
+        &(true, Ok(()), true),
+    );
     Ok(())
 }
