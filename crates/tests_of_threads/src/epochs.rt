@@ -9,34 +9,29 @@
 //!   day 3:   c1 adds 4 to a2, which alone is left   c1: 6; a2 holds 6, and c2 is nobody's caller
 //!   left:    a2 with 6, its caller c1 and its limit 1
 
+use crate::executor::scene::{Kind, Role, actor, caller, casts_of};
+use crate::rows::assert_is;
+use crate::told::push_joined;
 use act_actor::{Cast, cast_fits};
 use act_drive::{Code, GaveUp, Session};
-use act_executor::{Ended, Finished, Joined, NoGate};
-use act_kinds::{Actor, Counter};
-use act_owner::Owner;
-use act_rules::RunItem;
+use act_executor::{Joined, NoGate};
+use act_kinds::{Actor, Boxed};
 use act_service::{EpochFault, Service, run_epochs};
-use act_types::{ActorId, Answer, Arg, CallerId, FutureId, ListOf, Method, NoMemory, Value};
+use act_types::{Arg, CallerId, ListOf, Method, NoMemory, Value};
 use std::alloc::Global;
 use std::process::Abort;
 use std::sync::Wait;
 use std::test::Fail;
 use std::thread::Threads;
 
-fn actor(number: u8) -> ActorId {
-    ActorId::new(number).unwrap_or(ActorId::new(1).unwrap())
-}
-
-fn caller(number: u8) -> CallerId {
-    CallerId::new(number).unwrap_or(CallerId::new(1).unwrap())
-}
-
-/// What one caller does on a day.
+/// What one caller does on a day with an actor.
 #[derive(Clone, Copy)]
 enum Chore {
-    Adds(ActorId, i64),
-    Ends(ActorId),
+    Adds(u8, i64),
+    Ends(u8),
 }
+
+use Chore::{Adds, Ends};
 
 fn int(alloc: Global, number: i64) -> Result<ListOf<Arg>, NoMemory> {
     let mut args = ListOf::new(alloc);
@@ -49,93 +44,14 @@ impl Code for Chore {
 
     fn run<S: Session>(&mut self, session: &mut S) -> Result<(), GaveUp> {
         let alloc = session.alloc();
-        let chore = &*self;
-        match chore {
-            Chore::Adds(a, n) => {
-                session.ask(*a, Method::Add, int(alloc, *n)?)?;
-            }
-            Chore::Ends(a) => {
-                session.ask(*a, Method::Terminate, ListOf::new(alloc))?;
-            }
-        }
+        let (a, method, args) = match *self {
+            Adds(a, n) => (a, Method::Add, int(alloc, n)?),
+            Ends(a) => (a, Method::Terminate, ListOf::new(alloc)),
+        };
+        session.ask(actor(a), method, args)?;
         Ok(())
     }
 }
-
-// ---- what is left, as text
-
-fn push_answer(text: &mut String, answer: Option<&Answer>) -> Result<(), NoMemory> {
-    match answer {
-        None => write!(text, " ?")?,
-        Some(Ok(value)) => write!(text, " {value}")?,
-        Some(Err(fault)) => write!(text, " {fault}")?,
-    }
-    Ok(())
-}
-
-fn push_owner(text: &mut String, owner: &Owner) -> Result<(), NoMemory> {
-    let caller = owner.id();
-    write!(text, "{caller}:")?;
-    for place in 0..owner.count() {
-        push_answer(text, owner.answer(FutureId::new(place)))?;
-    }
-    text.push('\n')?;
-    Ok(())
-}
-
-fn push_log(text: &mut String, log: &[RunItem]) -> Result<(), NoMemory> {
-    for item in log {
-        let caller = item.caller;
-        let k = item.future;
-        write!(text, " {caller}.{k}")?;
-    }
-    text.push('\n')?;
-    Ok(())
-}
-
-fn push_end(text: &mut String, end: &Ended<Counter>) -> Result<(), NoMemory> {
-    match end {
-        Ended::Retired(retired) => {
-            let actor = retired.id();
-            write!(text, "{actor} ")?;
-            retired.state_text(text)?;
-            text.push(':')?;
-            push_log(text, retired.log())
-        }
-        Ended::Killed(dead) | Ended::Starved(dead) => {
-            let actor = dead.id();
-            write!(text, "{actor} dead:")?;
-            push_log(text, dead.log())
-        }
-    }
-}
-
-fn push_joined(text: &mut String, joined: &Joined<Counter>) -> Result<(), NoMemory> {
-    for owner in &joined.owners {
-        push_owner(text, owner)?;
-    }
-    for actor in &joined.actors {
-        push_end(text, &actor.ended)?;
-    }
-    Ok(())
-}
-
-fn push_cast(text: &mut String, cast: &Cast<Counter>) -> Result<(), NoMemory> {
-    let actor = cast.actor;
-    write!(text, "{actor}")?;
-    for caller in cast.callers.as_slice() {
-        write!(text, " {caller}")?;
-    }
-    if let Some(limit) = cast.pending {
-        write!(text, " limit {limit}")?;
-    }
-    text.push(' ')?;
-    cast.kind.state_text(text)?;
-    text.push('\n')?;
-    Ok(())
-}
-
-// ---- a service
 
 /// Why the days end early.
 #[derive(Clone, Copy, Debug, PartialEq, Eq)]
@@ -150,18 +66,21 @@ impl From<NoMemory> for DayFault {
     }
 }
 
+/// What callers do on one day.
+type Day = &'static [(u8, Chore)];
+
 /// Chores, day after day, and a text of what each day left.
 #[derive(Drop)]
-struct Days<'a> {
+struct Days {
     alloc: Global,
-    chores: &'a [&'a [(u8, Chore)]],
+    chores: &'static [Day],
     day: usize,
-    /// The day on which it rains.
-    rain: usize,
+    /// The day on which it rains, if it does.
+    rain: Option<usize>,
     told: String,
 }
 
-fn chores_of(alloc: Global, chores: &[(u8, Chore)]) -> Result<Vec<(CallerId, Chore)>, NoMemory> {
+fn chores_of(alloc: Global, chores: Day) -> Result<Vec<(CallerId, Chore)>, NoMemory> {
     let mut codes = Vec::new(alloc);
     for (number, chore) in chores {
         codes.push((caller(*number), *chore))?;
@@ -169,58 +88,32 @@ fn chores_of(alloc: Global, chores: &[(u8, Chore)]) -> Result<Vec<(CallerId, Cho
     Ok(codes)
 }
 
-impl<'a> Service<Counter> for Days<'a> {
+impl Service<Boxed> for Days {
     type One = Chore;
 
     type Fault = DayFault;
 
     fn codes(
         &mut self,
-        _casts: &[Cast<Counter>],
+        _casts: &[Cast<Boxed>],
     ) -> Result<Option<Vec<(CallerId, Chore)>>, DayFault> {
         match self.chores.get(self.day) {
             None => Ok(None),
-            Some(chores) => Ok(Some(chores_of(self.alloc, chores)?)),
+            Some(chores) => Ok(Some(chores_of(self.alloc, *chores)?)),
         }
     }
 
-    fn look(&mut self, joined: &Joined<Counter>) -> Result<(), DayFault> {
-        if self.day == self.rain {
+    fn look(&mut self, joined: &Joined<Boxed>) -> Result<(), DayFault> {
+        if Some(self.day) == self.rain {
             return Err(DayFault::Rain);
         }
-        push_joined(&mut self.told, joined)?;
+        push_joined(self.alloc, &mut self.told, joined)?;
         self.day = self.day.saturating_add(1);
         Ok(())
     }
 }
 
-fn cast_of(
-    alloc: Global,
-    number: u8,
-    callers: &[u8],
-    pending: Option<u32>,
-) -> Result<Cast<Counter>, NoMemory> {
-    let mut names = ListOf::new(alloc);
-    for name in callers {
-        names.push(caller(*name))?;
-    }
-    Ok(Cast {
-        actor: actor(number),
-        callers: names,
-        kind: Counter::open(),
-        pending,
-    })
-}
-
-/// Counters 1, of callers 1 and 2, and 2, of caller 1 under a limit.
-fn counters(alloc: Global) -> Result<Vec<Cast<Counter>>, NoMemory> {
-    let mut casts = Vec::new(alloc);
-    casts.push(cast_of(alloc, 1, &[1, 2], None)?)?;
-    casts.push(cast_of(alloc, 2, &[1], Some(1))?)?;
-    Ok(casts)
-}
-
-/// Why no text is told.
+/// Why the days ended before their last.
 #[derive(Clone, Copy, Debug, PartialEq, Eq)]
 enum Untold {
     Unfit,
@@ -238,127 +131,110 @@ fn untold_of(fault: EpochFault<DayFault>) -> Untold {
     }
 }
 
+fn push_cast(text: &mut String, cast: &Cast<Boxed>) -> Result<(), NoMemory> {
+    let actor = cast.actor;
+    write!(text, "{actor}")?;
+    for caller in cast.callers.as_slice() {
+        write!(text, " {caller}")?;
+    }
+    if let Some(limit) = cast.pending {
+        write!(text, " limit {limit}")?;
+    }
+    text.push(' ')?;
+    cast.kind.state_text(text)?;
+    text.push('\n')?;
+    Ok(())
+}
+
+fn push_casts(text: &mut String, casts: &[Cast<Boxed>]) -> Result<(), NoMemory> {
+    for cast in casts {
+        push_cast(text, cast)?;
+    }
+    Ok(())
+}
+
+/// Counters 1, of callers 1 and 2, and 2, of caller 1 under a limit.
+static COUNTERS: [Role; 2] = [
+    (1, &[1, 2], Kind::ACounter, None),
+    (2, &[1], Kind::ACounter, Some(1)),
+];
+
 /// What is told of the days, and then a line of each actor that is left.
-fn told<R: Threads + Wait + Sync>(rt: &R, alloc: Global, days: &mut Days) -> Result<(), Untold> {
-    let Ok(casts) = counters(alloc) else {
+fn tell<R: Threads + Wait + Sync>(rt: &R, alloc: Global, days: &mut Days) -> Result<(), Untold> {
+    let Ok(casts) = casts_of(alloc, &COUNTERS) else {
         return Err(Untold::Refused);
     };
     if !cast_fits(&casts) {
+        drop(casts);
         return Err(Untold::Unfit);
     }
     match run_epochs(rt, alloc, casts, days, &NoGate) {
         Err(fault) => Err(untold_of(fault)),
         Ok(left) => {
-            for cast in &left {
-                if push_cast(&mut days.told, cast).is_err() {
-                    return Err(Untold::Refused);
-                }
+            let pushed = push_casts(&mut days.told, left.as_slice());
+            drop(left);
+            if pushed.is_ok() {
+                Ok(())
+            } else {
+                Err(Untold::Refused)
             }
-            Ok(())
         }
     }
 }
 
-/// Never in the days of a test.
-const NO_RAIN: usize = 100;
+/// Days by their name: their chores, on which it rains, how they end, and what is told of them.
+type Row = (
+    &'static str,
+    &'static [Day],
+    Option<usize>,
+    Result<(), Untold>,
+    &'static str,
+);
 
-/// The whole story of this file's head.
+#[rattlefmt::skip]
+static ROWS: [Row; 4] = [
+    // The whole story of this file's head.
+    ("days_follow_one_another",
+        &[&[(1, Adds(1, 5))], &[(1, Adds(2, 2)), (2, Adds(1, 1))], &[(1, Ends(1))], &[(1, Adds(2, 4))]], None, Ok(()),
+        "c1: 5\nc2:\na1 retired counter 5: c1.0\na2 retired counter 0:\n\
+        c1: 2\nc2: 6\na1 retired counter 6: c2.0\na2 retired counter 2: c1.0\n\
+        c1: unit\nc2:\na1 killed: c1.0\na2 retired counter 2:\n\
+        c1: 6\na2 retired counter 6: c1.0\n\
+        a2 c1 limit 1 counter 6\n"),
+    // A service that comes to its end at once gives back all actors as they were cast.
+    ("no_day_at_all", &[], None, Ok(()), "a1 c1 c2 counter 0\na2 c1 limit 1 counter 0\n"),
+    // On the day after its only actor died caller 2 is given code.
+    ("code_for_nobodys_caller", &[&[(1, Ends(1))], &[(2, Adds(1, 1))]], None, Err(Untold::BadCodes),
+        "c1: unit\nc2:\na1 killed: c1.0\na2 retired counter 0:\n"),
+    // The service fails when it looks at the second day, and nothing more is run.
+    ("it_rains", &[&[(1, Adds(1, 5))], &[(1, Adds(1, 5))], &[(1, Adds(1, 5))]], Some(1), Err(Untold::Rain),
+        "c1: 5\nc2:\na1 retired counter 5: c1.0\na2 retired counter 0:\n"),
+];
+
+/// Tells of a row's days. Want of memory is an error of the test.
+fn play<R: Threads + Wait + Sync + Abort>(rt: &R, alloc: Global, row: &Row) -> Result<(), Untold> {
+    let (name, chores, rain, wanted, text) = *row;
+    let mut days = Days {
+        alloc,
+        chores,
+        day: 0,
+        rain,
+        told: String::new(alloc),
+    };
+    let ended = tell(rt, alloc, &mut days);
+    let is_told = days.told.as_str() == text;
+    drop(days);
+    if ended == Err(Untold::Refused) {
+        return ended;
+    }
+    assert_is(rt, name, &(ended, is_told), &(wanted, true));
+    Ok(())
+}
+
 #[test]
 fn days_follow_one_another(rt: HostRuntime) -> Result<(), Fail> {
-    let alloc = rt.alloc();
-    let chores: [&[(u8, Chore)]; 4] = [
-        &[(1, Chore::Adds(actor(1), 5))],
-        &[(1, Chore::Adds(actor(2), 2)), (2, Chore::Adds(actor(1), 1))],
-        &[(1, Chore::Ends(actor(1)))],
-        &[(1, Chore::Adds(actor(2), 4))],
-    ];
-    let mut days = Days {
-        alloc,
-        chores: &chores,
-        day: 0,
-        rain: NO_RAIN,
-        told: String::new(alloc),
-    };
-    told(&rt, alloc, &mut days)?;
-    let wanted = "c1: 5\nc2:\na1 counter 5: c1.0\na2 counter 0:\n\
-        c1: 2\nc2: 6\na1 counter 6: c2.0\na2 counter 2: c1.0\n\
-        c1: unit\nc2:\na1 dead: c1.0\na2 counter 2:\n\
-        c1: 6\na2 counter 6: c1.0\n\
-        a2 c1 limit 1 counter 6\n";
-    assert_eq!(rt; days.told.as_str(), wanted);
-    Ok(())
-}
-
-/// A service that comes to its end at once gives back all actors as they were cast.
-#[test]
-fn no_day_at_all(rt: HostRuntime) -> Result<(), Fail> {
-    let alloc = rt.alloc();
-    let mut days = Days {
-        alloc,
-        chores: &[],
-        day: 0,
-        rain: NO_RAIN,
-        told: String::new(alloc),
-    };
-    told(&rt, alloc, &mut days)?;
-    assert_eq!(rt;
-        days.told.as_str(),
-        "a1 c1 c2 counter 0\na2 c1 limit 1 counter 0\n"
-    );
-    Ok(())
-}
-
-/// On the day after its only actor died caller 2 is given code.
-#[test]
-fn code_for_nobodys_caller(rt: HostRuntime) -> Result<(), Fail> {
-    let alloc = rt.alloc();
-    let chores: [&[(u8, Chore)]; 2] = [
-        &[(1, Chore::Ends(actor(1)))],
-        &[(2, Chore::Adds(actor(1), 1))],
-    ];
-    let mut days = Days {
-        alloc,
-        chores: &chores,
-        day: 0,
-        rain: NO_RAIN,
-        told: String::new(alloc),
-    };
-    let ended = told(&rt, alloc, &mut days);
-    if ended == Err(Untold::Refused) {
-        ended?;
+    for row in &ROWS {
+        play(&rt, rt.alloc(), row)?;
     }
-    assert!(rt; ended == Err(Untold::BadCodes));
-    assert_eq!(rt;
-        days.told.as_str(),
-        "c1: unit\nc2:\na1 dead: c1.0\na2 counter 0:\n"
-    );
-    Ok(())
-}
-
-/// The service fails when it looks at the second day, and nothing more is run.
-#[test]
-fn it_rains(rt: HostRuntime) -> Result<(), Fail> {
-    let alloc = rt.alloc();
-    let chores: [&[(u8, Chore)]; 3] = [
-        &[(1, Chore::Adds(actor(1), 5))],
-        &[(1, Chore::Adds(actor(1), 5))],
-        &[(1, Chore::Adds(actor(1), 5))],
-    ];
-    let mut days = Days {
-        alloc,
-        chores: &chores,
-        day: 0,
-        rain: 1,
-        told: String::new(alloc),
-    };
-    let ended = told(&rt, alloc, &mut days);
-    if ended == Err(Untold::Refused) {
-        ended?;
-    }
-    assert!(rt; ended == Err(Untold::Rain));
-    assert_eq!(rt;
-        days.told.as_str(),
-        "c1: 5\nc2:\na1 counter 5: c1.0\na2 counter 0:\n"
-    );
     Ok(())
 }

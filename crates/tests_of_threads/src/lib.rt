@@ -15,6 +15,12 @@ mod mailbox;
 #[cfg(test)]
 mod opened_lines;
 #[cfg(test)]
+mod places;
+#[cfg(test)]
+mod rows;
+#[cfg(test)]
 mod serve;
 #[cfg(test)]
 mod tasks;
+#[cfg(test)]
+mod told;

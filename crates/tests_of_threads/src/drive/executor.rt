@@ -1,16 +1,15 @@
-//! The executors of the tests.
+//! A plain executor, which does what a list says.
 
 ghost use Rattle.std.specs.Prelude.{◌≡◌, [], All, IfOk, IfSome};
 ghost use Rattle.act_types.specs.declared.call.Notice.TheVariants.{Answered};
 ghost use Rattle.act_rules.specs.Consistent.{IsPrefix};
 ghost use Rattle.act_mailbox.specs.Notices.{new_exec, IsNoDeath, NamesPlace};
 
-use super::station::ExecPasses;
-use crate::lines::{actor, caller};
+use crate::lines::caller;
 use act_actor::Live;
 use act_kinds::{Actor, Counter};
 use act_mailbox::{Control, ControlExec, Letter, Mail, MailExec, Replies, ReplyExec};
-use act_types::{CopyOf, NoMemory, Notice, Reply};
+use act_types::{ActorId, CopyOf, NoMemory, Notice, Reply};
 use std::alloc::Global;
 use std::sync::Wait;
 use std::thread;
@@ -18,20 +17,35 @@ use std::thread;
 /// How often an executor looks for a kill that is not to come.
 const LOOKS: u32 = 100_000;
 
-/// What an executor does to its caller.
+/// How often one that attends looks for something to do. Its thread may stand before its caller's,
+/// where no other can be made.
+const ATTENDS: u32 = 5_000_000;
+
+/// What an executor does.
 #[derive(Clone, Copy)]
-pub(super) enum Way {
-    /// It takes a call, looks for a kill, runs the call, and ends by the kill that comes then.
-    Holds,
-    /// It takes two calls, gives the first reply twice, and ends.
-    Repeats,
-    /// It takes two calls and the note, and retires.
-    Retires,
-    /// It takes a call when it gave the reply of the one before, three times, then the note, and
-    /// retires.
-    Paces,
-    /// It takes a call, and ends without an answer.
-    Leaves,
+pub(super) enum Act {
+    /// Takes a letter, for which it waits.
+    Take,
+    /// Looks for a kill, of which there is to be none.
+    SeesNoKill,
+    /// Runs the caller's next call, and gives its reply so many times.
+    Run(u32),
+    /// Waits for a kill.
+    TakeKill,
+    /// Takes letters and runs calls until all is drained. A kill is not to come.
+    Attend,
+}
+
+/// What an executor does in turn, and whether it retires then. Else it tells its death.
+#[derive(Clone, Copy)]
+pub(super) struct Script(pub(super) &'static [Act], pub(super) bool);
+
+/// Whether an executor saw what it was to see, how many calls it ran, and whether it retired.
+#[derive(Clone, Copy, Debug, PartialEq, Eq)]
+pub(super) struct Acted {
+    pub(super) is_right: bool,
+    pub(super) ran: usize,
+    pub(super) retired: bool,
 }
 
 /// The lines of an executor with one caller.
@@ -42,74 +56,80 @@ pub(super) struct ExecLines<'a> {
     pub(super) replies: &'a Replies,
 }
 
-/// Has a letter arrive, if there is memory for it.
-pub(super) fn arrive<K: Actor>(live: &mut Live<K>, letter: Letter) -> Result<(), NoMemory>
+/// The executor's passes.
+#[derive(Drop)]
+pub(super) struct ExecPasses {
+    pub(super) letters: MailExec,
+    pub(super) kills: ControlExec,
+    pub(super) gives: ReplyExec,
+}
+
+/// Takes a letter, if there is one, and has it arrive. Whether there was one.
+fn take_in<R: Wait, K: Actor>(
+    rt: &R,
+    mail: &Mail,
+    letters: &mut MailExec,
+    live: &mut Live<K>,
+) -> Result<bool, NoMemory>
+    requires line { letters.old.line ≡ mail.now.line }
+    ensures line { letters.new.line ≡ letters.old.line }
     ensures same { live.new ≡ record live.old { inbox = live.new.inbox } }
 {
-    match letter {
-        Letter::Call(packet) => match live.arrive(packet) {
-            Ok(_) => Ok(()),
+    match mail.take(rt, letters) {
+        None => Ok(false),
+        Some(Letter::Call(packet)) => match live.arrive(packet) {
+            Ok(_) => Ok(true),
             Err(back) => {
                 drop(back);
                 Err(NoMemory)
             }
         },
-        Letter::Note(note) => {
+        Some(Letter::Note(note)) => {
             live.released(note);
-            Ok(())
+            Ok(true)
         }
     }
 }
 
-/// Takes a letter, and has it arrive.
-fn take_one<R: Wait, K: Actor>(rt: &R, mail: &Mail, letters: &mut MailExec, live: &mut Live<K>)
+/// Takes a letter, for which it waits, and has it arrive.
+fn take_one<R: Wait, K: Actor>(
+    rt: &R,
+    mail: &Mail,
+    letters: &mut MailExec,
+    live: &mut Live<K>,
+) -> Result<(), NoMemory>
     requires line { letters.old.line ≡ mail.now.line }
     ensures line { letters.new.line ≡ letters.old.line }
     ensures same { live.new ≡ record live.old { inbox = live.new.inbox } }
 {
     for _ in rt.forever() {
-        if let Some(letter) = mail.take(rt, letters) {
-            let _ = arrive(live, letter);
-            return;
+        if take_in(rt, mail, letters, live)? {
+            return Ok(());
         }
         thread::yield_now();
     }
     unreachable!()
 }
 
-/// Looks for a kill so many times, and says whether none came.
-fn sees_none<R: Wait, K: Actor>(
+/// Looks for a kill at most so many times. Whether one came.
+fn sees_kill<R: Wait, K: Actor>(
     rt: &R,
     control: &Control,
     kills: &mut ControlExec,
     live: &Live<K>,
+    looks: u32,
 ) -> bool
     requires line { kills.old.line ≡ control.now.line }
     requires actor { live.now.id ≡ kills.old.actor }
-    ensures line { kills.new.line ≡ kills.old.line }
-    ensures actor { kills.new.actor ≡ kills.old.actor }
+    ensures { (kills.new.line ≡ kills.old.line) × (kills.new.actor ≡ kills.old.actor) }
 {
-    for _ in 0..LOOKS {
+    for _ in 0..looks {
         if control.take(rt, kills, live).is_some() {
-            return false;
+            return true;
         }
         thread::yield_now();
     }
-    true
-}
-
-/// Waits for a kill.
-fn take_kill<R: Wait, K: Actor>(rt: &R, control: &Control, kills: &mut ControlExec, live: &Live<K>)
-    requires line { kills.old.line ≡ control.now.line }
-    requires actor { live.now.id ≡ kills.old.actor }
-{
-    for _ in rt.forever() {
-        if control.take(rt, kills, live).is_some() {
-            return;
-        }
-        thread::yield_now();
-    }
-    unreachable!()
+    false
 }
 
 /// Runs the caller's next call.
@@ -149,8 +169,8 @@ fn give_times<R: Wait, K: Actor>(
     Ok(())
 }
 
-/// Runs the caller's next call, and gives its reply so many times.
-pub(super) fn run_one<R: Wait, K: Actor>(
+/// Runs the caller's next call, if it came, and gives its reply so many times.
+fn run_one<R: Wait, K: Actor>(
     rt: &R,
     alloc: Global,
     live: &mut Live<K>,
@@ -176,182 +196,155 @@ pub(super) fn run_one<R: Wait, K: Actor>(
     given
 }
 
-/// Tells the actor's death.
-pub(super) fn tell_death<R: Wait, K: Actor>(
-    rt: &R,
-    line: &Replies,
-    gives: &mut ReplyExec,
-    live: &Live<K>,
-)
-    requires line { gives.old.line ≡ line.now.line }
-    requires actor { gives.old.actor ≡ live.now.id }
-    requires grown { IsPrefix gives.old.seen live.now.log }
-    requires alive { All IsNoDeath gives.old.given }
-{
-    drop(line.give(rt, gives, live.log(), Notice::Death(live.id())));
-}
-
-/// An executor of the way `Holds`. Whether it saw no kill before it ran the call.
-fn hold<R: Wait, K: Actor>(
+/// Takes letters and runs calls until all is drained, and whether it was. A kill or the last look
+/// ends it before.
+fn attend<R: Wait, K: Actor>(
     rt: &R,
     alloc: Global,
     live: &mut Live<K>,
     lines: &ExecLines,
     passes: &mut ExecPasses,
 ) -> Result<bool, NoMemory>
-    requires live { (live.old.id ≡ 1) × (live.old.log ≡ []) }
     requires letters { passes.old.letters.line ≡ lines.now.mail.now.line }
-    requires kills { (passes.old.kills.line ≡ lines.now.control.now.line) × (passes.old.kills.actor ≡ 1) }
-    requires gives { passes.old.gives ≡ new_exec lines.now.replies.now.line 1 }
+    requires kills { (passes.old.kills.line ≡ lines.now.control.now.line) × (passes.old.kills.actor ≡ live.old.id) }
+    requires gives { (passes.old.gives.line ≡ lines.now.replies.now.line) × (passes.old.gives.actor ≡ live.old.id) }
+    requires grown { IsPrefix passes.old.gives.seen live.old.log }
+    requires alive { All IsNoDeath passes.old.gives.given }
+    ensures letters { passes.new.letters.line ≡ passes.old.letters.line }
+    ensures kills { (passes.new.kills.line ≡ passes.old.kills.line) × (passes.new.kills.actor ≡ live.new.id) }
+    ensures gives { (passes.new.gives.line ≡ passes.old.gives.line) × (passes.new.gives.actor ≡ live.new.id) }
+    ensures id { live.new.id ≡ live.old.id }
+    ensures grown { IsPrefix passes.new.gives.seen live.new.log }
+    ensures alive { All IsNoDeath passes.new.gives.given }
 {
-    take_one(rt, lines.mail, &mut passes.letters, live);
-    let is_quiet = sees_none(rt, lines.control, &mut passes.kills, live);
-    run_one(rt, alloc, live, lines.replies, &mut passes.gives, 1)?;
-    take_kill(rt, lines.control, &mut passes.kills, live);
-    tell_death(rt, lines.replies, &mut passes.gives, live);
-    Ok(is_quiet)
-}
-
-/// An executor of the way `Repeats`. Whether it ran both calls.
-fn repeat<R: Wait, K: Actor>(
-    rt: &R,
-    alloc: Global,
-    live: &mut Live<K>,
-    lines: &ExecLines,
-    passes: &mut ExecPasses,
-) -> Result<bool, NoMemory>
-    requires live { (live.old.id ≡ 1) × (live.old.log ≡ []) }
-    requires letters { passes.old.letters.line ≡ lines.now.mail.now.line }
-    requires gives { passes.old.gives ≡ new_exec lines.now.replies.now.line 1 }
-{
-    take_one(rt, lines.mail, &mut passes.letters, live);
-    take_one(rt, lines.mail, &mut passes.letters, live);
-    run_one(rt, alloc, live, lines.replies, &mut passes.gives, 2)?;
-    run_one(rt, alloc, live, lines.replies, &mut passes.gives, 0)?;
-    tell_death(rt, lines.replies, &mut passes.gives, live);
-    Ok(live.log().len() == 2)
-}
-
-/// An executor of the way `Retires`. Whether the actor may retire.
-fn drain<R: Wait, K: Actor>(
-    rt: &R,
-    alloc: Global,
-    live: &mut Live<K>,
-    lines: &ExecLines,
-    passes: &mut ExecPasses,
-) -> Result<bool, NoMemory>
-    requires live { (live.old.id ≡ 1) × (live.old.log ≡ []) }
-    requires letters { passes.old.letters.line ≡ lines.now.mail.now.line }
-    requires gives { passes.old.gives ≡ new_exec lines.now.replies.now.line 1 }
-{
-    for _ in 0..3u32 {
-        take_one(rt, lines.mail, &mut passes.letters, live);
-    }
-    run_one(rt, alloc, live, lines.replies, &mut passes.gives, 1)?;
-    run_one(rt, alloc, live, lines.replies, &mut passes.gives, 1)?;
-    Ok(live.drained())
-}
-
-/// An executor of the way `Paces`. Whether the actor may retire.
-fn pace<R: Wait, K: Actor>(
-    rt: &R,
-    alloc: Global,
-    live: &mut Live<K>,
-    lines: &ExecLines,
-    passes: &mut ExecPasses,
-) -> Result<bool, NoMemory>
-    requires live { (live.old.id ≡ 1) × (live.old.log ≡ []) }
-    requires letters { passes.old.letters.line ≡ lines.now.mail.now.line }
-    requires gives { passes.old.gives ≡ new_exec lines.now.replies.now.line 1 }
-{
-    for _ in 0..3u32 {
-        take_one(rt, lines.mail, &mut passes.letters, live);
+    for _ in 0..ATTENDS {
+        if sees_kill(rt, lines.control, &mut passes.kills, live, 1) {
+            return Ok(false);
+        }
+        let has_come = take_in(rt, lines.mail, &mut passes.letters, live)?;
         run_one(rt, alloc, live, lines.replies, &mut passes.gives, 1)?;
-    }
-    take_one(rt, lines.mail, &mut passes.letters, live);
-    Ok(live.drained())
-}
-
-/// An executor of the way `Leaves`. Whether it ran no call.
-fn leave<R: Wait, K: Actor>(
-    rt: &R,
-    live: &mut Live<K>,
-    lines: &ExecLines,
-    passes: &mut ExecPasses,
-) -> bool
-    requires live { (live.old.id ≡ 1) × (live.old.log ≡ []) }
-    requires letters { passes.old.letters.line ≡ lines.now.mail.now.line }
-    requires gives { passes.old.gives ≡ new_exec lines.now.replies.now.line 1 }
-{
-    take_one(rt, lines.mail, &mut passes.letters, live);
-    tell_death(rt, lines.replies, &mut passes.gives, live);
-    live.log().is_empty()
-}
-
-/// An executor of this way. Whether all was as it should be before the actor retires, if it does.
-fn act<R: Wait, K: Actor>(
-    rt: &R,
-    alloc: Global,
-    live: &mut Live<K>,
-    lines: &ExecLines,
-    passes: &mut ExecPasses,
-    way: Way,
-) -> Result<bool, NoMemory>
-    requires live { (live.old.id ≡ 1) × (live.old.log ≡ []) }
-    requires letters { passes.old.letters.line ≡ lines.now.mail.now.line }
-    requires kills { (passes.old.kills.line ≡ lines.now.control.now.line) × (passes.old.kills.actor ≡ 1) }
-    requires gives { passes.old.gives ≡ new_exec lines.now.replies.now.line 1 }
-{
-    match way {
-        Way::Holds => hold(rt, alloc, live, lines, passes),
-        Way::Repeats => repeat(rt, alloc, live, lines, passes),
-        Way::Retires => drain(rt, alloc, live, lines, passes),
-        Way::Paces => pace(rt, alloc, live, lines, passes),
-        Way::Leaves => Ok(leave(rt, live, lines, passes)),
-    }
-}
-
-/// Whether the actor retires.
-pub(super) fn retires<K: Actor>(live: Live<K>) -> bool {
-    let ended = live.retire();
-    let is_retired = ended.is_ok();
-    drop(ended);
-    is_retired
-}
-
-/// Whether the actor retires, if its way is to.
-fn ends<K: Actor>(live: Live<K>, way: Way) -> bool {
-    match way {
-        Way::Retires | Way::Paces => retires(live),
-        Way::Holds | Way::Repeats | Way::Leaves => {
-            drop(live);
-            true
+        if !has_come && live.drained() {
+            return Ok(true);
         }
     }
+    Ok(false)
 }
 
-/// A counter's executor. Whether all was as it should be.
-pub(super) fn serve_counter<R: Wait>(
+/// Does one thing. Whether it saw what it was to see.
+fn act_once<R: Wait, K: Actor>(
     rt: &R,
     alloc: Global,
+    live: &mut Live<K>,
+    lines: &ExecLines,
+    passes: &mut ExecPasses,
+    act: Act,
+) -> Result<bool, NoMemory>
+    requires letters { passes.old.letters.line ≡ lines.now.mail.now.line }
+    requires kills { (passes.old.kills.line ≡ lines.now.control.now.line) × (passes.old.kills.actor ≡ live.old.id) }
+    requires gives { (passes.old.gives.line ≡ lines.now.replies.now.line) × (passes.old.gives.actor ≡ live.old.id) }
+    requires grown { IsPrefix passes.old.gives.seen live.old.log }
+    requires alive { All IsNoDeath passes.old.gives.given }
+    ensures letters { passes.new.letters.line ≡ passes.old.letters.line }
+    ensures kills { (passes.new.kills.line ≡ passes.old.kills.line) × (passes.new.kills.actor ≡ live.new.id) }
+    ensures gives { (passes.new.gives.line ≡ passes.old.gives.line) × (passes.new.gives.actor ≡ live.new.id) }
+    ensures id { live.new.id ≡ live.old.id }
+    ensures grown { IsPrefix passes.new.gives.seen live.new.log }
+    ensures alive { All IsNoDeath passes.new.gives.given }
+{
+    match act {
+        Act::Take => take_one(rt, lines.mail, &mut passes.letters, live)?,
+        Act::SeesNoKill => return Ok(!sees_kill(rt, lines.control, &mut passes.kills, live, LOOKS)),
+        Act::Run(times) => run_one(rt, alloc, live, lines.replies, &mut passes.gives, times)?,
+        Act::TakeKill => return Ok(sees_kill(rt, lines.control, &mut passes.kills, live, u32::MAX)),
+        Act::Attend => return attend(rt, alloc, live, lines, passes),
+    }
+    Ok(true)
+}
+
+/// Does these things in turn. Whether it saw what it was to see.
+fn act_all<R: Wait, K: Actor>(
+    rt: &R,
+    alloc: Global,
+    live: &mut Live<K>,
+    lines: &ExecLines,
+    passes: &mut ExecPasses,
+    acts: &[Act],
+) -> Result<bool, NoMemory>
+    requires log { live.old.log ≡ [] }
+    requires letters { passes.old.letters.line ≡ lines.now.mail.now.line }
+    requires kills { (passes.old.kills.line ≡ lines.now.control.now.line) × (passes.old.kills.actor ≡ live.old.id) }
+    requires gives { passes.old.gives ≡ new_exec lines.now.replies.now.line live.old.id }
+    ensures gives { (passes.new.gives.line ≡ passes.old.gives.line) × (passes.new.gives.actor ≡ live.new.id) }
+    ensures grown { IsPrefix passes.new.gives.seen live.new.log }
+    ensures alive { All IsNoDeath passes.new.gives.given }
+{
+    let mut is_right = true;
+    for one in acts {
+        is_right = act_once(rt, alloc, live, lines, passes, *one)? && is_right;
+    }
+    Ok(is_right)
+}
+
+/// Retires, or tells its death where it isn't to retire or can't.
+fn end<R: Wait, K: Actor>(
+    rt: &R,
+    live: Live<K>,
+    line: &Replies,
+    gives: &mut ReplyExec,
+    retires: bool,
+) -> bool
+    requires line { gives.old.line ≡ line.now.line }
+    requires actor { gives.old.actor ≡ live.id }
+    requires grown { IsPrefix gives.old.seen live.log }
+    requires alive { All IsNoDeath gives.old.given }
+{
+    if retires && live.drained() {
+        let ended = live.retire();
+        let is_retired = ended.is_ok();
+        drop(ended);
+        return is_retired;
+    }
+    drop(line.give(rt, gives, live.log(), Notice::Death(live.id())));
+    drop(live);
+    false
+}
+
+/// A counter's executor, which tells its death where it finds no memory.
+pub(super) fn perform<R: Wait>(
+    rt: &R,
+    alloc: Global,
+    a: ActorId,
     lines: &ExecLines,
     mut passes: ExecPasses,
-    way: Way,
-) -> Result<bool, NoMemory>
+    script: &Script,
+) -> Acted
     requires letters { passes.letters.line ≡ lines.now.mail.now.line }
-    requires kills { (passes.kills.line ≡ lines.now.control.now.line) × (passes.kills.actor ≡ 1) }
-    requires gives { passes.gives ≡ new_exec lines.now.replies.now.line 1 }
+    requires kills { (passes.kills.line ≡ lines.now.control.now.line) × (passes.kills.actor ≡ a) }
+    requires gives { passes.gives ≡ new_exec lines.now.replies.now.line a }
 {
-    let is_right = match Live::open(alloc, actor(), &[caller()], Counter::open()) {
-        Ok(mut live) => match act(rt, alloc, &mut live, lines, &mut passes, way) {
-            Ok(is_right) => Ok(ends(live, way) && is_right),
-            Err(refused) => {
-                drop(live);
-                Err(refused)
+    let acted = match Live::open(alloc, a, &[caller()], Counter::open()) {
+        Ok(mut live) => {
+            let done = act_all(rt, alloc, &mut live, lines, &mut passes, script.0);
+            let retires = script.1 && done.is_ok();
+            let is_right = done.unwrap_or(false);
+            let ran = live.log().len();
+            let retired = end(rt, live, lines.replies, &mut passes.gives, retires);
+            Acted {
+                is_right,
+                ran,
+                retired,
             }
-        },
-        Err(refused) => Err(refused),
+        }
+        Err(_) => {
+            let death = Notice::Death(a);
+            drop(lines.replies.give(rt, &mut passes.gives, &[], death));
+            Acted {
+                is_right: false,
+                ran: 0,
+                retired: false,
+            }
+        }
     };
     drop(passes);
-    is_right
+    acted
 }

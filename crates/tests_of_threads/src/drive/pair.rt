@@ -7,31 +7,12 @@ ghost use Rattle.act_mailbox.specs.Notices.{new_exec};
 ghost use Rattle.act_mailbox.specs.Passes.{new_putter, new_taker};
 ghost use Rattle.act_drive.specs.Driven.{IsUnusedCaller};
 
-use super::station::ExecPasses;
-use crate::lines::{Lines, actor, caller, opened_lines};
+use super::executor::ExecPasses;
+use crate::lines::{Lines, OpenedReplies, actor, caller, opened_lines, opened_replies, other};
 use act_drive::CallerPasses;
-use act_mailbox::{
-    Control, ControlCaller, Endpoint, Mail, MailCaller, Replies, ReplyCaller, ReplyExec,
-};
-use act_types::{ActorId, NoMemory};
+use act_mailbox::{Control, ControlCaller, Endpoint, Mail, MailCaller, Replies, ReplyCaller};
+use act_types::NoMemory;
 use std::alloc::Global;
-
-pub(super) fn other() -> ActorId
-    ensures { result ≡ 2 }
-{
-    ActorId::new(2).unwrap()
-}
-
-fn opened_replies(alloc: Global) -> Result<(Replies, ReplyCaller, ReplyExec, ReplyExec), NoMemory>
-    ensures caller { IfOk result (λ opened. opened.1 ≡ new_taker opened.0.line (1 ∷ 2 ∷ [])) }
-    ensures first { IfOk result (λ opened. opened.2 ≡ new_exec opened.0.line 1) }
-    ensures second { IfOk result (λ opened. opened.3 ≡ new_exec opened.0.line 2) }
-{
-    let (replies, mut gives, collects) = Replies::open(alloc, caller(), &[actor(), other()])?;
-    let second = gives.pop().unwrap();
-    let first = gives.pop().unwrap();
-    Ok((replies, collects, first, second))
-}
 
 /// Room for the endpoints of the caller's passes.
 #[derive(Drop)]
@@ -109,12 +90,7 @@ pub(super) struct Passes {
     pub(super) other_exec: ExecPasses,
 }
 
-fn paired(
-    room: Room,
-    one: Lines,
-    two: Lines,
-    replies: (Replies, ReplyCaller, ReplyExec, ReplyExec),
-) -> (Pair, Passes)
+fn paired(room: Room, one: Lines, two: Lines, replies: OpenedReplies) -> (Pair, Passes)
     requires empty { (room.letters.items ≡ []) × (room.kills.items ≡ []) }
     requires room { (vec_len room.letters + 2 ≤ vec_capacity room.letters)
         × (vec_len room.kills + 2 ≤ vec_capacity room.kills) }
@@ -122,15 +98,15 @@ fn paired(
     requires actors { (one.control.actor ≡ 1) × (two.control.actor ≡ 2) }
     requires posts { (one.post ≡ new_putter one.mail.line 1) × (two.post ≡ new_putter two.mail.line 1) }
     requires asks { (one.ask ≡ new_putter one.control.line 1) × (two.ask ≡ new_putter two.control.line 1) }
-    requires collects { replies.1 ≡ new_taker replies.0.line (1 ∷ 2 ∷ []) }
+    requires collects { replies.3 ≡ new_taker replies.0.line (1 ∷ 2 ∷ []) }
     ensures caller { IsUnusedCaller result.0.mails result.0.controls result.0.replies 1 result.1.caller }
     ensures mails { result.0.mails ≡ one.mail ∷ two.mail ∷ [] }
     ensures controls { result.0.controls ≡ one.control ∷ two.control ∷ [] }
     ensures replies { result.0.replies ≡ replies.0 }
-    ensures exec { result.1.exec ≡ record { letters = one.letters; kills = one.kills; gives = replies.2 } }
-    ensures other_exec { result.1.other_exec ≡ record { letters = two.letters; kills = two.kills; gives = replies.3 } }
+    ensures exec { result.1.exec ≡ record { letters = one.letters; kills = one.kills; gives = replies.1 } }
+    ensures other_exec { result.1.other_exec ≡ record { letters = two.letters; kills = two.kills; gives = replies.2 } }
 {
-    let (replies, collects, gives, other_gives) = replies;
+    let (replies, gives, other_gives, collects) = replies;
     let caller = endpoints_at(room, (one.post, two.post), (one.ask, two.ask), collects);
     let exec = ExecPasses {
         letters: one.letters,
@@ -155,7 +131,7 @@ fn paired(
     (pair, passes)
 }
 
-/// The lines, and the passes of the caller.
+/// The lines, and the passes of the caller and of both executors.
 pub(super) fn opened_pair(alloc: Global) -> Result<(Pair, Passes), NoMemory>
     ensures caller { IfOk result (λ opened.
         IsUnusedCaller opened.0.mails opened.0.controls opened.0.replies 1 opened.1.caller) }
@@ -186,7 +162,7 @@ pub(super) fn opened_pair(alloc: Global) -> Result<(Pair, Passes), NoMemory>
             return Err(refused);
         }
     };
-    match opened_replies(alloc) {
+    match opened_replies(alloc, caller()) {
         Ok(replies) => Ok(paired(room, one, two, replies)),
         Err(refused) => {
             drop(room);

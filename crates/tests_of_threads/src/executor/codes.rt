@@ -1,245 +1,276 @@
-//! Callers by code of their own, well used and badly.
+//! Code that does what a list says, well and badly. It gives up where it is told another thing than it should be.
 
-mod bad;
-mod doing;
-mod listed;
-mod waits;
-
-use super::gates::Meeting;
-use super::scene::{
-    Given, Ids, Row, all_actors, all_callers, counters, few_ids, limited, plans_of,
-};
-use super::told::{assert_text, text_of};
-use act_actor::{Cast, cast_fits};
-use act_executor::{Code, Gate, NoGate, Plan, RunFault, codes_fit, plans_fit, run_callers};
-use act_kinds::Counter;
-use act_types::{ActorId, CallerId, Method, NoMemory};
-use doing::Doing;
+use super::scene::actor;
+use act_executor::{Code, GaveUp, KillRefusal, Session, WaitRefusal};
+use act_rules::{HandleRefusal, SubmitRefusal};
+use act_types::{ActorId, Answer, Arg, FutureId, ListOf, Method, NoMemory, Value};
 use std::alloc::Global;
-use std::process::Abort;
-use std::sync::Wait;
-use std::test::Fail;
-use std::thread::Threads;
 
-/// Runs counters with these plans and codes past a gate, and tells what is left. What doesn't fit is too many.
-fn told_past<R: Threads + Wait + Sync, C: Code + Send, G: Gate>(
-    rt: &R,
-    alloc: Global,
-    casts: Vec<Cast<Counter>>,
-    plans: Vec<(CallerId, Plan)>,
-    codes: Vec<(CallerId, C)>,
-    gate: &G,
-) -> Result<String, RunFault> {
-    if cast_fits(casts.as_slice())
-        && plans_fit(casts.as_slice(), plans.as_slice())
-        && codes_fit(casts.as_slice(), plans.as_slice(), codes.as_slice())
-    {
-        let joined = run_callers(rt, alloc, casts, plans, codes, gate)?;
-        Ok(text_of(alloc, joined)?)
+/// How many turns a code that polls takes at most. Where turns send and collect, few are needed.
+const MAX_TURNS: u32 = 1_000_000_000;
+
+/// What code does, with actors and futures by their numbers. All calls are of `add`.
+#[derive(Clone, Copy)]
+pub(super) enum Move {
+    /// Adds so much, and waits for nothing.
+    Add(u8, i64),
+    /// Adds 1 so many times, and waits for nothing.
+    AddOnes(u8, u32),
+    /// Adds the answer of a future.
+    AddAnswer(u8, u32),
+    /// Adds 1, waits, and is answered.
+    Ask(u8),
+    /// Asks to add 1 until it is answered as much.
+    CountTo(u8, i64),
+    Wait(u32),
+    /// Waits for any of the first so many of these. It is told this place, or refused.
+    WaitAny([u32; 2], usize, Option<usize>),
+    /// Waits for either of the first two futures. None before the one that it is told has its answer by then.
+    WaitEither,
+    /// Waits for all of the first so many of these, or is refused.
+    WaitAll([u32; 2], usize, bool),
+    /// Is refused to wait for the future that its next call will have.
+    WaitForNext,
+    /// Takes turns until a future has its answer.
+    Poll(u32),
+    /// A future was answered 1.
+    IsOne(u32),
+    /// At most one call may have no answer, and does.
+    IsAtLimit(u8),
+    /// Has submitted so many calls.
+    Has(u32),
+    /// Copies its handle, and has two.
+    Copy(u8),
+    Release(u8),
+    Holds(u8, u32),
+    /// Is refused each use of the actor, since no cast names it for the caller, or else its handles are gone.
+    IsRefused(u8, bool),
+    Kill(u8),
+    GiveUp,
+}
+
+/// Goes on where this holds.
+fn so(holds: bool) -> Result<(), GaveUp> {
+    if holds { Ok(()) } else { Err(GaveUp) }
+}
+
+fn one_arg(alloc: Global, arg: Arg) -> Result<ListOf<Arg>, NoMemory> {
+    let mut args = ListOf::new(alloc);
+    args.push(arg)?;
+    Ok(args)
+}
+
+fn int(alloc: Global, number: i64) -> Result<ListOf<Arg>, NoMemory> {
+    one_arg(alloc, Arg::Plain(Value::Int(number)))
+}
+
+/// Whether the answer is this number.
+fn is_int(answer: Option<&Answer>, number: i64) -> bool {
+    match answer {
+        Some(Ok(Value::Int(value))) => *value == number,
+        _ => false,
+    }
+}
+
+fn add<S: Session>(session: &mut S, a: ActorId, number: i64) -> Result<(), GaveUp> {
+    let args = int(session.alloc(), number)?;
+    session.submit(a, Method::Add, args)?;
+    Ok(())
+}
+
+fn add_ones<S: Session>(session: &mut S, a: ActorId, times: u32) -> Result<(), GaveUp> {
+    for _ in 0..times {
+        add(session, a, 1)?;
+    }
+    Ok(())
+}
+
+fn add_answer<S: Session>(session: &mut S, a: ActorId, k: FutureId) -> Result<(), GaveUp> {
+    let args = one_arg(session.alloc(), Arg::Fut(k))?;
+    session.submit(a, Method::Add, args)?;
+    Ok(())
+}
+
+fn ask_one<S: Session>(session: &mut S, a: ActorId) -> Result<FutureId, GaveUp> {
+    let args = int(session.alloc(), 1)?;
+    Ok(session.ask(a, Method::Add, args)?)
+}
+
+fn count_to<S: Session>(session: &mut S, a: ActorId, number: i64) -> Result<(), GaveUp> {
+    for _ in 0..100u32 {
+        let k = ask_one(session, a)?;
+        if is_int(session.answer(k), number) {
+            return Ok(());
+        }
+    }
+    Err(GaveUp)
+}
+
+fn futures_of(ks: [u32; 2]) -> [FutureId; 2] {
+    [FutureId::new(ks[0]), FutureId::new(ks[1])]
+}
+
+fn wait_any<S: Session>(
+    session: &mut S,
+    ks: [u32; 2],
+    count: usize,
+    wanted: Option<usize>,
+) -> Result<(), GaveUp> {
+    let futures = futures_of(ks);
+    let told = session.wait_any(&futures[..count.min(2)]);
+    so(told == wanted.ok_or(WaitRefusal::NoFuture))
+}
+
+fn wait_either<S: Session>(session: &mut S) -> Result<(), GaveUp> {
+    let futures = [FutureId::new(0), FutureId::new(1)];
+    let at = session.wait_any(&futures)?;
+    so(at < 2 && is_int(session.answer(futures[at.min(1)]), 1))?;
+    so(at == 0 || !is_int(session.answer(futures[0]), 1))
+}
+
+fn wait_all<S: Session>(
+    session: &mut S,
+    ks: [u32; 2],
+    count: usize,
+    are_there: bool,
+) -> Result<(), GaveUp> {
+    let futures = futures_of(ks);
+    let told = session.wait_all(&futures[..count.min(2)]);
+    let wanted = if are_there {
+        Ok(())
     } else {
-        drop(casts);
-        drop(plans);
-        drop(codes);
-        Err(RunFault::TooMany)
+        Err(WaitRefusal::NoFuture)
+    };
+    so(told == wanted)
+}
+
+fn wait_for_next<S: Session>(session: &mut S) -> Result<(), GaveUp> {
+    let next = FutureId::new(session.count());
+    so(session.wait(next) == Err(WaitRefusal::NoFuture))?;
+    so(session.answer(next).is_none())
+}
+
+fn poll<S: Session>(session: &mut S, k: FutureId) -> Result<(), GaveUp> {
+    for _ in 0..MAX_TURNS {
+        session.turn()?;
+        if session.answer(k).is_some() {
+            return Ok(());
+        }
+    }
+    Err(GaveUp)
+}
+
+/// Each use of the actor is refused, and each refusal is this one.
+fn is_refused<S: Session>(
+    session: &mut S,
+    a: ActorId,
+    handle: HandleRefusal,
+    submit: SubmitRefusal,
+) -> Result<(), GaveUp> {
+    let args = int(session.alloc(), 1)?;
+    so(session.submit(a, Method::Add, args) == Err(submit))?;
+    let args = int(session.alloc(), 1)?;
+    so(session.ask(a, Method::Add, args) == Err(submit))?;
+    so(
+        session.copy(a) == Err(handle)
+            && session.release(a) == Err(handle)
+            && session.kill(a) == Err(KillRefusal::Handle(handle))
+            && session.holds(a) == 0
+            && session.pending(a) == 0,
+    )
+}
+
+fn wait<S: Session>(session: &mut S, step: Move) -> Result<(), GaveUp> {
+    match step {
+        Move::Wait(k) => Ok(session.wait(FutureId::new(k))?),
+        Move::WaitAny(ks, count, wanted) => wait_any(session, ks, count, wanted),
+        Move::WaitEither => wait_either(session),
+        Move::WaitAll(ks, count, are_there) => wait_all(session, ks, count, are_there),
+        Move::WaitForNext => wait_for_next(session),
+        Move::Poll(k) => poll(session, FutureId::new(k)),
+        _ => Err(GaveUp),
     }
 }
 
-/// The same without a gate.
-fn told<R: Threads + Wait + Sync>(
-    rt: &R,
-    alloc: Global,
-    casts: Vec<Cast<Counter>>,
-    plans: Vec<(CallerId, Plan)>,
-    codes: Vec<(CallerId, Doing)>,
-) -> Result<String, RunFault> {
-    told_past(rt, alloc, casts, plans, codes, &NoGate)
-}
-
-/// Code for each of these callers.
-fn codes_of(
-    alloc: Global,
-    codes: &[(CallerId, Doing)],
-) -> Result<Vec<(CallerId, Doing)>, NoMemory> {
-    let mut given = Vec::new(alloc);
-    for code in codes {
-        given.push(*code)?;
+fn use_handle<S: Session>(session: &mut S, step: Move) -> Result<(), GaveUp> {
+    match step {
+        Move::Copy(a) => so(session.copy(actor(a)) == Ok(2)),
+        Move::Release(a) => so(session.release(actor(a)).is_ok()),
+        Move::Holds(a, count) => so(session.holds(actor(a)) == count),
+        Move::IsRefused(a, true) => {
+            is_refused(
+                session,
+                actor(a),
+                HandleRefusal::NoActor,
+                SubmitRefusal::NoActor,
+            )
+        }
+        Move::IsRefused(a, false) => {
+            is_refused(
+                session,
+                actor(a),
+                HandleRefusal::NoHandle,
+                SubmitRefusal::NoHandle,
+            )
+        }
+        Move::Kill(a) => Ok(session.kill(actor(a))?),
+        _ => wait(session, step),
     }
-    Ok(given)
 }
 
-/// Runs counters with these plans and codes, and tells what is left.
-fn told_by<R: Threads + Wait + Sync>(
-    rt: &R,
-    alloc: Global,
-    casts: Vec<Cast<Counter>>,
-    plans: Vec<(CallerId, Plan)>,
-    codes: &[(CallerId, Doing)],
-) -> Result<String, RunFault> {
-    match codes_of(alloc, codes) {
-        Ok(codes) => told(rt, alloc, casts, plans, codes),
-        Err(refused) => {
-            drop(casts);
-            drop(plans);
-            Err(refused.into())
+fn take<S: Session>(session: &mut S, step: Move) -> Result<(), GaveUp> {
+    match step {
+        Move::Add(a, number) => add(session, actor(a), number),
+        Move::AddOnes(a, times) => add_ones(session, actor(a), times),
+        Move::AddAnswer(a, k) => add_answer(session, actor(a), FutureId::new(k)),
+        Move::Ask(a) => {
+            let k = ask_one(session, actor(a))?;
+            so(session.answer(k).is_some())
+        }
+        Move::CountTo(a, number) => count_to(session, actor(a), number),
+        Move::IsOne(k) => so(is_int(session.answer(FutureId::new(k)), 1)),
+        Move::IsAtLimit(a) => {
+            so(session.limit(actor(a)) == Some(1) && session.pending(actor(a)) <= 1)
+        }
+        Move::Has(count) => so(session.count() == count),
+        Move::GiveUp => Err(GaveUp),
+        _ => use_handle(session, step),
+    }
+}
+
+/// How many moves code makes at most.
+const MOST_MOVES: usize = 8;
+
+/// Code that makes the first so many of these moves in turn.
+#[derive(Clone, Copy)]
+pub(super) struct Script {
+    moves: [Move; MOST_MOVES],
+    count: usize,
+}
+
+impl Script {
+    /// Code that makes these moves, of which there are eight at most.
+    pub(super) fn of(steps: &[Move]) -> Script {
+        let mut moves = [Move::GiveUp; MOST_MOVES];
+        for (made, step) in moves.iter_mut().zip(steps) {
+            *made = *step;
+        }
+        Script {
+            moves,
+            count: steps.len(),
         }
     }
 }
 
-/// Runs two counters that callers 1 and 2 may call: caller 1 by this code, caller 2 by these steps.
-fn one_code<R: Threads + Wait + Sync>(
-    rt: &R,
-    alloc: Global,
-    doing: Doing,
-    steps: &[(CallerId, Row)],
-) -> Result<String, RunFault> {
-    let Ids { c1, c2, a1, a2, .. } = few_ids();
-    let casts = counters(alloc, &[a1, a2], &[c1, c2])?;
-    match plans_of(alloc, &[c2], steps) {
-        Ok(plans) => told_by(rt, alloc, casts, plans, &[(c1, doing)]),
-        Err(refused) => {
-            drop(casts);
-            Err(refused.into())
+impl Code for Script {
+    ghost tells = { λ _ _ _. Unit {0} };
+
+    fn run<S: Session>(&mut self, session: &mut S) -> Result<(), GaveUp> {
+        let moves = self.moves;
+        let count = self.count.min(MOST_MOVES);
+        for step in &moves[..count] {
+            take(session, *step)?;
         }
+        Ok(())
     }
-}
-
-/// Of such a run this is to be left.
-fn tell<R: Threads + Wait + Sync + Abort>(
-    rt: &R,
-    alloc: Global,
-    doing: Doing,
-    steps: &[(CallerId, Row)],
-    wanted: &str,
-) -> Result<(), RunFault> {
-    let text = one_code(rt, alloc, doing, steps)?;
-    assert_text(rt, text, wanted);
-    Ok(())
-}
-
-/// The code adds 1 until it is answered 3, beside a plan. A code that asks for no more adds once.
-#[test]
-fn answers_decide(rt: HostRuntime) -> Result<(), Fail> {
-    let Ids { c2, a1, a2, .. } = few_ids();
-    let steps = [(c2, Row::Call(a2, Method::Add, Given::Int(5)))];
-    let thrice =
-        "c1: 1 2 3\nc2: 5\na1 retired counter 3: c1.0 c1.1 c1.2\na2 retired counter 5: c2.0\n";
-    tell(&rt, rt.alloc(), Doing::CountsTo(a1, 3), &steps, thrice)?;
-    let once = "c1: 1\nc2: 5\na1 retired counter 1: c1.0\na2 retired counter 5: c2.0\n";
-    tell(&rt, rt.alloc(), Doing::CountsTo(a1, 1), &steps, once)?;
-    Ok(())
-}
-
-/// A code hands on the answer of a call that it doesn't wait for.
-#[test]
-fn an_answer_handed_on(rt: HostRuntime) -> Result<(), Fail> {
-    let Ids { a1, a2, .. } = few_ids();
-    let wanted = "c1: 4 4\nc2:\na1 retired counter 4: c1.0\na2 retired counter 4: c1.1\n";
-    tell(&rt, rt.alloc(), Doing::HandsOn(a1, a2, 4), &[], wanted)?;
-    Ok(())
-}
-
-/// A code waits for either of two answers, and one for both.
-#[test]
-fn answers_of_several(rt: HostRuntime) -> Result<(), Fail> {
-    let Ids { a1, a2, .. } = few_ids();
-    let wanted = "c1: 1 1\nc2:\na1 retired counter 1: c1.0\na2 retired counter 1: c1.1\n";
-    tell(&rt, rt.alloc(), Doing::WaitsForAny(a1, a2), &[], wanted)?;
-    tell(&rt, rt.alloc(), Doing::WaitsForAll(a1, a2), &[], wanted)?;
-    Ok(())
-}
-
-/// A code is refused a wait for any of no futures, or of one that isn't its own; and a code polls.
-#[test]
-fn turns_and_no_futures(rt: HostRuntime) -> Result<(), Fail> {
-    let Ids { a1, .. } = few_ids();
-    let wanted = "c1: 1\nc2:\na1 retired counter 1: c1.0\na2 retired counter 0:\n";
-    tell(&rt, rt.alloc(), Doing::WaitsForAnyOfNone(a1), &[], wanted)?;
-    tell(&rt, rt.alloc(), Doing::Polls(a1), &[], wanted)?;
-    Ok(())
-}
-
-/// Under a limit of 1 a code submits four calls, each of which waits for the answer before.
-#[test]
-fn a_full_limit_waits(rt: HostRuntime) -> Result<(), Fail> {
-    let alloc = rt.alloc();
-    let Ids { c1, a1, .. } = few_ids();
-    let casts = limited(counters(alloc, &[a1], &[c1])?, 1);
-    let codes = [(c1, Doing::FillsUp(a1, 4))];
-    let text = told_by(&rt, alloc, casts, Vec::new(alloc), &codes)?;
-    let wanted = "c1: 1 2 3 4\na1 retired counter 4: c1.0 c1.1 c1.2 c1.3\n";
-    assert_text(&rt, text, wanted);
-    Ok(())
-}
-
-/// Code for each of these callers, which calls all actors.
-fn all_add_one(alloc: Global, callers: &[CallerId]) -> Result<Vec<(CallerId, Doing)>, NoMemory> {
-    let mut codes = Vec::new(alloc);
-    for caller in callers {
-        codes.push((*caller, Doing::AddsToEach))?;
-    }
-    Ok(codes)
-}
-
-/// A code calls eight actors, and the gate that it is run with sees their first runs at the same time.
-#[test]
-fn gate_of_a_code(rt: HostRuntime) -> Result<(), Fail> {
-    let alloc = rt.alloc();
-    let Ids { c1, .. } = few_ids();
-    let actors = all_actors(alloc)?;
-    let codes = all_add_one(alloc, &[c1])?;
-    let casts = counters(alloc, actors.as_slice(), &[c1])?;
-    let meeting = Meeting::of(0xff);
-    let text = told_past(&rt, alloc, casts, Vec::new(alloc), codes, &meeting)?;
-    assert!(rt; text.as_str().starts_with("c1: 1 1 1 1 1 1 1 1\n"));
-    assert!(rt; meeting.have_met());
-    Ok(())
-}
-
-/// What is left where each of these callers adds 1 to each of eight actors, which are these.
-fn told_of_all<R: Threads + Wait + Sync>(
-    rt: &R,
-    alloc: Global,
-    actors: &[ActorId],
-    callers: &[CallerId],
-) -> Result<String, RunFault> {
-    let casts = counters(alloc, actors, callers)?;
-    match all_add_one(alloc, callers) {
-        Ok(codes) => told(rt, alloc, casts, Vec::new(alloc), codes),
-        Err(refused) => {
-            drop(casts);
-            Err(refused.into())
-        }
-    }
-}
-
-/// The text has a line of each of these actors, to which sixteen callers added 1.
-fn assert_each_counted(
-    rt: &impl Abort,
-    alloc: Global,
-    actors: &[ActorId],
-    text: &str,
-) -> Result<(), NoMemory> {
-    for actor in actors {
-        let line = format!(in alloc; "\n{actor} retired counter 16: ")?;
-        let has_line = text.contains(line.as_str());
-        drop(line);
-        assert!(rt; has_line, "{actor}");
-    }
-    Ok(())
-}
-
-/// Sixteen callers by code, each of which adds 1 to each of eight actors.
-#[test]
-fn sixteen_codes_and_eight_actors(rt: HostRuntime) -> Result<(), Fail> {
-    let alloc = rt.alloc();
-    let actors = all_actors(alloc)?;
-    let callers = all_callers(alloc)?;
-    let told = told_of_all(&rt, alloc, actors.as_slice(), callers.as_slice());
-    drop(callers);
-    let text = told?;
-    let done = assert_each_counted(&rt, alloc, actors.as_slice(), text.as_str());
-    drop(text);
-    drop(actors);
-    done?;
-    Ok(())
 }

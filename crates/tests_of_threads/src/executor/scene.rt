@@ -1,35 +1,36 @@
-//! Casts, plans and runs.
+//! Runs as rows of numbers: casts, plans and codes.
 
+use super::codes::{Move, Script};
 use act_actor::{Cast, cast_fits};
-use act_executor::{Gate, Joined, Plan, RunFault, plans_fit, run_plans};
-use act_kinds::{Actor, Counter};
-use act_rules::Step;
-use act_types::{
-    ActorId, Arg, CallerId, FutureId, ListOf, MAX_ACTORS, MAX_CALLERS, Method, NoMemory, Text,
-    Value,
+use act_executor::{
+    Code, Gate, Joined, Plan, RunFault, codes_fit, plans_fit, run_callers, run_plans,
 };
+use act_kinds::{Account, Boxed, Counter, ListKind, Table};
+use act_rules::Step;
+use act_types::{ActorId, Arg, CallerId, FutureId, ListOf, Method, NoMemory, Text, Value};
 use std::alloc::Global;
 use std::sync::Wait;
 use std::thread::Threads;
 
-/// Callers and actors.
+/// An actor's kind.
 #[derive(Clone, Copy)]
-pub(super) struct Ids {
-    pub(super) c1: CallerId,
-    pub(super) c2: CallerId,
-    pub(super) c3: CallerId,
-    pub(super) a1: ActorId,
-    pub(super) a2: ActorId,
+pub(crate) enum Kind {
+    AnAccount,
+    ACounter,
+    AList,
+    ATable,
 }
 
-pub(super) fn few_ids() -> Ids {
-    Ids {
-        c1: CallerId::new(1).unwrap(),
-        c2: CallerId::new(2).unwrap(),
-        c3: CallerId::new(3).unwrap(),
-        a1: ActorId::new(1).unwrap(),
-        a2: ActorId::new(2).unwrap(),
-    }
+/// A method.
+#[derive(Clone, Copy)]
+pub(super) enum Verb {
+    Add,
+    Deposit,
+    Get,
+    Push,
+    Put,
+    Terminate,
+    Withdraw,
 }
 
 /// What a call is submitted with.
@@ -48,11 +49,46 @@ pub(super) enum Given {
 /// A step of a plan.
 #[derive(Clone, Copy)]
 pub(super) enum Row {
-    Call(ActorId, Method, Given),
-    Copy(ActorId),
-    Release(ActorId),
-    Kill(ActorId),
+    Call(u8, Verb, Given),
+    Copy(u8),
+    Release(u8),
+    Kill(u8),
     Await(u32),
+}
+
+/// An actor, the callers that may call it, its kind and its limit.
+pub(crate) type Role = (u8, &'static [u8], Kind, Option<u32>);
+
+/// A run by its name: its actors; the callers that follow plans, in the order in which these are given; their steps,
+/// each so many times, where caller 0 is each of the callers; the callers by code; and all texts that may be left.
+#[derive(Clone, Copy)]
+pub(super) struct Case {
+    pub(super) name: &'static str,
+    pub(super) roles: &'static [Role],
+    pub(super) planned: &'static [u8],
+    pub(super) steps: &'static [(u8, Row, u32)],
+    pub(super) codes: &'static [(u8, &'static [Move])],
+    pub(super) ends: &'static [&'static str],
+}
+
+pub(crate) fn actor(number: u8) -> ActorId {
+    ActorId::new(number).unwrap_or(ActorId::new(1).unwrap())
+}
+
+pub(crate) fn caller(number: u8) -> CallerId {
+    CallerId::new(number).unwrap_or(CallerId::new(1).unwrap())
+}
+
+fn method_of(verb: Verb) -> Method {
+    match verb {
+        Verb::Add => Method::Add,
+        Verb::Deposit => Method::Deposit,
+        Verb::Get => Method::Get,
+        Verb::Push => Method::Push,
+        Verb::Put => Method::Put,
+        Verb::Terminate => Method::Terminate,
+        Verb::Withdraw => Method::Withdraw,
+    }
 }
 
 fn key(alloc: Global) -> Result<Arg, NoMemory> {
@@ -77,146 +113,96 @@ fn args_of(alloc: Global, given: Given) -> Result<ListOf<Arg>, NoMemory> {
         Given::Int(number) => one_arg(alloc, Arg::Plain(Value::Int(number))),
         Given::Key => one_arg(alloc, key(alloc)?),
         Given::Pair(number) => key_and_number(alloc, number),
-        Given::Answer(number) => one_arg(alloc, Arg::Fut(FutureId::new(number))),
+        Given::Answer(k) => one_arg(alloc, Arg::Fut(FutureId::new(k))),
     }
 }
 
 fn step_of(alloc: Global, row: Row) -> Result<Step, NoMemory> {
     Ok(match row {
-        Row::Call(a, method, given) => Step::Submit(a, method, args_of(alloc, given)?),
-        Row::Copy(a) => Step::Copy(a),
-        Row::Release(a) => Step::Release(a),
-        Row::Kill(a) => Step::Kill(a),
-        Row::Await(number) => Step::Await(FutureId::new(number)),
+        Row::Call(a, verb, given) => {
+            Step::Submit(actor(a), method_of(verb), args_of(alloc, given)?)
+        }
+        Row::Copy(a) => Step::Copy(actor(a)),
+        Row::Release(a) => Step::Release(actor(a)),
+        Row::Kill(a) => Step::Kill(actor(a)),
+        Row::Await(k) => Step::Await(FutureId::new(k)),
     })
 }
 
 /// The caller's steps among all.
-fn plan_of(alloc: Global, caller: CallerId, rows: &[(CallerId, Row)]) -> Result<Plan, NoMemory> {
+fn plan_of(alloc: Global, of: u8, steps: &[(u8, Row, u32)]) -> Result<Plan, NoMemory> {
     let mut plan = Vec::new(alloc);
-    for (of, row) in rows {
-        if *of == caller {
-            plan.push(step_of(alloc, *row)?)?;
+    for (by, row, times) in steps {
+        if *by == of || *by == 0 {
+            for _ in 0..*times {
+                plan.push(step_of(alloc, *row)?)?;
+            }
         }
     }
     Ok(plan)
 }
 
-/// The plans of these callers, in this order.
-pub(super) fn plans_of(
-    alloc: Global,
-    callers: &[CallerId],
-    rows: &[(CallerId, Row)],
-) -> Result<Vec<(CallerId, Plan)>, NoMemory> {
+fn plans_of(alloc: Global, case: &Case) -> Result<Vec<(CallerId, Plan)>, NoMemory> {
     let mut plans = Vec::new(alloc);
-    for caller in callers {
-        plans.push((*caller, plan_of(alloc, *caller, rows)?))?;
+    for of in case.planned {
+        plans.push((caller(*of), plan_of(alloc, *of, case.steps)?))?;
     }
     Ok(plans)
 }
 
-/// An actor, the callers that may call it, and its kind.
-pub(super) type Role<'a, K> = (ActorId, &'a [CallerId], K);
-
-fn cast_of<K: Drop>(alloc: Global, role: Role<K>) -> Result<Cast<K>, NoMemory> {
-    let (actor, names, kind) = role;
-    let mut callers = ListOf::new(alloc);
-    for caller in names {
-        callers.push(*caller)?;
-    }
-    Ok(Cast {
-        actor,
-        callers,
-        kind,
-        pending: None,
+fn kind_of(alloc: Global, kind: Kind) -> Result<Boxed, NoMemory> {
+    Ok(match kind {
+        Kind::AnAccount => Box::new(alloc, Account::open())?,
+        Kind::ACounter => Box::new(alloc, Counter::open())?,
+        Kind::AList => Box::new(alloc, ListKind::open(alloc))?,
+        Kind::ATable => Box::new(alloc, Table::open(alloc))?,
     })
 }
 
-pub(super) fn one_cast<K: Drop>(alloc: Global, role: Role<K>) -> Result<Vec<Cast<K>>, NoMemory> {
-    let mut casts = Vec::new(alloc);
-    casts.push(cast_of(alloc, role)?)?;
-    Ok(casts)
+fn cast_of(alloc: Global, role: &Role) -> Result<Cast<Boxed>, NoMemory> {
+    let (number, names, kind, pending) = *role;
+    let mut callers = ListOf::new(alloc);
+    for name in names {
+        callers.push(caller(*name))?;
+    }
+    Ok(Cast {
+        actor: actor(number),
+        callers,
+        kind: kind_of(alloc, kind)?,
+        pending,
+    })
 }
 
-pub(super) fn two_casts<K: Drop>(
-    alloc: Global,
-    one: Role<K>,
-    two: Role<K>,
-) -> Result<Vec<Cast<K>>, NoMemory> {
+pub(crate) fn casts_of(alloc: Global, roles: &[Role]) -> Result<Vec<Cast<Boxed>>, NoMemory> {
     let mut casts = Vec::new(alloc);
-    casts.push(cast_of(alloc, one)?)?;
-    casts.push(cast_of(alloc, two)?)?;
-    Ok(casts)
-}
-
-/// Counters that all these callers may call.
-pub(super) fn counters(
-    alloc: Global,
-    actors: &[ActorId],
-    callers: &[CallerId],
-) -> Result<Vec<Cast<Counter>>, NoMemory> {
-    let mut casts = Vec::new(alloc);
-    for actor in actors {
-        casts.push(cast_of(alloc, (*actor, callers, Counter::open()))?)?;
+    for role in roles {
+        casts.push(cast_of(alloc, role)?)?;
     }
     Ok(casts)
 }
 
-/// These casts, each with this limit.
-pub(super) fn limited<K>(mut casts: Vec<Cast<K>>, limit: u32) -> Vec<Cast<K>> {
-    for place in 0..casts.len() {
-        casts[place].pending = Some(limit);
-    }
-    casts
-}
-
-pub(super) fn all_actors(alloc: Global) -> Result<Vec<ActorId>, NoMemory> {
-    let mut actors = Vec::new(alloc);
-    for before in 0..MAX_ACTORS {
-        actors.push(ActorId::new(before + 1).unwrap())?;
-    }
-    Ok(actors)
-}
-
-pub(super) fn all_callers(alloc: Global) -> Result<Vec<CallerId>, NoMemory> {
-    let mut callers = Vec::new(alloc);
-    for before in 0..MAX_CALLERS {
-        callers.push(CallerId::new(before + 1).unwrap())?;
-    }
-    Ok(callers)
-}
-
-/// A plan that adds 1 to each of these actors.
-fn one_each(alloc: Global, actors: &[ActorId]) -> Result<Plan, NoMemory> {
-    let mut plan = Vec::new(alloc);
-    for actor in actors {
-        let row = Row::Call(*actor, Method::Add, Given::Int(1));
-        plan.push(step_of(alloc, row)?)?;
-    }
-    Ok(plan)
-}
-
-/// The plans of these callers, each of which adds 1 to each of these actors.
-pub(super) fn plans_for_all(
+fn casts_and_plans(
     alloc: Global,
-    callers: &[CallerId],
-    actors: &[ActorId],
-) -> Result<Vec<(CallerId, Plan)>, NoMemory> {
-    let mut plans = Vec::new(alloc);
-    for caller in callers {
-        plans.push((*caller, one_each(alloc, actors)?))?;
+    case: &Case,
+) -> Result<(Vec<Cast<Boxed>>, Vec<(CallerId, Plan)>), NoMemory> {
+    let plans = plans_of(alloc, case)?;
+    match casts_of(alloc, case.roles) {
+        Ok(casts) => Ok((casts, plans)),
+        Err(refused) => {
+            drop(plans);
+            Err(refused)
+        }
     }
-    Ok(plans)
 }
 
-/// Runs the plans. Casts or plans that don't fit are too many.
-pub(super) fn ran<R: Threads + Wait + Sync, K: Actor + Send, G: Gate>(
+/// Runs the case's plans. Casts or plans that don't fit are too many.
+pub(super) fn ran_by_plan<R: Threads + Wait + Sync, G: Gate>(
     rt: &R,
     alloc: Global,
-    casts: Vec<Cast<K>>,
-    plans: Vec<(CallerId, Plan)>,
+    case: &Case,
     gate: &G,
-) -> Result<Joined<K>, RunFault> {
+) -> Result<Joined<Boxed>, RunFault> {
+    let (casts, plans) = casts_and_plans(alloc, case)?;
     if cast_fits(casts.as_slice()) && plans_fit(casts.as_slice(), plans.as_slice()) {
         run_plans(rt, alloc, casts, plans, gate)
     } else {
@@ -226,20 +212,52 @@ pub(super) fn ran<R: Threads + Wait + Sync, K: Actor + Send, G: Gate>(
     }
 }
 
-/// Runs these steps of these callers.
-pub(super) fn ran_steps<R: Threads + Wait + Sync, K: Actor + Send, G: Gate>(
+/// Runs the case's plans, and these codes beside them.
+pub(super) fn ran_by_code<R: Threads + Wait + Sync, C: Code + Send, G: Gate>(
     rt: &R,
     alloc: Global,
-    casts: Vec<Cast<K>>,
-    callers: &[CallerId],
-    steps: &[(CallerId, Row)],
+    case: &Case,
+    codes: Vec<(CallerId, C)>,
     gate: &G,
-) -> Result<Joined<K>, RunFault> {
-    match plans_of(alloc, callers, steps) {
-        Ok(plans) => ran(rt, alloc, casts, plans, gate),
+) -> Result<Joined<Boxed>, RunFault> {
+    let (casts, plans) = match casts_and_plans(alloc, case) {
+        Ok(made) => made,
         Err(refused) => {
-            drop(casts);
-            Err(refused.into())
+            drop(codes);
+            return Err(refused.into());
         }
+    };
+    if cast_fits(casts.as_slice())
+        && plans_fit(casts.as_slice(), plans.as_slice())
+        && codes_fit(casts.as_slice(), plans.as_slice(), codes.as_slice())
+    {
+        run_callers(rt, alloc, casts, plans, codes, gate)
+    } else {
+        drop(casts);
+        drop(plans);
+        drop(codes);
+        Err(RunFault::TooMany)
     }
+}
+
+fn codes_of(alloc: Global, codes: &[(u8, &[Move])]) -> Result<Vec<(CallerId, Script)>, NoMemory> {
+    let mut made = Vec::new(alloc);
+    for (of, steps) in codes {
+        made.push((caller(*of), Script::of(steps)))?;
+    }
+    Ok(made)
+}
+
+/// Runs the case, by its plans alone where it has no codes.
+pub(super) fn ran<R: Threads + Wait + Sync, G: Gate>(
+    rt: &R,
+    alloc: Global,
+    case: &Case,
+    gate: &G,
+) -> Result<Joined<Boxed>, RunFault> {
+    if case.codes.is_empty() {
+        return ran_by_plan(rt, alloc, case, gate);
+    }
+    let codes = codes_of(alloc, case.codes)?;
+    ran_by_code(rt, alloc, case, codes, gate)
 }

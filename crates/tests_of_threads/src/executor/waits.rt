@@ -1,8 +1,8 @@
 //! Code that tells which steps it did: a wait is one of them.
 
-use super::super::scene::{Ids, counters, few_ids};
-use super::super::told::assert_text;
-use super::told_past;
+use super::scene::{Case, Kind, actor, caller, ran_by_code};
+use crate::rows::assert_is;
+use crate::told::text_of;
 use act_executor::{Code, GaveUp, NoGate, RunFault, Session};
 use act_types::{ActorId, ListOf, Method};
 use std::alloc::Global;
@@ -85,45 +85,51 @@ impl Code for WaitsForBoth {
     }
 }
 
-/// Caller 1 has this code, and each of its two calls is answered 0.
+/// Two counters of caller 1, each of whose two calls is answered 0.
+#[rattlefmt::skip]
+static TWO_GETS: Case = Case { name: "codes that wait", planned: &[], steps: &[], codes: &[],
+    roles: &[(1, &[1], Kind::ACounter, None), (2, &[1], Kind::ACounter, None)],
+    ends: &["c1: 0 0\na1 retired counter 0: c1.0\na2 retired counter 0: c1.1\n"] };
+
 fn runs<R: Threads + Wait + Sync + Abort, C: Code + Send>(
     rt: &R,
     alloc: Global,
+    name: &str,
     code: C,
 ) -> Result<(), RunFault> {
-    let Ids { c1, a1, a2, .. } = few_ids();
     let mut codes = Vec::new(alloc);
-    codes.push((c1, code))?;
-    let casts = counters(alloc, &[a1, a2], &[c1])?;
-    let text = told_past(rt, alloc, casts, Vec::new(alloc), codes, &NoGate)?;
-    assert_text(
-        rt,
-        text,
-        "c1: 0 0\na1 retired counter 0: c1.0\na2 retired counter 0: c1.1\n",
-    );
+    codes.push((caller(1), code))?;
+    let joined = ran_by_code(rt, alloc, &TWO_GETS, codes, &NoGate)?;
+    let text = text_of(alloc, &joined);
+    drop(joined);
+    let text = text?;
+    let is_left = TWO_GETS.ends.contains(&text.as_str());
+    drop(text);
+    assert_is(rt, name, &is_left, &true);
     Ok(())
 }
 
 #[test]
-fn a_code_that_waits(rt: HostRuntime) -> Result<(), Fail> {
-    let Ids { a1, a2, .. } = few_ids();
-    let code = OneAfterAnother { one: a1, other: a2 };
-    runs(&rt, rt.alloc(), code)?;
-    Ok(())
-}
-
-#[test]
-fn a_code_that_waits_for_both(rt: HostRuntime) -> Result<(), Fail> {
-    let Ids { a1, a2, .. } = few_ids();
-    let code = WaitsForBoth { one: a1, other: a2 };
-    runs(&rt, rt.alloc(), code)?;
-    Ok(())
-}
-
-#[test]
-fn a_code_that_asks_twice(rt: HostRuntime) -> Result<(), Fail> {
-    let Ids { a1, a2, .. } = few_ids();
-    let code = AsksBoth { one: a1, other: a2 };
-    runs(&rt, rt.alloc(), code)?;
+fn codes_that_wait(rt: HostRuntime) -> Result<(), Fail> {
+    let alloc = rt.alloc();
+    let [one, other] = [actor(1), actor(2)];
+    runs(
+        &rt,
+        alloc,
+        "a_code_that_waits",
+        OneAfterAnother { one, other },
+    )?;
+    runs(
+        &rt,
+        alloc,
+        "a_code_that_waits_for_both",
+        WaitsForBoth { one, other },
+    )?;
+    runs(
+        &rt,
+        alloc,
+        "a_code_that_asks_twice",
+        AsksBoth { one, other },
+    )?;
     Ok(())
 }

@@ -1,11 +1,13 @@
 use Rattle.std.proofs.Common.{◌≡◌, All}
 use Rattle.act_rules.specs.Consistent.{IsPrefix}
 use Rattle.act_mailbox.specs.Notices.{IsNoDeath}
-use Rattle.tests_of_threads.proofs.drive.executor.pace.Given as goal
+use Rattle.tests_of_threads.proofs.drive.executor.act_all.Given as goal
 
-abbrev pub invariant-loop : goal.invariant-loop
-invariant-loop g l = record {
+abbrev pub invariant-loop-one : goal.invariant-loop-one
+invariant-loop-one g l = record {
   letters : l.passes.letters.line ≡ l.initial.passes.letters.line;
+  kills : l.passes.kills.line ≡ l.initial.passes.kills.line;
+  asked : l.passes.kills.actor ≡ l.initial.passes.kills.actor;
   gives : l.passes.gives.line ≡ l.initial.passes.gives.line;
   given : l.passes.gives.actor ≡ l.initial.passes.gives.actor;
   id : l.live.id ≡ l.initial.live.id;

@@ -1,5 +1,5 @@
 use Rattle.std.proofs.Common.{◌≡◌}
-use Rattle.tests_of_threads.proofs.drive.executor.take_kill.Given as goal
+use Rattle.tests_of_threads.proofs.drive.executor.sees_kill.Given as goal
 
 abbrev pub invariant-loop : goal.invariant-loop
 invariant-loop g l = record {
