@@ -240,7 +240,7 @@ fn add_places(calls: &[Call], waiters: &mut Waiters, k: FutureId, futures: &[Fut
         count_number call (waiters_of waiters.new.lists future)
         ≡ count_number call (waiters_of waiters.old.lists future)
         + (if (call == k) && not (is_answered (calls_of calls.now) future) then count_number future futures.now
-            else 0) }
+        else 0) }
     ensures length { length waiters.new.lists ≡ length waiters.old.lists }
     ensures future_room { waiters.new.future_room ≡ waiters.old.future_room }
     ensures place_room { waiters.old.place_room ≤ waiters.new.place_room + MAX_ARGS }

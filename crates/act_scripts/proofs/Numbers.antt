@@ -32,8 +32,8 @@ number_from_parse {E} word (Ok n) p h =
 number_from_parse {E} word (Err e) p h =
     let read = parse_plain own {E = E} 32 word (Err e) p (no_plus word h) in
     by_numeral word (is_numeral word) refl (λ is.
-      let digits = numeral_is_digits word is in
-      (number_from_test word is).1 (λ below. read (digits.0, digits.1, below)))
+    let digits = numeral_is_digits word is in
+    (number_from_test word is).1 (λ below. read (digits.0, digits.1, below)))
 
 -- no numeral of more than one digit begins otherwise
 no_numeral : (word : List ℕ) → length word ≢ 1 → begins_numeral word ≡ false → is_numeral word ≡ true → number_at word ≡ Err BadLine

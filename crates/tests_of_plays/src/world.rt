@@ -157,12 +157,7 @@ fn play_events(
         assert!(rt; stop < events.len() && stop < lines.len());
         assert_told(rt, alloc, name, told.as_slice(), &lines[..stop])?;
         assert!(rt; world.has_room(events.len()));
-        assert_is(
-            rt,
-            name,
-            &world.play(&events[stop..], &mut told),
-            &Ok(()),
-        );
+        assert_is(rt, name, &world.play(&events[stop..], &mut told), &Ok(()));
     }
     let done = assert_told(rt, alloc, name, told.as_slice(), lines);
     drop(told);

@@ -50,7 +50,12 @@ fn play_with_room(
 ) -> Result<(), NoMemory> {
     assert!(rt; world.has_room(events.len()));
     told.reserve(events.len())?;
-    assert_is(rt, INTO_ONE_LIST.name, &world.play_reserved(events, told), &Ok(()));
+    assert_is(
+        rt,
+        INTO_ONE_LIST.name,
+        &world.play_reserved(events, told),
+        &Ok(()),
+    );
     Ok(())
 }
 
