@@ -4,6 +4,7 @@
 //! notes of what a thread does.
 #![tactic(auto)]
 
+mod bell;
 mod control;
 mod line;
 mod mail;

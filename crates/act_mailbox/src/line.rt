@@ -2,12 +2,15 @@
 //!
 //! What was taken of a putter, and then what the queue holds of it, is what it put, in order.
 
-ghost use Rattle.std.specs.Prelude.{◌≡◌, ◌≢◌, ℕ, ◌≤◌, ◌<◌, [], ◌∷◌, ◌++◌, map, zip, AllPairs, Contains, IfOk, OnOk, IfErr, OnErr, IfSome, IfNone, List};
+ghost use Rattle.std.specs.Prelude.{◌≡◌, ◌≢◌, ℕ, ◌≤◌, ◌<◌, [], ◌∷◌, ◌++◌, map, zip, AllPairs, Contains, IfOk, OnOk, IfErr, OnErr, IfSome, IfNone, List, ◌+◌, min};
 ghost use Rattle.act_rules.specs.Consistent.{IsPrefix};
 ghost use Rattle.act_mailbox.specs.Lines.{items_from, taking};
 ghost use Rattle.act_mailbox.specs.Passes.{new_putter, new_taker};
+ghost use Rattle.act_mailbox.specs.declared.thread.TheConstants.{SHORT_PAUSES};
 ghost use Rattle.crossbeam_queue.specs.Passes.{view as known};
 
+use crate::bell::Bell;
+use crate::thread::IdleBackoff;
 use act_types::{CallerId, NoMemory};
 use crossbeam_queue::protocol::{Join, Lesson, Outcome, Protocol, Split};
 use crossbeam_queue::{Pass, RuledArrayQueue};
@@ -20,6 +23,7 @@ use std::sync::Wait;
 #[derive(Drop)]
 pub(crate) struct Line<T: Item, N> {
     queue: RuledArrayQueue<T, View<(T, u64), N>, InOrder>,
+    bell: Bell,
 }
 
 impl<T: Item, N> Model for Line<T, N> {
@@ -42,7 +46,8 @@ impl<T: Item, N> Line<T, N> {
         ensures taker { IfOk result (λ opened. opened.1 ≡ new_taker opened.0 []) }
     {
         let (queue, pass) = RuledArrayQueue::ruled(alloc, capacity)?;
-        Ok((Line { queue }, Taker::of(pass)))
+        let bell = Bell::new();
+        Ok((Line { queue, bell }, Taker::of(pass)))
     }
 
     /// The pass of one more putter.
@@ -109,8 +114,23 @@ impl<T: Item, N> Line<T, N> {
         ensures err { OnErr result (putter.new ≡ putter.old) }
         ensures back { IfErr result (λ back. back ≡ item) }
     {
-        self.queue
-            .push_as::<Puts<K, S>, R>(rt, &mut putter.pass, item)
+        let put = self
+            .queue
+            .push_as::<Puts<K, S>, R>(rt, &mut putter.pass, item);
+        self.bell.ring();
+        put
+    }
+
+    /// The taker found nothing to do: a pause, which ends where something is put, if it is long.
+    pub(crate) fn pause<R: Wait>(&self, rt: &R, idle_backoff: &mut IdleBackoff)
+        ensures { idle_backoff.new ≡ min (idle_backoff.old + 1) SHORT_PAUSES }
+    {
+        idle_backoff.pause_at(rt, &self.bell);
+    }
+
+    /// Ends such a pause.
+    pub(crate) fn wake(&self) {
+        self.bell.ring();
     }
 
     /// Takes an item, and `K` is the taker's note from then on. `None` where the line is empty.

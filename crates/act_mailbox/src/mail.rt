@@ -1,12 +1,14 @@
 //! The mail line of an actor: the letters of its callers.
 
-ghost use Rattle.std.specs.Prelude.{◌≡◌, ◌≢◌, ℕ, [], ◌∷◌, ◌++◌, map, zip, AllPairs, Contains, IfOk, OnOk, IfErr, OnErr, IfSome, IfNone};
+ghost use Rattle.std.specs.Prelude.{◌≡◌, ◌≢◌, ℕ, [], ◌∷◌, ◌++◌, map, zip, AllPairs, Contains, IfOk, OnOk, IfErr, OnErr, IfSome, IfNone, ◌+◌, min};
 ghost use Rattle.act_rules.specs.Consistent.{IsPrefix};
 ghost use Rattle.act_mailbox.specs.Lines.{items_from};
 ghost use Rattle.act_mailbox.specs.Passes.{new_putter, new_taker};
 ghost use Rattle.act_mailbox.specs.Mails.{caller_of};
+ghost use Rattle.act_mailbox.specs.declared.thread.TheConstants.{SHORT_PAUSES};
 
 use crate::line::{Item, Line, Putter, Stamped, Taker};
+use crate::thread::IdleBackoff;
 use act_types::{ActorId, CallerId, NoMemory, Packet, ReleaseNote};
 use std::alloc::Global;
 use std::marker::{Brand, Model};
@@ -127,6 +129,18 @@ impl Mail {
         ensures known { IfSome result (λ letter. Contains pass.old.putters (caller_of letter)) }
     {
         self.line.try_take::<Brand>(pass)
+    }
+
+    /// The executor found nothing to do: a pause. A long one ends where a letter is posted, or by `wake`.
+    pub fn pause<R: Wait>(&self, rt: &R, idle_backoff: &mut IdleBackoff)
+        ensures { idle_backoff.new ≡ min (idle_backoff.old + 1) SHORT_PAUSES }
+    {
+        self.line.pause(rt, idle_backoff);
+    }
+
+    /// Ends a long pause of the executor, for which there is something else than a letter.
+    pub fn wake(&self) {
+        self.line.wake();
     }
 
     /// The line's length. The letters of the caller that were taken, with their stamps, begin those that

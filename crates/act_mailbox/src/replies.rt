@@ -1,12 +1,14 @@
 //! The reply line of a caller: the notices of its actors.
 
-ghost use Rattle.std.specs.Prelude.{◌≡◌, ◌≢◌, ℕ, [], ◌∷◌, ◌++◌, map, zip, All, AllPairs, Contains, IfOk, OnOk, IfErr, OnErr, IfSome, IfNone};
+ghost use Rattle.std.specs.Prelude.{◌≡◌, ◌≢◌, ℕ, [], ◌∷◌, ◌++◌, map, zip, All, AllPairs, Contains, IfOk, OnOk, IfErr, OnErr, IfSome, IfNone, ◌+◌, min};
 ghost use Rattle.act_rules.specs.Consistent.{IsPrefix};
 ghost use Rattle.act_mailbox.specs.Lines.{items_from};
 ghost use Rattle.act_mailbox.specs.Passes.{new_taker};
 ghost use Rattle.act_mailbox.specs.Notices.{notice_actor, IsNoDeath, NamesPlace, new_exec, IsGiven};
+ghost use Rattle.act_mailbox.specs.declared.thread.TheConstants.{SHORT_PAUSES};
 
 use crate::line::{Item, Line, Noted, Putter, Stamped, Taker};
+use crate::thread::IdleBackoff;
 use act_rules::RunItem;
 use act_types::{ActorId, CallerId, NoMemory, Notice};
 use std::alloc::Global;
@@ -181,6 +183,13 @@ impl Replies {
         ensures known { IfSome result (λ notice. Contains pass.old.putters (notice_actor notice)) }
     {
         self.line.try_take::<Brand>(pass)
+    }
+
+    /// The caller found nothing to do: a pause. A long one ends where a notice is given.
+    pub fn pause<R: Wait>(&self, rt: &R, idle_backoff: &mut IdleBackoff)
+        ensures { idle_backoff.new ≡ min (idle_backoff.old + 1) SHORT_PAUSES }
+    {
+        self.line.pause(rt, idle_backoff);
     }
 
     /// The line's length. The notices of the actor that were collected, with their stamps, begin those

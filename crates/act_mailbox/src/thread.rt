@@ -2,6 +2,7 @@
 
 ghost use Rattle.std.specs.Prelude.{◌≡◌, ◌+◌, min};
 
+use crate::bell::Bell;
 use act_types::{ActorId, CallerId, FutureId};
 use crossbeam_utils::Backoff;
 use std::alloc::Global;
@@ -67,19 +68,26 @@ impl Habit {
     }
 }
 
-/// So many pauses give the processor away, some milliseconds long, before the first nap.
-const YIELDS: u32 = 4_096;
+/// So many pauses give the processor away before the first sleep, where a bell wakes the thread.
+const YIELDS_AT_A_BELL: u32 = 64;
+
+/// The same before the first nap, where nobody wakes it.
+const YIELDS: u32 = 128;
 
 /// The first nap, and the longest one, in microseconds. What comes in meanwhile is found at its end.
 const FIRST_NAP: u32 = 64;
 
 const LONGEST_NAP: u32 = 4_096;
 
-/// How a long wait goes on: the thread gives the processor away, and at last sleeps, longer each time.
+/// The longest sleep at a bell, in milliseconds. A ring ends it, so that this bounds what nobody rings for.
+const LONGEST_SLEEP: u64 = 250;
+
+/// How a long wait goes on: the thread gives the processor away, and at last sleeps.
 #[derive(Clone, Copy)]
 struct Rest {
     yields: u32,
     nap: u32,
+    listens: bool,
 }
 
 impl Rest {
@@ -87,29 +95,39 @@ impl Rest {
         Rest {
             yields: 0,
             nap: FIRST_NAP,
+            listens: false,
         }
     }
 
-    /// One pause, and how the next one is.
-    fn after<R: Wait>(self, rt: &R) -> Rest {
-        if self.yields < YIELDS {
-            thread::yield_now();
-            return Rest {
-                yields: self.yields.saturating_add(1),
-                nap: self.nap,
-            };
+    /// Gives the processor away, while that is enough.
+    fn yields(&mut self, most: u32) -> bool {
+        if self.yields >= most {
+            return false;
         }
-        // Nobody unparks it: it sleeps.
+        self.yields += 1;
+        thread::yield_now();
+        true
+    }
+
+    /// A nap, each one longer than the last. Nobody wakes the thread.
+    fn nap<R: Wait>(&mut self, rt: &R) {
         Parker::new().park_timeout(rt, Duration::from_micros(u64::from(self.nap)));
-        Rest {
-            yields: self.yields,
-            nap: self.nap.saturating_mul(2).min(LONGEST_NAP),
+        self.nap = self.nap.saturating_mul(2).min(LONGEST_NAP);
+    }
+
+    /// Listens to the bell, so that the thread looks once more, and then sleeps until it rings.
+    fn sleep<R: Wait>(&mut self, rt: &R, bell: &Bell) {
+        if self.listens {
+            bell.sleep(rt, Duration::from_millis(LONGEST_SLEEP));
+        } else {
+            bell.listen();
         }
+        self.listens = !self.listens;
     }
 }
 
-/// Pauses that are short at first, where that helped before. Then they give the processor away, and where
-/// nothing comes for some milliseconds the thread sleeps.
+/// Pauses that are short at first, where that helped before. Then they give the processor away, and at last
+/// the thread sleeps.
 #[derive(Drop)]
 pub struct IdleBackoff {
     backoff: Backoff,
@@ -159,13 +177,30 @@ impl IdleBackoff {
         self.backoff.reset();
     }
 
-    /// Nothing was done.
+    /// Nothing was done, and no bell rings where that changes.
     pub fn pause<R: Wait>(&mut self, rt: &R)
         ensures { self.new ≡ min (self.old + 1) SHORT_PAUSES }
     {
+        if !self.pauses_shortly() && !self.rest.yields(YIELDS) {
+            self.rest.nap(rt);
+        }
+    }
+
+    /// Nothing was done, and the bell rings where that changes.
+    pub(crate) fn pause_at<R: Wait>(&mut self, rt: &R, bell: &Bell)
+        ensures { self.new ≡ min (self.old + 1) SHORT_PAUSES }
+    {
+        if !self.pauses_shortly() && !self.rest.yields(YIELDS_AT_A_BELL) {
+            self.rest.sleep(rt, bell);
+        }
+    }
+
+    /// One of the first pauses, if it is one.
+    fn pauses_shortly(&mut self) -> bool
+        ensures { self.new ≡ min (self.old + 1) SHORT_PAUSES }
+    {
         if self.pauses == SHORT_PAUSES {
-            self.rest = self.rest.after(rt);
-            return;
+            return false;
         }
         self.pauses += 1;
         if self.habit.spins() {
@@ -173,6 +208,7 @@ impl IdleBackoff {
         } else {
             thread::yield_now();
         }
+        true
     }
 }
 
