@@ -6,7 +6,7 @@ ghost use Rattle.act_rules.specs.Submissions.{kept_at};
 ghost use Rattle.act_drive.specs.Driven.{IsCalling};
 ghost use Rattle.act_drive.specs.Tracing.{OnlyWaits};
 
-use crate::driver::{CallerLines, Driver, rest};
+use crate::driver::{CallerLines, Driver};
 use act_mailbox::{IdleBackoff, Notes};
 use act_types::{FutureId, NoMemory};
 use std::alloc::Global;
@@ -51,7 +51,7 @@ impl Driver {
         idle_backoff.reset();
         for _ in rt.forever() {
             let has_moved = self.turn(rt, alloc, lines, notes)?;
-            rest(rt, idle_backoff, has_moved);
+            self.rest(rt, lines, idle_backoff, has_moved);
             if !has_moved {
                 continue;
             }

@@ -109,16 +109,24 @@ fn letter_endpoint(
     None
 }
 
-/// Waits a little where nothing was done.
-pub(crate) fn rest<R: Wait>(rt: &R, idle_backoff: &mut IdleBackoff, has_moved: bool) {
-    if has_moved {
-        idle_backoff.reset();
-    } else {
-        idle_backoff.pause(rt);
-    }
-}
-
 impl Driver {
+    /// Waits a little where nothing was done. For room in a line no bell rings.
+    pub(crate) fn rest<R: Wait>(
+        &self,
+        rt: &R,
+        lines: &CallerLines,
+        idle_backoff: &mut IdleBackoff,
+        has_moved: bool,
+    ) {
+        if has_moved {
+            idle_backoff.reset();
+        } else if self.outbox.is_some() {
+            idle_backoff.pause(rt);
+        } else {
+            lines.replies.pause(rt, idle_backoff);
+        }
+    }
+
     /// Collects a notice, if there is one.
     pub(crate) fn collect<N: Notes>(&mut self, lines: &CallerLines, notes: &mut N) -> bool
         requires calling { IsCalling lines.now self.old }
@@ -278,7 +286,7 @@ impl Driver {
         ensures only_waits { OnlyWaits lines.now self.old self.new }
     {
         let has_moved = self.turn(rt, alloc, lines, notes)?;
-        rest(rt, idle_backoff, has_moved);
+        self.rest(rt, lines, idle_backoff, has_moved);
         Ok(())
     }
 
@@ -295,7 +303,7 @@ impl Driver {
             }
             let has_sent = self.send(rt, lines);
             let has_heard = self.collect(lines, notes);
-            rest(rt, &mut idle_backoff, has_sent || has_heard);
+            self.rest(rt, lines, &mut idle_backoff, has_sent || has_heard);
         }
         unreachable!()
     }

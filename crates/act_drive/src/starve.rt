@@ -7,7 +7,7 @@ ghost use Rattle.act_mailbox.specs.declared.thread.Endpoint.{Endpoint};
 ghost use Rattle.act_drive.specs.declared.driver.CallerLines.{CallerLines};
 ghost use Rattle.act_drive.specs.Driven.{IsCalling, IsAtKillEndpoint, Stays, IsThrough, HasEndedAt, HaveEnded};
 
-use crate::driver::{CallerLines, Driver, rest};
+use crate::driver::{CallerLines, Driver};
 use act_mailbox::{IdleBackoff, Notes};
 use act_types::{ACTOR_NUMBERS, ActorId};
 use std::sync::Wait;
@@ -107,7 +107,7 @@ impl Driver {
                 return;
             }
             let has_heard = self.collect(lines, notes);
-            rest(rt, &mut idle_backoff, has_heard);
+            self.rest(rt, lines, &mut idle_backoff, has_heard);
         }
         unreachable!()
     }

@@ -15,7 +15,9 @@ ghost use Rattle.act_drive.specs.Tracing.{Traces, TracesStep};
 ghost use Rattle.act_drive.specs.Sessions.{session_view, use_refusal, OnlyHears};
 
 use crate::driver::{CallerLines as Lines, Driver, put};
-use act_mailbox::{Control, ControlCaller, Endpoint, IdleBackoff, Letter, Mark, Notes, Stamped};
+use act_mailbox::{
+    Control, ControlCaller, Endpoint, IdleBackoff, Letter, Mail, Mark, Notes, Stamped,
+};
 use act_rules::Step;
 use act_types::{ActorId, Arg, FutureId, KillNote, ListOf, Method, NoMemory};
 use std::alloc::Global;
@@ -39,6 +41,15 @@ fn kill_endpoint(
         }
     }
     None
+}
+
+/// Wakes the actor, for which there is a kill.
+fn wake(mails: &[Mail], a: ActorId) {
+    for mail in mails {
+        if mail.actor() == a {
+            mail.wake();
+        }
+    }
 }
 
 impl Driver {
@@ -199,7 +210,10 @@ impl Driver {
         };
         let endpoint = &mut self.passes.kills[at];
         match lines.controls[endpoint.place].ask_at::<K, R>(rt, &mut endpoint.pass, note) {
-            Ok(()) => true,
+            Ok(()) => {
+                wake(lines.mails, a);
+                true
+            }
             Err(_) => false,
         }
     }

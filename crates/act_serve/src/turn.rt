@@ -315,7 +315,7 @@ pub fn serve_by<R: Wait, K: Actor, F: Fn(ActorId, u32), N: Notes>(
                 }
                 Err(back) => {
                     live = back;
-                    idle_backoff.pause(rt);
+                    lines.mail.pause(rt, &mut idle_backoff);
                 }
             },
         }
