@@ -7,6 +7,7 @@ import re
 import textwrap
 from dataclasses import dataclass, field
 from functools import cached_property
+from itertools import takewhile
 
 import audit
 import door
@@ -318,3 +319,40 @@ def named_in(sources, text, scope, bound=()):
             path, name = within.aliases[head][0], rest[0]
         if path and sources.is_own(path.split(".")[1]):
             yield token.text if head in within.aliases else head, path, name
+
+
+# Lemmas.
+
+
+def lemmas():
+    """The lemmas that the door passes on: what is said of each, its file, and its name."""
+    said = ""
+    for line in (audit.CRATES / door.DOOR / "proofs/Lemmas.antt").read_text().split("\n"):
+        if line.startswith("-- "):
+            said = line.removeprefix("-- ")
+        elif found := re.match(r"pub use Rattle\.(\w+)\.proofs\.([\w.]+)\.\{(.*)\}$", line):
+            path = (audit.CRATES / found[1] / "proofs").joinpath(*found[2].split(".")).with_suffix(".antt")
+            yield from ((said, path, name) for name in found[3].split(", "))
+
+
+def indent_of(line):
+    return len(line) - len(line.lstrip())
+
+
+def statement_of(path, name):
+    """A lemma with the parameters of the modules around it and its type, and the words of these that it names."""
+    text = path.read_text()
+    lines, around = text.split("\n"), []
+    for number, line in enumerate(lines):
+        around = [each for each in around if indent_of(each) < indent_of(line) or not line.strip()]
+        if re.match(r" *module _ .* where$", line):
+            around.append(line)
+        if not re.match(rf" *pub {re.escape(name)} : ", line):
+            continue
+        more = takewhile(lambda each, line=line: indent_of(each) > indent_of(line), lines[number + 1 :])
+        kind = " ".join([line.partition(" : ")[2], *map(str.strip, more)])
+        parameters = " ".join(re.sub(r"^ *module _| where$", "", each).strip() for each in around)
+        words = re.findall(r"^( +)abbrev (?:pub )?(\w+) :.*\n\1(\2 .*= .*)$", text, re.M)
+        named = [body for _, word, body in words if re.search(rf"(?<![\w.]){word}(?![\w.])", kind)]
+        return f"{name} : {parameters}{' → ' if parameters else ''}{kind}", named
+    raise audit.Unread(f"{path}: there is no lemma '{name}'")

@@ -9,7 +9,7 @@ subject has a page in docs/reference/, or several (PARTS). One of constants alon
 The pages are made of the sources alone. A type has its doc comment, its declaration and its methods, a trait its ghost
 members and its methods. A function or a method has its doc comment, its signature and its clauses as they stand. Below
 them come the words of specs/ that the clauses name, each with its file. A law, a function without arguments, has the
-definition of what it says. docs/reference/words.md has the words by the modules of the door.
+definition of what it says. docs/reference/words.md has the words by the modules of the door, and lemmas.md its lemmas.
 
 `--check` writes nothing. It fails where
 
@@ -37,6 +37,7 @@ from program import Stop, ended
 INDEX = "docs/reference.md"
 FOLDER = "docs/reference"
 WORDS = f"{FOLDER}/words.md"
+LEMMAS = f"{FOLDER}/lemmas.md"
 # How many lines a page may have.
 MAX_LINES = 850
 # The pages of subjects: the file, the title, and what stands there. The first has what no other one names. A subject
@@ -57,6 +58,17 @@ PARTS = {
         ("histories", "Histories of runs in threads", "")
     ],
 }
+# The definitions that a page quotes below its laws, with what these name of their own files.
+QUOTED = {f"{FOLDER}/kinds.md": "Ask StepOf by_calls alone IsKept Left OpensAt SlotKeeps EndKeeps"}
+# The crates that a kind and its law of run lists can stand on in place of the door, and what it takes from them: names
+# of the code, words, types of the code with their cases, and lemmas.
+OF_A_KIND = ("act_types", "act_rules", "act_kinds")
+CODE_OF_A_KIND = "Actor Answer Fault Meaning Method Name NoMemory Value append_line runs_by_its_steps"
+WORDS_OF_A_KIND = (
+    "Value Method Fault RunItem KindState OwnAt Ask StepOf behaves by_calls on_call alone next_state step_answer Answer"
+    " kind_answer told_in IsKept Left is_in_range method_text"
+)
+LEMMAS_OF_A_KIND = "holds_in_each_run"
 GROUPS = {
     "function": "Functions", "trait": "Traits", "type": "Types", "error": "Errors", "law": "Laws",
     "constant": "Constants",
@@ -136,6 +148,18 @@ for it needs another name, as `Rattle.actors.specs.Event.{Event as Happening}`.
 
 The [index](../reference.md) leads to the functions whose clauses name these words.
 """
+LEMMAS_HEAD = """\
+# Lemmas
+
+The lemmas that proofs of a client may cite, each with all its parameters in order. They are imported as
+`use Rattle.actors.proofs.Lemmas.{run_keeps}`. `rt lemma` finds none that a crate only passes on, as `actors` does here.
+It finds one where the line of crates.txt names the crate that proves it.
+"""
+WITHOUT_DOOR = f"""\
+A kind and its law of run lists can name `{' '.join(OF_A_KIND)}` in crates.txt in place of `actors`, which is far less
+to prove. It takes each name from where it is declared, as in `ghost use Rattle.act_types.specs.Own.{{StepOf}};`. A type
+behind `declared` has its cases at `.TheVariants`.
+"""
 
 
 # Texts.
@@ -170,6 +194,14 @@ def anchor_of(heading):
 def path_from(page, target):
     """The way from a page to another file of the repository."""
     return os.path.relpath(target, os.path.dirname(page))
+
+
+def wrapped(statement):
+    """A statement in lines of at most 120 columns. No parameter is broken, and between two arrows only what is long."""
+    kept = re.sub(r"[({](?:[^(){}]|\([^()]*\))*[)}]", lambda group: group[0].replace(" ", "\0"), statement)
+    parts = kept.split(" → ")
+    whole = [part if part.startswith(("(", "{")) or len(part) > 100 else part.replace(" ", "\0") for part in parts]
+    return audit.filled(" →\0".join(whole), "    ").replace("\0", " ").split("\n")
 
 
 def link_to(page, path):
@@ -426,6 +458,64 @@ class Book:
                 continue
             for item in found:
                 yield from self.entry(page, item)
+        if page in QUOTED:
+            yield from self.quoted(page)
+
+    def quoted(self, page):
+        """Definitions that the laws of a page lead to, by their files."""
+        by_file = defaultdict(list)
+        for name in QUOTED[page].split():
+            first = self.sources.follow(self.home_of_word(name), name)[0]
+            for each in [*self.of_its_file(first), first]:
+                if each not in by_file[each.path]:
+                    by_file[each.path].append(each)
+        yield "## Words of these laws"
+        for path, found in by_file.items():
+            yield f"Of {link_to(page, path)}:"
+            found.sort(key=lambda each: each.first)
+            yield code_block("\n\n".join("\n".join(audit.quoted(each)) for each in found).split("\n"), "text")
+
+    def of_its_file(self, definition):
+        """What a definition names of its own file."""
+        found = audit.reach_once(definition).found
+        return [each for each in found if isinstance(each, audit.Definition) and each.path == definition.path]
+
+    def home_of_word(self, name, crates=()):
+        """The module that declares a word which is passed on: one of these crates, where any are given."""
+        homes = {path for path, word in door.passed_words() if name == (word or path.rpartition(".")[2])}
+        found = [path for path in homes if not crates or path.split(".")[1] in crates]
+        if len(found) != 1:
+            raise audit.Unread(f"'{name}' is passed on from {len(found)} modules")
+        return found[0]
+
+    def lemmas_page(self):
+        """The lemmas that the door passes on."""
+        yield LEMMAS_HEAD.rstrip("\n")
+        by_subject = defaultdict(list)
+        for said, path, name in items.lemmas():
+            by_subject[said].append((path, name))
+        for said, found in by_subject.items():
+            yield f"## {said[0].upper()}{said[1:]}"
+            statements = [items.statement_of(*each) for each in found]
+            texts = ["\n".join([*wrapped(text), *(f"-- here {body}" for body in words)]) for text, words in statements]
+            yield code_block("\n\n".join(texts).split("\n"), "text")
+            paths = dict.fromkeys(path for path, _ in found)
+            yield filled(listed([link_to(LEMMAS, path) for path in paths], "Sources: "))
+
+    def homes_of_a_kind(self):
+        """From where a kind and its law take each name without the door: a list of modules."""
+        crates = {name: crate for _, crate, name in items.passed_by_subject()}
+        rows = defaultdict(list)
+        for name in CODE_OF_A_KIND.split():
+            rows[f"use {crates[name]}::"].append(name)
+        for name in WORDS_OF_A_KIND.split():
+            rows[self.home_of_word(name, OF_A_KIND)].append(name)
+        for _, path, name in items.lemmas():
+            if name in LEMMAS_OF_A_KIND.split():
+                module = ".".join(path.relative_to(audit.CRATES).with_suffix("").parts)
+                rows[f"Rattle.{module}"].append(name)
+        for home, names in rows.items():
+            yield filled(f"- `{home}`: {', '.join(f'`{name}`' for name in names)}", "  ")
 
     def index(self):
         """The index."""
@@ -450,6 +540,7 @@ class Book:
                 to = f"#{anchor_of(subject)}" if page == INDEX else path_from(INDEX, page)
                 yield f"- [{self.titles.get(page, subject)}]({to})"
         yield f"- [All words that clauses take from `actors`]({path_from(INDEX, WORDS)})"
+        yield f"- [All lemmas that proofs take from `actors`]({path_from(INDEX, LEMMAS)})"
 
     def line(self, item):
         """The line of an item in the index, with its methods."""
@@ -466,6 +557,9 @@ class Book:
             if head.startswith("-- "):
                 yield filled(head.removeprefix("-- "))
             yield "\n".join(self.words_in(rest))
+        yield "## A kind without `actors`"
+        yield filled(" ".join(WITHOUT_DOOR.split()))
+        yield "\n".join(self.homes_of_a_kind())
 
     def words_in(self, lines):
         """The words that lines pass on, under their comments."""
@@ -489,13 +583,13 @@ def groups_of(found):
 
 def text_of(book, page):
     """The text of a page."""
-    others = {INDEX: book.index, WORDS: book.words_page}
+    others = {INDEX: book.index, WORDS: book.words_page, LEMMAS: book.lemmas_page}
     return "\n\n".join(others[page]() if page in others else book.part(page)) + "\n"
 
 
 def texts_of(book):
     """The text of each page."""
-    return {page: text_of(book, page) for page in [INDEX, *book.titles, WORDS]}
+    return {page: text_of(book, page) for page in [INDEX, *book.titles, WORDS, LEMMAS]}
 
 
 # What is wrong.

@@ -41,6 +41,12 @@ CHANGES = [
     ("a subject", "actors/src/lib.rt", "// Worlds.", "// Worlds to play.", "worlds_to"),
     ("what is passed on", "actors/src/lib.rt", "Stage, World, is_memory", "Stage, World", "worlds"),
     ("a word that is passed on", "actors/specs/Plays.antt", "{IsPlayed, IsPlayOf,", "{IsPlayed,", "words"),
+    ("what a law leads to", "act_own/specs/Kept.antt", "(Starved dead)) = Left", "(Starved dead)) = Keeps", "kinds"),
+    ("a lemma's parameter", "act_own/proofs/Kept.antt", "holds) (start : S)", "holds) (first : S)", "lemmas"),
+    ("a lemma's type", "act_own/proofs/Kept.antt", "pub run_keeps : (casts", "pub run_keeps : (all", "lemmas"),
+    ("what a lemma names", "act_own/proofs/Kept.antt", "  opened = OwnAt (", "  opened = CounterAt (", "lemmas"),
+    ("a lemma that is passed on", "actors/proofs/Lemmas.antt", "{run_keeps, slot_keeps}", "{run_keeps}", "lemmas"),
+    ("from where a kind takes words", "actors/proofs/Lemmas.antt", "{holds_in_each_run, ", "{", "words"),
     ("a limit", "act_types/src/limits.rt", "MAX_ARGS: usize = 4", "MAX_ARGS: usize = 5", ""),
 ]
 LONG = " ".join(["word"] * 31)
