@@ -29,8 +29,5 @@ pub use Rattle.std.proofs.lemmas.Map.Made.{IsDistinct-from_AllPairs}
 pub use Rattle.std.proofs.lemmas.Map.Steps.{length-le_from_distinct_below}
 pub use Rattle.std.proofs.lemmas.Option.{get_or_from_slice_get, slice_get-get_or, slice_get_within}
 pub use Rattle.std.specs.Bool.{Decides}
-pub use Rattle.std.specs.Cmp.{unsigned_tied}
 pub use Rattle.std.specs.List.{IsDistinct}
-pub use Rattle.std.specs.Map.{lookup}
 pub use Rattle.std.specs.Option.{option_and_then, option_copied, option_map_or}
-pub use Rattle.std.specs.Ordering.{nat_cmp}

@@ -1,14 +1,14 @@
 -- What the indexes of held calls tell, and how they change.
 use Rattle.act_inbox.proofs.Common.{◌≡◌, ◌≢◌, ℕ, ◌<◌, List, [], length, Option, Some, None, Bool, true, false, ◌==◌, ◌&&◌, if◌then◌else◌, refl, sym, ◌∙◌, ap}
-use Rattle.act_inbox.proofs.Common.{subst, arith, get_or, set, slice_get, inl, inr, find, IsSomeAnd, All, option_and_then, nat_cmp, unsigned_tied, lookup}
+use Rattle.act_inbox.proofs.Common.{subst, arith, get_or, set, slice_get, inl, inr, find, IsSomeAnd, All, option_and_then}
 use Rattle.act_inbox.proofs.Common.{eqb_tells, nat_tests, cases_eq, slice_get-get_or, slice_get_within, get_or_from_slice_get, Slab, get, values, Updates}
 use Rattle.act_inbox.proofs.Common.{Packet, key_of, IsHeld, is_packet_of}
-use Rattle.std.specs.BTreeMap.{BTreeMap, get as get_in_map, is_at, UpdatesBy}
+use Rattle.act_inbox.specs.View.{key_in}
 use Rattle.act_inbox.proofs.Packets.{both_equal, is_call_tells}
 use Rattle.act_inbox.proofs.Slots.{find-slot, find-no_slot, All-filled, slot-All, slice_get-set_same, slice_get-set_other}
 
 -- what a caller's index tells
-pub key_at : (keys : List (BTreeMap ℕ ℕ)) (place : ℕ) (index : BTreeMap ℕ ℕ) → place < length keys → index ≡ get_or keys place index → (caller number : ℕ) → place ≡ caller → key_of keys caller number ≡ get_in_map nat_cmp index number
+pub key_at : (keys : List (List ℕ)) (place : ℕ) (index : List ℕ) → place < length keys → index ≡ get_or keys place index → (caller number : ℕ) → place ≡ caller → key_of keys caller number ≡ key_in index number
 key_at keys place index within reached caller number same =
     let here : slice_get keys caller ≡ Some index = ap (slice_get keys) (sym same) ∙ slice_get-get_or keys place index within ∙ ap Some (sym reached) in
     rw here refl
@@ -18,8 +18,8 @@ abbrev pub is_same : ℕ → ℕ → ℕ → ℕ → Bool
 is_same place number caller count = (place == caller) && (number == count)
 
 -- a caller's index after a change at one number
-module _ (keys : List (BTreeMap ℕ ℕ)) (place : ℕ) (old new : BTreeMap ℕ ℕ) (within : place < length keys) (reached : old ≡ get_or keys place old) where
-  pub key_of-set : (number : ℕ) (slot : Option ℕ) → ((count : ℕ) → get_in_map nat_cmp new count ≡ (if number == count then slot else get_in_map nat_cmp old count)) → (caller count : ℕ) → key_of (set keys place new) caller count ≡ (if is_same place number caller count then slot else key_of keys caller count)
+module _ (keys : List (List ℕ)) (place : ℕ) (old new : List ℕ) (within : place < length keys) (reached : old ≡ get_or keys place old) where
+  pub key_of-set : (number : ℕ) (slot : Option ℕ) → ((count : ℕ) → key_in new count ≡ (if number == count then slot else key_in old count)) → (caller count : ℕ) → key_of (set keys place new) caller count ≡ (if is_same place number caller count then slot else key_of keys caller count)
   key_of-set number slot updates caller count = elim (eqb_tells place caller) [
     | inl t ↦
         let here : slice_get keys caller ≡ Some old = ap (slice_get keys) (sym t.1) ∙ slice_get-get_or keys place old within ∙ ap Some (sym reached) in
@@ -31,17 +31,14 @@ module _ (keys : List (BTreeMap ℕ ℕ)) (place : ℕ) (old new : BTreeMap ℕ 
   ]
 
   -- the same entries
-  pub key_of-kept : new.entries ≡ old.entries → (caller count : ℕ) → key_of (set keys place new) caller count ≡ key_of keys caller count
+  pub key_of-kept : new ≡ old → (caller count : ℕ) → key_of (set keys place new) caller count ≡ key_of keys caller count
   key_of-kept unchanged caller count = elim (eqb_tells place caller) [
     | inl t ↦
         let here : slice_get keys caller ≡ Some old = ap (slice_get keys) (sym t.1) ∙ slice_get-get_or keys place old within ∙ ap Some (sym reached) in
         let there : slice_get (set keys place new) caller ≡ Some new = ap (slice_get (set keys place new)) (sym t.1) ∙ slice_get-set_same keys place new within in
-        rw (here, there) (ap (lookup (is_at (nat_cmp count))) unchanged)
-    | inr f ↦ ap (option_and_then (λ (index : BTreeMap ℕ ℕ). get_in_map nat_cmp index count)) (slice_get-set_other keys place caller new (λ e. f.1 (sym e)))
+        rw (here, there) (ap (λ (index : List ℕ). key_in index count) unchanged)
+    | inr f ↦ ap (option_and_then (λ (index : List ℕ). key_in index count)) (slice_get-set_other keys place caller new (λ e. f.1 (sym e)))
   ]
-
-pub updates_at : (old new : BTreeMap ℕ ℕ) (number : ℕ) (slot : Option ℕ) → UpdatesBy nat_cmp (nat_cmp number) old new slot → (count : ℕ) → get_in_map nat_cmp new count ≡ (if number == count then slot else get_in_map nat_cmp old count)
-updates_at old new number slot updates count = updates.0 count ∙ ap (λ b. if b then slot else get_in_map nat_cmp old count) (unsigned_tied number count)
 
 both_same : (a b c d : ℕ) → a ≡ b → c ≡ d → ((a == b) && (c == d)) ≡ true
 both_same a b c d e f = grind (arith, nat_tests)
@@ -65,7 +62,7 @@ names_by packets caller number key None at told = absurd told
 names_by packets caller number key (Some packet) at told = record { packet = packet; reached = at; of_caller = told.0; numbered = told.1 }
 
 -- where each key names its packet, and no other packet is held
-module _ (packets : Slab Packet) (keys : List (BTreeMap ℕ ℕ)) (held : IsHeld packets keys) (caller number : ℕ) where
+module _ (packets : Slab Packet) (keys : List (List ℕ)) (held : IsHeld packets keys) (caller number : ℕ) where
   pub names : (key : ℕ) → key_of keys caller number ≡ Some key → Names packets caller number key
   names key at = names_by packets caller number key (get packets key) refl (held.named caller number key at)
 
@@ -109,7 +106,7 @@ module _ (packets : Slab Packet) (keys : List (BTreeMap ℕ ℕ)) (held : IsHeld
   not_keyed none = not_keyed_by (key_of keys caller number) refl none
 
 -- the same slots and the same keys
-pub held_same : (packets after : Slab Packet) (keys keys_after : List (BTreeMap ℕ ℕ)) → IsHeld packets keys → ((key : ℕ) → get after key ≡ get packets key) → length keys_after ≡ length keys → ((caller number : ℕ) → key_of keys_after caller number ≡ key_of keys caller number) → IsHeld after keys_after
+pub held_same : (packets after : Slab Packet) (keys keys_after : List (List ℕ)) → IsHeld packets keys → ((key : ℕ) → get after key ≡ get packets key) → length keys_after ≡ length keys → ((caller number : ℕ) → key_of keys_after caller number ≡ key_of keys caller number) → IsHeld after keys_after
 held_same packets after keys keys_after held slots long same = record {
   one_each = long ∙ held.one_each;
   named = λ caller number key at. rw (slots key) (held.named caller number key (sym (same caller number) ∙ at));
@@ -129,16 +126,16 @@ module _ (packets after : Slab Packet) (slot : ℕ) (content : Option Packet) (w
   ])
 
 -- no calls
-no_index : (keys : List (BTreeMap ℕ ℕ)) → All (λ (index : BTreeMap ℕ ℕ). index.entries ≡ []) keys → (caller number : ℕ) (index : Option (BTreeMap ℕ ℕ)) → slice_get keys caller ≡ index → option_and_then (λ (index : BTreeMap ℕ ℕ). get_in_map nat_cmp index number) index ≡ None
+no_index : (keys : List (List ℕ)) → All (λ (index : List ℕ). index ≡ []) keys → (caller number : ℕ) (index : Option (List ℕ)) → slice_get keys caller ≡ index → option_and_then (λ (index : List ℕ). key_in index number) index ≡ None
 no_index keys empty caller number None at = refl
 no_index keys empty caller number (Some index) at =
-    let none : index.entries ≡ [] = subst (λ (i : BTreeMap ℕ ℕ). i.entries ≡ []) (get_or_from_slice_get keys caller index index at) (empty caller index (slice_get_within keys caller index at)) in
-    ap (lookup (is_at (nat_cmp number))) none
+    let none : index ≡ [] = subst (λ (i : List ℕ). i ≡ []) (get_or_from_slice_get keys caller index index at) (empty caller index (slice_get_within keys caller index at)) in
+    ap (λ (index : List ℕ). key_in index number) none
 
 no_slot : (packets : Slab Packet) → packets.slots ≡ [] → (key : ℕ) → get packets key ≡ None
 no_slot packets empty key = rw empty refl
 
-pub held_at_first : (packets : Slab Packet) (keys : List (BTreeMap ℕ ℕ)) → packets.slots ≡ [] → length keys ≡ 17 → All (λ (index : BTreeMap ℕ ℕ). index.entries ≡ []) keys → IsHeld packets keys
+pub held_at_first : (packets : Slab Packet) (keys : List (List ℕ)) → packets.slots ≡ [] → length keys ≡ 17 → All (λ (index : List ℕ). index ≡ []) keys → IsHeld packets keys
 held_at_first packets keys no_packets one_each no_keys = record {
   one_each = one_each;
   named = λ caller number key at. let none = no_index keys no_keys caller number (slice_get keys caller) refl in absurd (cc);
@@ -146,7 +143,7 @@ held_at_first packets keys no_packets one_each no_keys = record {
 }
 
 -- a call comes, at a vacant key
-module _ (packets after : Slab Packet) (keys keys_after : List (BTreeMap ℕ ℕ)) (packet : Packet) (slot : ℕ) (held : IsHeld packets keys)
+module _ (packets after : Slab Packet) (keys keys_after : List (List ℕ)) (packet : Packet) (slot : ℕ) (held : IsHeld packets keys)
     (absent : key_of keys packet.caller packet.number ≡ None) (vacant : get packets slot ≡ None) (written : Updates packets after slot (Some packet))
     (long : length keys_after ≡ length keys)
     (keyed : (caller number : ℕ) → key_of keys_after caller number ≡ (if is_packet_of caller number packet then Some slot else key_of keys caller number)) where
@@ -197,7 +194,7 @@ module _ (packets after : Slab Packet) (keys keys_after : List (BTreeMap ℕ ℕ
   found_came caller number = found_by caller number (is_packet_of caller number packet) refl
 
 -- a call goes
-module _ (packets after : Slab Packet) (keys keys_after : List (BTreeMap ℕ ℕ)) (packet : Packet) (caller number slot : ℕ) (held : IsHeld packets keys)
+module _ (packets after : Slab Packet) (keys keys_after : List (List ℕ)) (packet : Packet) (caller number slot : ℕ) (held : IsHeld packets keys)
     (at : key_of keys caller number ≡ Some slot) (stood : get packets slot ≡ Some packet) (written : Updates packets after slot None)
     (long : length keys_after ≡ length keys)
     (keyed : (other count : ℕ) → key_of keys_after other count ≡ (if is_same caller number other count then None else key_of keys other count)) where

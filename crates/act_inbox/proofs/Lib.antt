@@ -3,6 +3,7 @@ pub mod Opening
 pub mod Lanes
 pub mod Packets
 pub mod Slots
+pub mod Places
 pub mod Keys
 pub mod Taking
 pub mod Notes

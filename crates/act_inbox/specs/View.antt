@@ -1,7 +1,5 @@
-use Rattle.std.specs.Prelude.{◌≡◌, ◌≢◌, ℕ, ◌+◌, ◌<◌, ◌≤◌, List, Option, Some, All, AllPairs, length, map, slice_get, IsSomeAnd}
+use Rattle.std.specs.Prelude.{◌≡◌, ◌≢◌, ℕ, ◌+◌, ◌-◌, ◌<◌, ◌≤◌, ◌==◌, if◌then◌else◌, List, Option, Some, None, All, AllPairs, length, map, slice_get, IsSomeAnd}
 use Rattle.std.specs.Option.{option_and_then}
-use Rattle.std.specs.Ordering.{nat_cmp}
-use Rattle.std.specs.BTreeMap.{BTreeMap, get as get_in_map}
 use Rattle.slab.specs.Slab.{Slab, get}
 use Rattle.act_types.specs.declared.limits.TheConstants.{MAX_CALLERS, MAX_CALLS}
 use Rattle.act_types.specs.declared.call.Packet.{Packet}
@@ -21,12 +19,20 @@ pub record IsInbox (lanes : List Lane) (held : List Packet) : Type 0 where
   pub counted : All (λ lane. lane.handed ≤ MAX_CALLS) lanes
   pub numbered : All (λ packet. packet.number < MAX_CALLS) held
 
+-- the key that a place tells: one less, and 0 tells of none
+abbrev pub told_key : ℕ → Option ℕ
+told_key place = if place == 0 then None else Some (place - 1)
+
+-- the key of the call of this number, by a caller's index
+abbrev pub key_in : List ℕ → ℕ → Option ℕ
+key_in index number = option_and_then told_key (slice_get index number)
+
 -- the key of the caller's call of this number, by the caller's index
-abbrev pub key_of : List (BTreeMap ℕ ℕ) → ℕ → ℕ → Option ℕ
-key_of keys caller number = option_and_then (λ index. get_in_map nat_cmp index number) (slice_get keys caller)
+abbrev pub key_of : List (List ℕ) → ℕ → ℕ → Option ℕ
+key_of keys caller number = option_and_then (λ index. key_in index number) (slice_get keys caller)
 
 -- each key in a caller's index names a held packet of that caller and number, and no other is held
-pub record IsHeld (packets : Slab Packet) (keys : List (BTreeMap ℕ ℕ)) : Type 0 where
+pub record IsHeld (packets : Slab Packet) (keys : List (List ℕ)) : Type 0 where
   pub one_each : length keys ≡ MAX_CALLERS + 1
   pub named : (caller number key : ℕ) → key_of keys caller number ≡ Some key →
       IsSomeAnd (get packets key) (λ packet. (packet.caller ≡ caller) × (packet.number ≡ number))

@@ -5,11 +5,11 @@ ghost use Rattle.act_rules.specs.declared.outcome.Arrival.TheVariants.{New};
 ghost use Rattle.act_inbox.specs.Inbox.{InboxView, is_lane_of, is_packet_of, lane_at_first, is_listed, handed_of, note_of, waiting_packet, next_of, call_arrival, arrival_of, note_arrival, waiting_after, held_at, held_after, held_without, note_after, with_held, HoldsNone, IsNextToCome, IsOpened, IsTakenIn, IsNextTaken, IsDrained};
 ghost use Rattle.act_types.specs.declared.call.Packet.{Packet};
 
+use crate::numbered::Keys;
 use act_rules::Arrival;
 use act_types::{CALLER_NUMBERS, CallerId, MAX_CALLERS, MAX_CALLS, NoMemory, Packet, ReleaseNote};
 use slab::Slab;
 use std::alloc::{AllocError, Global};
-use std::collections::BTreeMap;
 use std::marker::Model;
 
 /// How many calls of a caller were handed out.
@@ -246,7 +246,7 @@ impl Inbox {
 #[derive(Drop)]
 pub(crate) struct HeldCalls {
     packets: Slab<Packet>,
-    keys: Vec<BTreeMap<u32, usize>>,
+    keys: Vec<Keys>,
 }
 
 impl Model for HeldCalls {
@@ -263,13 +263,13 @@ impl Model for HeldCalls {
 }
 
 /// For each caller's number an index with no calls.
-fn no_keys(alloc: Global) -> Result<Vec<BTreeMap<u32, usize>>, AllocError>
+fn no_keys(alloc: Global) -> Result<Vec<Keys>, AllocError>
     ensures one_each { IfOk result (λ keys. length keys.items ≡ CALLER_NUMBERS) }
-    ensures empty { IfOk result (λ keys. All (λ index. index.entries ≡ []) keys.items) }
+    ensures empty { IfOk result (λ keys. All (λ index. index ≡ []) keys.items) }
 {
     let mut keys = Vec::with_capacity(alloc, CALLER_NUMBERS)?;
     for _ in 0..CALLER_NUMBERS {
-        keys.push(BTreeMap::new(alloc))?;
+        keys.push(Keys::new(alloc))?;
     }
     Ok(keys)
 }
@@ -296,8 +296,8 @@ impl HeldCalls {
     pub(crate) fn get(&self, caller: CallerId, number: u32) -> Option<&Packet>
         ensures { option_copied result ≡ find (is_packet_of caller number) self.now }
     {
-        let key = self.keys[caller.number() as usize].get(&number)?;
-        self.packets.get(*key)
+        let key = self.keys[caller.number() as usize].get(number)?;
+        self.packets.get(key)
     }
 
     /// Holds a call that is not held. An `Err` hands it back for want of memory.
@@ -333,7 +333,7 @@ impl HeldCalls {
             All (λ each. each.number < MAX_CALLS) self.new }
         ensures none { IfNone result (self.new ≡ self.old) }
     {
-        let key = self.keys[caller.number() as usize].remove(&number)?;
+        let key = self.keys[caller.number() as usize].remove(number)?;
         Some(self.packets.remove(key))
     }
 }

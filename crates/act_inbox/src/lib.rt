@@ -3,6 +3,7 @@
 #![tactic(auto)]
 
 mod inbox;
+mod numbered;
 
 pub use act_rules::Arrival;
 pub use inbox::Inbox;

@@ -12,5 +12,5 @@ pub returns : goal.returns
 returns c =
     let packets = c.self.inside.packets in
     let keys = c.self.inside.keys.items in
-    let at : key_of keys c.args.caller c.args.number ≡ Some c.in_ok-key.key.now = key_at keys c.number.result c.index.result.now (omega (arith, c.self.invariant.one_each)) c.index.ensures c.args.caller c.args.number c.number.ensures.value ∙ sym c.in_ok-key.ensures.value in
+    let at : key_of keys c.args.caller c.args.number ≡ Some c.in_ok-key.key = key_at keys c.number.result c.index.result.now (omega (arith, c.self.invariant.one_each)) c.index.ensures c.args.caller c.args.number c.number.ensures.value ∙ sym c.in_ok-key.ensures.value in
     rw (← c.self.view_is) (c.get-2.ensures ∙ sym (finds packets keys c.self.invariant c.args.caller c.args.number ∙ ap (option_and_then (λ key. get packets key)) at))

@@ -1,6 +1,6 @@
 use Rattle.act_inbox.proofs.Common.{◌≡◌, ◌<◌, ℕ, Some, None, Result, Ok, Err, true, false, sym, ◌∙◌, subst, arith, is_err, OnOk, OnErr, refl, if◌then◌else◌}
 use Rattle.act_inbox.proofs.Common.{slice_set, length-set, values, Packet, key_of, IsHeld, is_packet_of}
-use Rattle.act_inbox.proofs.Keys.{key_of-set, key_of-kept, updates_at, held_same, not_keyed, held_came, found_came, all_after}
+use Rattle.act_inbox.proofs.Keys.{key_of-set, key_of-kept, held_same, not_keyed, held_came, found_came, all_after}
 use Rattle.act_inbox.proofs.inbox.HeldCalls.insert.Goals as goal
 
 on_ok : {T E : Type 0} (r : Result T E) (P : Type 0) → is_err r ≡ false → OnOk r P → P
@@ -26,7 +26,7 @@ keyed c caller number =
     let updates = on_ok c.insert.result _ (sym c.is_err-2.ensures.value ∙ c.if-is_err-2.false) c.insert.ensures.updates in
     let same : c.vacant_key-key.result ≡ c.insert_reserved.result = c.vacant_key-key.ensures.value ∙ sym c.insert_reserved.ensures.key in
     rw (← c.number.ensures.value, ← same) (key_of-set keys c.number.result c.index_mut-index.result.now c.insert.new.self (omega (arith, c.self.invariant.one_each)) c.index_mut-index.ensures.value
-    c.args.packet.number (Some c.vacant_key-key.result) (updates_at c.index_mut-index.result.now c.insert.new.self c.args.packet.number (Some c.vacant_key-key.result) updates) caller number)
+    c.args.packet.number (Some c.vacant_key-key.result) updates caller number)
 
 -- with room for one more packet the slab holds what it held
 roomy : (c : goal.After-insert_reserved) → IsHeld c.reserve.new.self c.self.inside.keys.items

@@ -1,5 +1,5 @@
 use Rattle.act_inbox.proofs.Common.{◌≡◌, ◌<◌, ℕ, Some, None, sym, ◌∙◌, arith, refl, if◌then◌else◌, slice_set, length-set, key_of}
-use Rattle.act_inbox.proofs.Keys.{is_same, is_same_itself, key_at, key_of-set, key_of-kept, updates_at, names, held_same, none_held, one_held, held_gone, found_gone, all_after}
+use Rattle.act_inbox.proofs.Keys.{is_same, is_same_itself, key_at, key_of-set, key_of-kept, names, held_same, none_held, one_held, held_gone, found_gone, all_after}
 use Rattle.act_inbox.proofs.inbox.HeldCalls.remove.Goals as goal
 use Rattle.act_inbox.proofs.inbox.HeldCalls.remove.Goals.{After-remove-2}
 
@@ -34,7 +34,7 @@ at c = key_at c.self.inside.keys.items c.number.result c.index_mut.result.now (o
 unkeyed : (c : After-remove-2) (other count : ℕ) → key_of (slice_set c.self.inside.keys.items c.number.result c.remove.new.self) other count ≡ (if is_same c.args.caller c.args.number other count then None else key_of c.self.inside.keys.items other count)
 unkeyed c other count =
     rw (← c.number.ensures.value) (key_of-set c.self.inside.keys.items c.number.result c.index_mut.result.now c.remove.new.self (omega (arith, c.self.invariant.one_each)) c.index_mut.ensures.value
-    c.args.number None (updates_at c.index_mut.result.now c.remove.new.self c.args.number None c.remove.ensures.updates) other count)
+    c.args.number None c.remove.ensures.updates other count)
 
 pub invariant_of-self-2 : goal.invariant_of-self-2
 invariant_of-self-2 c =
