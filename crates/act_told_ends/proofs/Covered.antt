@@ -1,0 +1,202 @@
+-- What it means that the walk did all that a play did so far, and what follows of calls, answers and deaths.
+use Rattle.act_early.proofs.Common.{◌≡◌, ℕ, ◌≤◌, true, List, length, take, Option, Some, None, refl, ap, sym, ◌∙◌, subst, cond, ◌+◌, ◌-◌}
+use Rattle.act_early.proofs.Common.{Contains, ◌==◌, ◌||◌, filter, filter_map, find, slice_get, is_some, list_any, RunItem, Submission, Step, Submit}
+use Rattle.act_early.proofs.Common.{Copy, Release, Kill, Await, Answer, kept_at, has_terminated, ActorSpec, History, names, contains, cast_of, is_caller, count_pairs}
+use Rattle.act_early.proofs.Common.{calls_of, runs_of, kept_of, is_dead, IsPrefix, slice_get_front, limit_of-same}
+use Rattle.act_early.proofs.Common.{Extends, At, steps_of, next_step, IsPlay, slice_get_within}
+use Rattle.act_rules.specs.declared.history.Post.TheVariants.{Reply as ReplyPost, Death as DeathPost}
+use Rattle.act_early.proofs.Worlds.{IsWorld, world, either_of, or_second}
+use Rattle.act_early.proofs.Counting.{done_steps, take-prefix}
+use Rattle.act_early.proofs.Progress.{Follows, follows, submission_in, is_copy_of, is_release_of}
+use Rattle.act_early.proofs.Matching.{IsPrefix-filter_map}
+use Rattle.act_early.proofs.Replies.{death_answers, front_short, front_whole}
+use Rattle.act_early.proofs.Waiting.{IsAlike}
+use Rattle.act_told_ends.specs.Told.{Told, IsWalk, DidFirst, submission_of, copies, releases}
+use Rattle.act_told_ends.proofs.Lists.{front_of_front, filter_alike, filter_map_alike}
+use Rattle.act_told_ends.proofs.Bridge.{IsLate}
+use Rattle.act_told_ends.proofs.Later.{IsLater}
+use Rattle.act_told_ends.proofs.Posted.{RunsPosted, CameBy, Replied, Died, came_by}
+
+-- a walk, and a play that ends as is told
+pub record IsSetting (casts : List ActorSpec) (bound : ℕ → Option (List Step)) (told : Told) (done : ℕ → ℕ) (plans : ℕ → List Step) (late : At)
+    (g : History) : Type 0 where
+  pub end : IsLate casts bound told plans late
+  pub walk : IsWalk bound told done g
+  pub world : IsWorld casts g
+  pub posted : RunsPosted g
+
+-- the walk did all that the play did so far
+pub record IsCovered (bound : ℕ → Option (List Step)) (told : Told) (done : ℕ → ℕ) (p : At) (g : History) : Type 0 where
+  pub steps : (c : ℕ) (steps : List Step) → bound c ≡ Some steps → steps_of c p ≤ done c
+  pub calls : (c : ℕ) → bound c ≡ None → length (calls_of c p.history) ≤ length (calls_of c g)
+  pub runs : (a : ℕ) → length (runs_of a p.history) ≤ length (runs_of a g)
+  pub replies : (i c a place : ℕ) (item : RunItem) → slice_get p.history.collected i ≡ Some (ReplyPost c a place)
+      → slice_get (told.runs a) place ≡ Some item → is_some (kept_at (kept_of c g) item.future) ≡ true
+  pub deaths : (i c a : ℕ) → slice_get p.history.collected i ≡ Some (DeathPost c a) → Contains g.collected (DeathPost c a)
+  pub killed : (a : ℕ) → contains a p.history.killed ≡ true → is_dead a g ≡ true
+  pub asked : (a : ℕ) → contains a p.history.asked ≡ true → told.dead a ≡ true → (contains a g.asked || is_dead a g) ≡ true
+
+-- ---- the steps of act_early and those here
+
+pub same_submission : (step : Step) → submission_in step ≡ submission_of step
+same_submission (Submit a method args) = refl
+same_submission (Copy a) = refl
+same_submission (Release a) = refl
+same_submission (Kill a) = refl
+same_submission (Await k) = refl
+
+pub same_copy : (a : ℕ) (step : Step) → is_copy_of a step ≡ copies a step
+same_copy a (Submit b method args) = refl
+same_copy a (Copy b) = refl
+same_copy a (Release b) = refl
+same_copy a (Kill b) = refl
+same_copy a (Await k) = refl
+
+pub same_release : (a : ℕ) (step : Step) → is_release_of a step ≡ releases a step
+same_release a (Submit b method args) = refl
+same_release a (Copy b) = refl
+same_release a (Release b) = refl
+same_release a (Kill b) = refl
+same_release a (Await k) = refl
+
+-- ---- what stands in the play stands in what is told
+
+pub runs_told : (casts : List ActorSpec) (bound : ℕ → Option (List Step)) (told : Told) (plans : ℕ → List Step) (late p : At) (a : ℕ)
+    → IsLate casts bound told plans late → IsLater p.history late.history → IsPrefix (runs_of a p.history) (told.runs a)
+runs_told casts bound told plans late p a l later = subst (λ (items : List RunItem). IsPrefix (runs_of a p.history) items) (l.leaves.runs a) (later.early.runs a)
+
+pub calls_told : (casts : List ActorSpec) (bound : ℕ → Option (List Step)) (told : Told) (plans : ℕ → List Step) (late p : At) (c : ℕ)
+    → IsLate casts bound told plans late → IsLater p.history late.history → IsPrefix (calls_of c p.history) (told.calls c)
+calls_told casts bound told plans late p c l later =
+    subst (λ (calls : List Submission). IsPrefix (calls_of c p.history) calls) (l.leaves.calls c) (later.calls c)
+
+pub kept_told : (casts : List ActorSpec) (bound : ℕ → Option (List Step)) (told : Told) (plans : ℕ → List Step) (late p : At) (c k : ℕ) (answer : Answer)
+    → IsLate casts bound told plans late → IsLater p.history late.history → kept_at (kept_of c p.history) k ≡ Some answer
+    → kept_at (told.kept c) k ≡ Some answer
+kept_told casts bound told plans late p c k answer l later e = ap (λ (kept : List (Option Answer)). kept_at kept k) (sym (l.leaves.kept c)) ∙ later.early.kept c k answer e
+
+-- ---- of one play, and a walk that did all that it did
+
+pub record IsAt (casts : List ActorSpec) (bound : ℕ → Option (List Step)) (told : Told) (done : ℕ → ℕ) (plans : ℕ → List Step) (late : At) (g : History)
+    (p : At) : Type 0 where
+  pub setting : IsSetting casts bound told done plans late g
+  pub play : IsPlay casts plans p
+  pub later : IsLater p.history late.history
+  pub covered : IsCovered bound told done p g
+
+pub bound_calls : (casts : List ActorSpec) (bound : ℕ → Option (List Step)) (told : Told) (done : ℕ → ℕ) (plans : ℕ → List Step) (late : At) (g : History)
+    (p : At) (c : ℕ) (steps : List Step) → IsSetting casts bound told done plans late g → IsPlay casts plans p → bound c ≡ Some steps
+    → steps_of c p ≤ done c → IsPrefix (calls_of c p.history) (calls_of c g)
+bound_calls casts bound told done plans late g p c steps s play is le =
+    let f = follows casts plans p play c in
+    let first = s.walk.steps c steps is in
+    let own : done_steps plans c p ≡ take (steps_of c p) steps = ap (take (steps_of c p)) (s.end.own c steps is) in
+    let mine : calls_of c p.history ≡ filter_map submission_of (take (steps_of c p) steps) =
+    f.calls ∙ ap (filter_map submission_in) own ∙ filter_map_alike submission_in submission_of (take (steps_of c p) steps) same_submission in
+    subst (λ (l : List Submission). IsPrefix l (calls_of c g)) (sym mine)
+    (subst (λ (l : List Submission). IsPrefix (filter_map submission_of (take (steps_of c p) steps)) l) (sym first.calls)
+    (IsPrefix-filter_map submission_of (take (steps_of c p) steps) (take (done c) steps) (take-prefix steps (steps_of c p) (done c) le)))
+
+pub calls_covered : (casts : List ActorSpec) (bound : ℕ → Option (List Step)) (told : Told) (done : ℕ → ℕ) (plans : ℕ → List Step) (late : At) (g : History)
+    (p : At) (c : ℕ) → IsAt casts bound told done plans late g p → IsPrefix (calls_of c p.history) (calls_of c g)
+calls_covered casts bound told done plans late g p c at = go (bound c) refl
+  where
+    go : (o : Option (List Step)) → bound c ≡ o → IsPrefix (calls_of c p.history) (calls_of c g)
+    go None e = front_of_front (calls_of c p.history) (calls_of c g) (told.calls c) (calls_told casts bound told plans late p c at.setting.end at.later)
+        (at.setting.walk.calls c) (at.covered.calls c e)
+    go (Some steps) e = bound_calls casts bound told done plans late g p c steps at.setting at.play e (at.covered.steps c steps e)
+
+pub runs_covered : (casts : List ActorSpec) (bound : ℕ → Option (List Step)) (told : Told) (done : ℕ → ℕ) (plans : ℕ → List Step) (late : At) (g : History)
+    (p : At) (a : ℕ) → IsAt casts bound told done plans late g p → IsPrefix (runs_of a p.history) (runs_of a g)
+runs_covered casts bound told done plans late g p a at = front_of_front (runs_of a p.history) (runs_of a g) (told.runs a)
+    (runs_told casts bound told plans late p a at.setting.end at.later) (at.setting.walk.runs a) (at.covered.runs a)
+
+-- an answer that the walk keeps where it is told is that one
+pub told_answer : (bound : ℕ → Option (List Step)) (told : Told) (done : ℕ → ℕ) (g : History) (c k : ℕ) (answer : Answer) → IsWalk bound told done g
+    → kept_at (told.kept c) k ≡ Some answer → is_some (kept_at (kept_of c g) k) ≡ true → kept_at (kept_of c g) k ≡ Some answer
+told_answer bound told done g c k answer walk is some = go (kept_at (kept_of c g) k) refl some
+  where
+    go : (o : Option Answer) → kept_at (kept_of c g) k ≡ o → is_some o ≡ true → kept_at (kept_of c g) k ≡ Some answer
+    go None e some = cc
+    go (Some other) e some = e ∙ sym (walk.kept c k other e) ∙ is
+
+-- what the play keeps the walk keeps
+pub kept_covered : (casts : List ActorSpec) (bound : ℕ → Option (List Step)) (told : Told) (done : ℕ → ℕ) (plans : ℕ → List Step) (late : At) (g : History)
+    (p : At) (c : ℕ) → IsAt casts bound told done plans late g p → Extends (kept_of c p.history) (kept_of c g)
+kept_covered casts bound told done plans late g p c at k answer e =
+    told_answer bound told done g c k answer at.setting.walk (kept_told casts bound told plans late p c k answer at.setting.end at.later e)
+    (go (came_by p.history c k answer (world casts plans p at.play).sound e))
+  where
+    go : CameBy p.history c k answer → is_some (kept_at (kept_of c g) k) ≡ true
+    go (Replied i a place item has there caller future reply) =
+        subst (λ (j : ℕ). is_some (kept_at (kept_of c g) j) ≡ true) future
+        (at.covered.replies i c a place item has
+        (slice_get_front (runs_of a p.history) (told.runs a) place item (runs_told casts bound told plans late p a at.setting.end at.later) there))
+    go (Died i call has there died) =
+        let mine = slice_get_front (calls_of c p.history) (calls_of c g) k call (calls_covered casts bound told done plans late g p c at) there in
+        let answers = death_answers g c k call mine (at.covered.deaths i c call.actor has) in
+        ap (λ (o : Option Answer). is_some o) answers.1
+
+-- what is dead there is dead in the walk
+pub dead_covered : (casts : List ActorSpec) (bound : ℕ → Option (List Step)) (told : Told) (done : ℕ → ℕ) (plans : ℕ → List Step) (late : At) (g : History)
+    (p : At) (a : ℕ) → IsAt casts bound told done plans late g p → is_dead a p.history ≡ true → is_dead a g ≡ true
+dead_covered casts bound told done plans late g p a at dead =
+    either_of (contains a p.history.killed) (has_terminated (runs_of a p.history)) (is_dead a g ≡ true) dead (at.covered.killed a)
+    (λ ended. or_second (contains a g.killed) (has_terminated (runs_of a g)) (ap has_terminated (sym same) ∙ ended))
+  where
+    last : told.runs a ≡ runs_of a p.history
+    last = sym (at.setting.end.leaves.runs a) ∙ at.later.early.last a dead
+
+    same : runs_of a p.history ≡ runs_of a g
+    same = front_whole (runs_of a p.history) (runs_of a g) (runs_covered casts bound told done plans late g p a at)
+        (subst (λ (items : List RunItem). length (runs_of a g) ≤ length items) last
+        (front_short (runs_of a g) (told.runs a) (at.setting.walk.runs a)))
+
+-- ---- the same casts
+
+pub cast_same : (casts : List ActorSpec) (a : ℕ) (h g : History) → IsWorld casts h → IsWorld casts g → cast_of a g ≡ cast_of a h
+cast_same casts a h g w v = ap (λ (l : List ActorSpec). find (λ (cast : ActorSpec). cast.actor == a) l) (v.casts ∙ sym w.casts)
+
+pub caller_same : (casts : List ActorSpec) (c : ℕ) (h g : History) → IsWorld casts h → IsWorld casts g → is_caller c g ≡ is_caller c h
+caller_same casts c h g w v = ap (λ (l : List ActorSpec). list_any (λ (cast : ActorSpec). contains c cast.callers) l) (v.casts ∙ sym w.casts)
+
+-- a bound caller that is as far, with a step left, has the same calls and handles
+pub bound_alike : (casts : List ActorSpec) (bound : ℕ → Option (List Step)) (told : Told) (done : ℕ → ℕ) (plans : ℕ → List Step) (late : At) (g : History)
+    (p : At) (c : ℕ) (steps : List Step) (step : Step) → IsSetting casts bound told done plans late g → IsPlay casts plans p → bound c ≡ Some steps
+    → next_step plans c p ≡ Some step → steps_of c p ≡ done c → IsAlike c p.history g
+bound_alike casts bound told done plans late g p c steps step s play is next level = record {
+  caller = caller_same casts c p.history g w s.world;
+  calls = first.calls ∙ sym (f.calls ∙ ap (filter_map submission_in) own ∙ filter_map_alike submission_in submission_of (take (done c) steps) same_submission);
+  copies = λ a.
+      ap (λ (l : List ActorSpec). copies_from l a (count_pairs c a g.copied) (count_pairs c a g.released)) (s.world.casts ∙ sym w.casts)
+      ∙ ap (λ (n : ℕ). copies_from p.history.casts a n (count_pairs c a g.released)) (copied a)
+      ∙ ap (λ (n : ℕ). copies_from p.history.casts a (count_pairs c a p.history.copied) n) (released a);
+  limit = λ a. limit_of-same p.history g c a (s.world.casts ∙ sym w.casts);
+}
+  where
+    w : IsWorld casts p.history
+    w = world casts plans p play
+
+    f : Follows plans c p
+    f = follows casts plans p play c
+
+    first : DidFirst c (done c) steps g
+    first = s.walk.steps c steps is
+
+    own : done_steps plans c p ≡ take (done c) steps
+    own = ap (take (steps_of c p)) (s.end.own c steps is) ∙ ap (λ (n : ℕ). take n steps) level
+
+    copies_from : List ActorSpec → ℕ → ℕ → ℕ → Option ℕ
+    copies_from l a made gone = cond (names c (find (λ (cast : ActorSpec). cast.actor == a) l)) (Some ((1 + made) - gone)) None
+
+    copied : (a : ℕ) → count_pairs c a g.copied ≡ count_pairs c a p.history.copied
+    copied a = first.copied a ∙ sym (f.copied a ∙ ap (λ (l : List Step). length (filter (is_copy_of a) l)) own
+        ∙ ap (λ (l : List Step). length l) (filter_alike (is_copy_of a) (copies a) (take (done c) steps) (same_copy a)))
+
+    there : slice_get steps (done c) ≡ Some step
+    there = subst (λ (n : ℕ). slice_get steps n ≡ Some step) level (subst (λ (l : List Step). slice_get l (steps_of c p) ≡ Some step) (s.end.own c steps is) next)
+
+    released : (a : ℕ) → count_pairs c a g.released ≡ count_pairs c a p.history.released
+    released a = first.released a (slice_get_within steps (done c) step there)
+        ∙ sym (f.released a step next ∙ ap (λ (l : List Step). length (filter (is_release_of a) l)) own
+        ∙ ap (λ (l : List Step). length l) (filter_alike (is_release_of a) (releases a) (take (done c) steps) (same_release a)))

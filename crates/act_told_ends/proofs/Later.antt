@@ -1,0 +1,32 @@
+-- What stays while a play goes on: also calls, and what was collected.
+use Rattle.act_early.proofs.Common.{◌≡◌, ℕ, Event, Step, Submit, Copy, Release, Kill, Await, History, calls_of, refusal_of, add_event, IsPrefix}
+use Rattle.act_early.proofs.Common.{None, added_grows, calls_grow, whole_front, front_trans, IsSound, MayTake, after_step}
+use Rattle.act_rules.specs.declared.event.Event.TheVariants as event
+use Rattle.act_early.proofs.Earlier.{IsEarlier, earlier_same, earlier_trans, earlier_event}
+
+pub record IsLater (h g : History) : Type 0 where
+  pub early : IsEarlier h g
+  pub calls : (c : ℕ) → IsPrefix (calls_of c h) (calls_of c g)
+  pub collected : IsPrefix h.collected g.collected
+
+pub later_same : (h : History) → IsLater h h
+later_same h = record { early = earlier_same h; calls = λ c. whole_front (calls_of c h); collected = whole_front h.collected }
+
+pub later_trans : (f g h : History) → IsLater f g → IsLater g h → IsLater f h
+later_trans f g h one two = record {
+  early = earlier_trans f g h one.early two.early;
+  calls = λ c. front_trans (calls_of c f) (calls_of c g) (calls_of c h) (one.calls c) (two.calls c);
+  collected = front_trans f.collected g.collected h.collected one.collected two.collected;
+}
+
+pub later_event : (h : History) (other : Event) → IsSound h → refusal_of h other ≡ None → IsLater h (add_event h other)
+later_event h other sound may =
+    let grows = added_grows h other in
+    record { early = earlier_event h other sound may; calls = λ c. calls_grow c h (add_event h other) grows; collected = grows.collected }
+
+pub later_step : (c : ℕ) (step : Step) (h : History) → IsSound h → MayTake c step h → IsLater h (after_step c step h)
+later_step c (Submit a method args) h sound may = later_event h (event.Submit c a method args) sound may
+later_step c (Copy a) h sound may = later_event h (event.Copy c a) sound may
+later_step c (Release a) h sound may = later_event h (event.Release c a) sound may
+later_step c (Kill a) h sound may = later_event h (event.AskKill c a) sound may
+later_step c (Await k) h sound may = later_same h

@@ -1,0 +1,12 @@
+pub mod Lists
+pub mod Bridge
+pub mod Later
+pub mod Posted
+pub mod Covered
+pub mod Going
+pub mod Covers
+pub mod Collected
+pub mod Through
+pub mod Retiring
+pub mod Walked
+pub mod Stepped

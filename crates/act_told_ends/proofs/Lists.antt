@@ -1,0 +1,79 @@
+-- Fronts of one list, what stands in a list, and what a pushed list holds.
+use Rattle.act_early.proofs.Common.{◌≡◌, ℕ, zero, suc, ◌≤◌, Bool, cond, List, [], ◌∷◌, ◌++◌, length, take, Option, Some, None, inl, inr, ◌⊎◌}
+use Rattle.act_early.proofs.Common.{refl, ap, sym, ◌∙◌, subst, arith, Contains, slice_get, filter, filter_map, cons_option, IsPrefix, take-append_seam}
+use Rattle.act_early.proofs.Counting.{take-prefix}
+
+-- ---- fronts of one list
+
+pub front_take : {A : Type 0} (xs zs : List A) → IsPrefix xs zs → take (length xs) zs ≡ xs
+front_take {A = A} xs zs f = ap (λ (l : List A). take (length xs) l) (sym f.1) ∙ take-append_seam xs f.0
+
+pub front_of_front : {A : Type 0} (xs ys zs : List A) → IsPrefix xs zs → IsPrefix ys zs → length xs ≤ length ys → IsPrefix xs ys
+front_of_front {A = A} xs ys zs f g le =
+    subst (λ (l : List A). IsPrefix l ys) (front_take xs zs f)
+    (subst (λ (l : List A). IsPrefix (take (length xs) zs) l) (front_take ys zs g) (take-prefix zs (length xs) (length ys) le))
+
+-- fronts of one list that are as long are the same
+pub fronts_same : {A : Type 0} (xs ys zs : List A) → IsPrefix xs zs → IsPrefix ys zs → length xs ≡ length ys → xs ≡ ys
+fronts_same {A = A} xs ys zs f g e = sym (front_take xs zs f) ∙ ap (λ (n : ℕ). take n zs) e ∙ front_take ys zs g
+
+-- ---- what stands in a list
+
+pub place_in : {A : Type 0} (xs : List A) (x : A) → Contains xs x → (i : ℕ) × (slice_get xs i ≡ Some x)
+place_in [] x has = absurd (let below = has.1 in omega arith)
+place_in {A = A} (y ∷ xs) x (zero, below, is) = (zero, ap (λ (z : A). Some z) is)
+place_in (y ∷ xs) x (suc i, below, is) = let found = place_in xs x (i, omega arith, is) in (suc found.0, found.1)
+
+pub stands_in : {A : Type 0} (xs : List A) (i : ℕ) (x : A) → slice_get xs i ≡ Some x → Contains xs x
+stands_in [] i x e = cc
+stands_in (y ∷ xs) zero x e = (zero, omega arith, cc)
+stands_in (y ∷ xs) (suc i) x e = let rest = stands_in xs i x e in (suc rest.0, (let below = rest.1 in omega (arith, below)), rest.2)
+
+-- what stands in a pushed list stood there, or is what was pushed
+pub push_at : {A : Type 0} (xs : List A) (x y : A) (i : ℕ) → slice_get (xs ++ x ∷ []) i ≡ Some y → (slice_get xs i ≡ Some y) ⊎ ((i ≡ length xs) × (y ≡ x))
+push_at [] x y zero e = inr (refl, cc)
+push_at [] x y (suc i) e = absurd cc
+push_at (z ∷ xs) x y zero e = inl e
+push_at {A = A} (z ∷ xs) x y (suc i) e = go (push_at xs x y i e)
+  where
+    go : (slice_get xs i ≡ Some y) ⊎ ((i ≡ length xs) × (y ≡ x)) → (slice_get xs i ≡ Some y) ⊎ ((suc i ≡ suc (length xs)) × (y ≡ x))
+    go (inl at) = inl at
+    go (inr last) = inr (ap suc last.0, last.1)
+
+-- the first thing that a list gives is given by one that stands in it
+pub first_in : {A B : Type 0} (f : A → Option B) (xs : List A) (y : B) → slice_get (filter_map f xs) 0 ≡ Some y
+    → (x : A) × (i : ℕ) × (slice_get xs i ≡ Some x) × (f x ≡ Some y)
+first_in f [] y e = cc
+first_in {A = A} {B = B} f (x ∷ xs) y e = go (f x) refl (first_in f xs y) e
+  where
+    go : (o : Option B) → f x ≡ o → (slice_get (filter_map f xs) 0 ≡ Some y → (z : A) × (i : ℕ) × (slice_get xs i ≡ Some z) × (f z ≡ Some y))
+        → slice_get (cons_option o (filter_map f xs)) 0 ≡ Some y → (z : A) × (i : ℕ) × (slice_get (x ∷ xs) i ≡ Some z) × (f z ≡ Some y)
+    go None is rest e = let found = rest e in (found.0, suc found.1, found.2, found.3)
+    go (Some z) is rest e = (x, zero, refl, is ∙ e)
+
+-- where one gives something, some first does
+pub some_first : {A B : Type 0} (f : A → Option B) (xs : List A) (i : ℕ) (x : A) (y : B) → slice_get xs i ≡ Some x → f x ≡ Some y
+    → (z : B) × (slice_get (filter_map f xs) 0 ≡ Some z)
+some_first f [] i x y e gives = cc
+some_first {A = A} {B = B} f (w ∷ xs) zero x y e gives = go (f w) (ap f (let same : w ≡ x = cc in same) ∙ gives)
+  where
+    go : (o : Option B) → o ≡ Some y → (z : B) × (slice_get (cons_option o (filter_map f xs)) 0 ≡ Some z)
+    go None e = cc
+    go (Some first) e = (first, refl)
+some_first {A = A} {B = B} f (w ∷ xs) (suc i) x y e gives = go (f w) (some_first f xs i x y e gives)
+  where
+    go : (o : Option B) → (z : B) × (slice_get (filter_map f xs) 0 ≡ Some z) → (z : B) × (slice_get (cons_option o (filter_map f xs)) 0 ≡ Some z)
+    go None rest = rest
+    go (Some first) rest = (first, refl)
+
+-- ---- the same test, the same choice
+
+pub filter_alike : {A : Type 0} (p q : A → Bool) (xs : List A) → ((x : A) → p x ≡ q x) → filter p xs ≡ filter q xs
+filter_alike p q [] same = refl
+filter_alike {A = A} p q (x ∷ xs) same = ap (λ (b : Bool). cond b (x ∷ filter p xs) (filter p xs)) (same x)
+    ∙ ap (λ (l : List A). cond (q x) (x ∷ l) l) (filter_alike p q xs same)
+
+pub filter_map_alike : {A B : Type 0} (f g : A → Option B) (xs : List A) → ((x : A) → f x ≡ g x) → filter_map f xs ≡ filter_map g xs
+filter_map_alike f g [] same = refl
+filter_map_alike {B = B} f g (x ∷ xs) same = ap (λ (o : Option B). cons_option o (filter_map f xs)) (same x)
+    ∙ ap (λ (l : List B). cons_option (g x) l) (filter_map_alike f g xs same)

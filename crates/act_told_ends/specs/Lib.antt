@@ -1,0 +1,4 @@
+pub mod Told
+pub mod Walks
+pub mod Retiring
+pub mod Walked

@@ -1,0 +1,32 @@
+//! The laws of walks: plays that do only what is told.
+
+ghost use Rattle.act_told_ends.specs.Walks.{NoWalkIsStuck};
+
+/// Where some play ends as is told, a walk is through, or may go on.
+#[tactic(none)]
+pub fn no_walk_is_stuck()
+    ensures { NoWalkIsStuck }
+{}
+
+ghost use Rattle.act_told_ends.specs.Retiring.{EachRetires, ToldAlike};
+
+/// And once it is through, those can retire that are told retired.
+#[tactic(none)]
+pub fn each_retires()
+    ensures { EachRetires }
+{}
+
+/// Two ends that are as is told have one summary.
+#[tactic(none)]
+pub fn told_alike()
+    ensures { ToldAlike }
+{}
+
+ghost use Rattle.act_told_ends.specs.Walked.{EachWalkIsOne, WalksGoOn};
+
+/// Whoever does only what may be done next makes a walk, and so is never stuck.
+#[tactic(none)]
+pub fn each_walk_goes_on()
+    ensures is { EachWalkIsOne }
+    ensures goes { WalksGoOn }
+{}

@@ -1,0 +1,7 @@
+//! That a play which does only what is told is never stuck where some play ends as is told, over the
+//! definitions alone.
+#![tactic(auto)]
+
+mod laws;
+
+pub use laws::{each_retires, each_walk_goes_on, no_walk_is_stuck, told_alike};
