@@ -6,7 +6,7 @@ use Rattle.act_rules.specs.History.{History}
 use Rattle.act_rules.specs.declared.event.Event.TheVariants as event
 use Rattle.act_early.proofs.Listing.{list_play}
 use Rattle.act_early.proofs.Shifting.{none_others}
-use Rattle.act_told_ends.specs.Told.{Told, Leaves, EndsAsTold}
+use Rattle.act_told_ends.specs.Told.{Told, Leaves, EndsAsTold, told_of}
 
 -- which step of the caller's the event is
 abbrev step_in : ℕ → Event → Option Step
@@ -135,3 +135,13 @@ free_play casts events accepted =
     let played = list_play casts plans events accepted
     (λ c. ([], subst (λ (l : List Step). DoesStepsBy casts c l [] events) (sym (append-nil (filter_map (step_in c) events))) (does_own casts c [] events))) in
     (plans, played.0, played.1, played.2)
+
+-- what events leave is told of them
+pub end_told : (casts : List ActorSpec) (events : List Event) → All IsOk (outcomes (opening casts) events)
+    → EndsAsTold casts (λ c. None) (told_of (history casts events)) events
+end_told casts events accepted = record {
+  accepted = accepted;
+  leaves = record { calls = λ c. refl; kept = λ c. refl; runs = λ a. refl; dead = λ a. refl };
+  retired = λ a. refl;
+  does = λ c steps is. let bad : None ≡ Some steps = is in cc;
+}

@@ -1,5 +1,5 @@
 -- A post that the play collects: the walk has its answer, or may collect it.
-use Rattle.act_early.proofs.Common.{◌≡◌, ℕ, ◌+◌, Bool, true, false, List, [], ◌∷◌, ◌++◌, length, Option, Some, None, inl, inr, ◌⊎◌, refl, ap, sym, ◌∙◌, subst}
+use Rattle.act_early.proofs.Common.{◌≡◌, ℕ, Bool, true, false, List, [], ◌∷◌, ◌++◌, length, Option, Some, None, inl, inr, ◌⊎◌, refl, ap, sym, ◌∙◌, subst}
 use Rattle.act_early.proofs.Common.{Contains, slice_get, is_some, RunItem, Submission, Answer, Err, ActorDied, kept_at, ActorSpec, History, names, cast_of}
 use Rattle.act_early.proofs.Common.{is_caller, calls_of, runs_of, kept_of, is_dead, refusal_of, add_event, and_also, slice_get_front, slice_get_last, All_at, IsSoundPost}
 use Rattle.act_early.proofs.Common.{held_submission, At, with_event, IsPlay, Happens, is_reply, Post}

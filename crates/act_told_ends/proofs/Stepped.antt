@@ -403,3 +403,11 @@ goes_on casts bound told events done h ends walked =
     let found = late_play casts bound told events ends in
     let w = going casts bound told found.0 found.1 done h found.2 walked in
     stuck_in casts bound told done found.0 found.1 h found.2 w.walk w.world w.posted
+
+pub refutes : (casts : List ActorSpec) (bound : ℕ → Option (List Step)) (told : Told) (done : ℕ → ℕ) (h : History) → IsWalked casts bound told done h
+    → (IsThrough bound told done h → ⊥) → (MayGoOn bound told done h → ⊥) → (events : List Event) → EndsAsTold casts bound told events → ⊥
+refutes casts bound told done h walked not_through stuck events ends = go (goes_on casts bound told events done h ends walked)
+  where
+    go : IsThrough bound told done h ⊎ MayGoOn bound told done h → ⊥
+    go (inl through) = not_through through
+    go (inr thing) = stuck thing

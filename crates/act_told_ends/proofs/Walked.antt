@@ -2,7 +2,7 @@
 use Rattle.act_early.proofs.Common.{◌≡◌, ℕ, ◌+◌, ◌-◌, ◌<◌, Bool, true, false, cond, List, [], ◌∷◌, ◌++◌, length, Option, Some, None, inl, inr}
 use Rattle.act_early.proofs.Common.{◌⊎◌, refl, ap, sym, ◌∙◌, subst, arith, ◌==◌, find, slice_get, option_and_then, is_some}
 use Rattle.act_early.proofs.Common.{append-nil, eqb-true, slice_get_within, Event, KindState, RunItem, Post, Submission, Step}
-use Rattle.act_early.proofs.Common.{Answer, Err, ActorDied, answer_at, answer_at-front, kept_at, ActorSpec, History, opening, under, names, contains}
+use Rattle.act_early.proofs.Common.{Answer, Err, ActorDied, answer_at, answer_at-front, kept_at, ActorSpec, History, under, names, contains}
 use Rattle.act_early.proofs.Common.{count_pairs, calls_of, copies_of, runs_of, kept_of, opening_of, is_dead, next_item, refusal_of}
 use Rattle.act_early.proofs.Common.{add_event, after_run, and_also, under-push, IsPrefix, slice_get_front, front_next, Grows, added_grows}
 use Rattle.act_early.proofs.Common.{IsSound, answers_are, dead_stays, kept_at_is, kept_by, kept_extends, At, is_free}

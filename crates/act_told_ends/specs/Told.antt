@@ -40,6 +40,21 @@ pub record EndsAsTold (casts : List ActorSpec) (bound : ℕ → Option (List Ste
   pub does : (c : ℕ) (steps : List Step) → bound c ≡ Some steps →
       (closing : List ℕ) × DoesStepsBy casts c (steps ++ map (λ a. Release a) closing) [] events
 
+-- what a history leaves, as it is told
+abbrev pub told_of : History → Told
+told_of h = record {
+  calls = λ c. calls_of c h;
+  kept = λ c. kept_of c h;
+  runs = λ a. runs_of a h;
+  dead = λ a. is_dead a h;
+  retired = λ a. is_retired a h;
+}
+
+-- any accepted events end as what they leave is told, where no caller is bound
+abbrev pub EachEndIsTold : Type 0
+EachEndIsTold = (casts : List ActorSpec) (events : List Event) → All IsOk (outcomes (opening casts) events) →
+    EndsAsTold casts (λ c. None) (told_of (history casts events)) events
+
 -- ---- a play so far
 
 -- the call that a step submits

@@ -48,3 +48,9 @@ WalksGoOn = (casts : List ActorSpec) (bound : ℕ → Option (List Step)) (told 
     (done : ℕ → ℕ) (h : History) →
     EndsAsTold casts bound told events → IsWalked casts bound told done h →
     IsThrough bound told done h ⊎ MayGoOn bound told done h
+
+-- so where such a walk isn't through, and nothing may be done, no events end as is told
+abbrev pub StuckRefutesAll : Type 0
+StuckRefutesAll = (casts : List ActorSpec) (bound : ℕ → Option (List Step)) (told : Told) (done : ℕ → ℕ) (h : History) →
+    IsWalked casts bound told done h → (IsThrough bound told done h → ⊥) → (MayGoOn bound told done h → ⊥) →
+    (events : List Event) → EndsAsTold casts bound told events → ⊥

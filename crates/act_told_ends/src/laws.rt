@@ -22,11 +22,21 @@ pub fn told_alike()
     ensures { ToldAlike }
 {}
 
-ghost use Rattle.act_told_ends.specs.Walked.{EachWalkIsOne, WalksGoOn};
+ghost use Rattle.act_told_ends.specs.Walked.{EachWalkIsOne, StuckRefutesAll, WalksGoOn};
 
-/// Whoever does only what may be done next makes a walk, and so is never stuck.
+/// Whoever does only what may be done next makes a walk, and so is never stuck: where one is stuck
+/// before it is through, no events end as is told.
 #[tactic(none)]
 pub fn each_walk_goes_on()
     ensures is { EachWalkIsOne }
     ensures goes { WalksGoOn }
+    ensures stuck { StuckRefutesAll }
+{}
+
+ghost use Rattle.act_told_ends.specs.Told.{EachEndIsTold};
+
+/// What any accepted events leave is told of them.
+#[tactic(none)]
+pub fn each_end_is_told()
+    ensures { EachEndIsTold }
 {}
