@@ -112,9 +112,9 @@ keeps casts bound told events ends c = go (bound c) refl
     go None e = ([], subst (λ (l : List Step). DoesStepsBy casts c l [] events) (sym (append-nil own_steps)) (does_own casts c [] events))
     go (Some steps) e = ends.does c steps e
 
-pub late_play : (casts : List ActorSpec) (bound : ℕ → Option (List Step)) (told : Told) (events : List Event) → EndsAsTold casts bound told events
-    → (plans : ℕ → List Step) × (late : At) × IsLate casts bound told plans late
-late_play casts bound told events ends =
+pub late_found : (casts : List ActorSpec) (bound : ℕ → Option (List Step)) (told : Told) (events : List Event) → EndsAsTold casts bound told events
+    → (plans : ℕ → List Step) × (late : At) × IsLate casts bound told plans late × (late.history ≡ history casts events)
+late_found casts bound told events ends =
     let played = list_play casts (plans_of bound events) events ends.accepted (keeps casts bound told events ends) in (
       plans_of bound events,
       played.0,
@@ -125,7 +125,12 @@ late_play casts bound told events ends =
         own = λ c steps e. ap (λ (o : Option (List Step)). plan_or o (filter_map (step_in c) events)) e;
         done = played.3;
       },
+      played.2,
     )
+
+pub late_play : (casts : List ActorSpec) (bound : ℕ → Option (List Step)) (told : Told) (events : List Event) → EndsAsTold casts bound told events
+    → (plans : ℕ → List Step) × (late : At) × IsLate casts bound told plans late
+late_play casts bound told events ends = let found = late_found casts bound told events ends in (found.0, found.1, found.2)
 
 -- any accepted events are a play of what each caller did
 pub free_play : (casts : List ActorSpec) (events : List Event) → All IsOk (outcomes (opening casts) events)

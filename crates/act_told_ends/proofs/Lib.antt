@@ -10,3 +10,6 @@ pub mod Through
 pub mod Retiring
 pub mod Walked
 pub mod Stepped
+pub mod Twins
+pub mod Swapped
+pub mod Standing

@@ -2,3 +2,4 @@ pub mod Told
 pub mod Walks
 pub mod Retiring
 pub mod Walked
+pub mod Untold

@@ -40,3 +40,11 @@ ghost use Rattle.act_told_ends.specs.Told.{EachEndIsTold};
 pub fn each_end_is_told()
     ensures { EachEndIsTold }
 {}
+
+ghost use Rattle.act_told_ends.specs.Untold.{UntoldMayBeAsRun};
+
+/// Where the arguments of calls aren't told, those with which they ran may stand for them.
+#[tactic(none)]
+pub fn untold_may_be_as_run()
+    ensures { UntoldMayBeAsRun }
+{}

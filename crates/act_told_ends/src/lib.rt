@@ -4,4 +4,7 @@
 
 mod laws;
 
-pub use laws::{each_end_is_told, each_retires, each_walk_goes_on, no_walk_is_stuck, told_alike};
+pub use laws::{
+    each_end_is_told, each_retires, each_walk_goes_on, no_walk_is_stuck, told_alike,
+    untold_may_be_as_run,
+};

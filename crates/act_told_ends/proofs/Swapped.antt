@@ -1,0 +1,559 @@
+-- An event with a call that stands for the one made: it is accepted, too, and leaves the same but for that call.
+use Rattle.act_early.proofs.Common.{◌≡◌, ℕ, zero, suc, Bool, true, false, cond, List, [], ◌∷◌, ◌++◌, length, take, map, filter, Option, Some, None}
+use Rattle.act_early.proofs.Common.{inl, inr, ◌⊎◌, refl, ap, sym, ◌∙◌, subst, ◌==◌, ◌||◌, not, filter_map, slice_get, option_map, is_some, is_none, list_all, nat_lt}
+use Rattle.act_early.proofs.Common.{append-nil, eqb-true, eq-eqb, length-map, enumerate_from, Arg, Method, Event, RunItem, Submission}
+use Rattle.act_early.proofs.Common.{Letter, Step, Answer, NoCaller, Sending, SubmitRefusal, calls_to, number_of, kept_at, is_known, settle, needs, send_refusal}
+use Rattle.act_early.proofs.Common.{submit_refusal, limit_refusal, ActorSpec, History, under, is_caller, calls_of, copies_of, limit_of, runs_of, kept_of}
+use Rattle.act_early.proofs.Common.{has_letter, ran_count, run_item, next_item, first_answer, answer_in, refusal_of, add_event, after_run, and_also, unanswered, call_letter}
+use Rattle.act_early.proofs.Common.{was_sent, deliver_refusal, is_last, under-push, slice_get_front, slice_get_last, option_map-none, option_or-none, option_or-none_second}
+use Rattle.act_early.proofs.Common.{needs-none, kept_at_is, kept_by, IsPrefix, IsAsSubmitted, All_at, consistent, IsNext, next_item_is, calls_to-at, At}
+use Rattle.std.specs.Prelude.{nat_le}
+use Rattle.std.specs.Option.{option_or}
+use Rattle.act_rules.specs.Submissions.{is_earlier, copies_held}
+use Rattle.act_rules.specs.declared.event.Event.TheVariants as event
+use Rattle.act_rules.specs.declared.history.Letter.TheVariants.{Call as CallLetter, Note as NoteLetter}
+use Rattle.act_rules.specs.declared.outcome.WorldRefusal.{WorldRefusal}
+use Rattle.act_rules.specs.declared.outcome.WorldRefusal.TheVariants.{Submit as SubmitRefused}
+use Rattle.act_rules.specs.declared.outcome.SubmitRefusal.TheVariants.{NoActor as NoSuchActor, NoHandle as NoCopy, TooManyArgs, BadFuture, TooManyCalls}
+use Rattle.act_rules.specs.declared.outcome.SendRefusal.TheVariants.{NotReady, Answered}
+use Rattle.act_types.specs.declared.call.Settled.{Settled}
+use Rattle.act_rules.proofs.Common.{length-enumerate_from}
+use Rattle.std.proofs.lemmas.List.{length_push}
+use Rattle.act_early.proofs.Counting.{take-at}
+use Rattle.act_early.proofs.Shifting.{head_same, tail_same}
+use Rattle.act_early.proofs.Ending.{same_kept}
+use Rattle.act_early.proofs.Worlds.{IsWorld, world}
+use Rattle.act_told_ends.specs.Told.{Told}
+use Rattle.act_told_ends.specs.Untold.{StandFor, MayStandFor, Ran, IsAsRun, arg_as_run}
+use Rattle.act_told_ends.proofs.Lists.{front_take}
+use Rattle.act_told_ends.proofs.Bridge.{IsLate}
+use Rattle.act_told_ends.proofs.Later.{IsLater}
+use Rattle.act_told_ends.proofs.Twins.{actors, firsts, length_same, at_same, none_same, number_same, calls_to_same, count_same, passing_same, map-take, slice_get-take}
+use Rattle.act_told_ends.proofs.Twins.{as_run, as_run_length, as_run_earlier, as_run_known, as_run_settles}
+
+-- calls that may stand for those of a play
+pub record Stand : Type 0 where
+  pub casts : List ActorSpec
+  pub bound : ℕ → Option (List Step)
+  pub told : Told
+  pub calls : ℕ → List Submission
+  pub plans : ℕ → List Step
+  pub late : At
+  pub is_late : IsLate casts bound told plans late
+  pub stand : MayStandFor bound told calls
+
+abbrev pub by_call : ℕ → ℕ → Method → List Arg → Option Submission → Event
+by_call c a method args None = event.Submit c a method args
+by_call c a method args (Some call) = event.Submit c a call.method call.args
+
+-- the event, with the call that stands for it
+abbrev pub swap : (ℕ → List Submission) → History → Event → Event
+swap calls h (event.Submit c a method args) = by_call c a method args (slice_get (calls c) (length (calls_of c h)))
+swap calls h (event.Copy c a) = event.Copy c a
+swap calls h (event.Release c a) = event.Release c a
+swap calls h (event.Send c k) = event.Send c k
+swap calls h (event.Deliver i) = event.Deliver i
+swap calls h (event.Run a c) = event.Run a c
+swap calls h (event.Collect j) = event.Collect j
+swap calls h (event.AskKill c a) = event.AskKill c a
+swap calls h (event.TakeKill a) = event.TakeKill a
+swap calls h (event.Tell a c) = event.Tell a c
+swap calls h (event.Retire a) = event.Retire a
+
+-- the history with other submissions
+abbrev pub with_subs : History → List (ℕ × Submission) → History
+with_subs h subs = record h { submitted = subs }
+
+-- the first of the calls that stand for others, as many as were made
+abbrev pub AreFirst : (ℕ → List Submission) → History → List (ℕ × Submission) → Type 0
+AreFirst calls h subs = (c : ℕ) → under c subs ≡ take (length (calls_of c h)) (calls c)
+
+-- ---- what stays the same
+
+pub stand_actors : (x : Stand) (c : ℕ) → actors (x.calls c) ≡ actors (x.told.calls c)
+stand_actors x c = go (x.stand c)
+  where
+    go : (x.calls c ≡ x.told.calls c) ⊎ ((x.bound c ≡ None) × StandFor x.told c (x.calls c)) → actors (x.calls c) ≡ actors (x.told.calls c)
+    go (inl same) = ap (λ (calls : List Submission). actors calls) same
+    go (inr stands) = stands.1.actors
+
+told_front : (x : Stand) (h : History) (c : ℕ) → IsLater h x.late.history → IsPrefix (calls_of c h) (x.told.calls c)
+told_front x h c later = subst (λ (calls : List Submission). IsPrefix (calls_of c h) calls) (x.is_late.leaves.calls c) (later.calls c)
+
+pub same_actors : (x : Stand) (h : History) (subs : List (ℕ × Submission)) (c : ℕ) → IsLater h x.late.history → AreFirst x.calls h subs
+    → actors (under c subs) ≡ actors (calls_of c h)
+same_actors x h subs c later first =
+    ap (λ (calls : List Submission). actors calls) (first c) ∙ map-take (length (calls_of c h)) (x.calls c)
+    ∙ ap (take (length (calls_of c h))) (stand_actors x c) ∙ sym (map-take (length (calls_of c h)) (x.told.calls c))
+    ∙ ap (λ (calls : List Submission). actors calls) (front_take (calls_of c h) (x.told.calls c) (told_front x h c later))
+
+kept_size : (c : ℕ) (h : History) → length (kept_of c h) ≡ length (calls_of c h)
+kept_size c h = length-map (enumerate_from 0 (calls_of c h)) (first_answer h c) ∙ length-enumerate_from 0 (calls_of c h)
+
+pub kept_as : (c : ℕ) (h : History) (subs : List (ℕ × Submission)) → actors (under c subs) ≡ actors (calls_of c h) → kept_of c (with_subs h subs) ≡ kept_of c h
+kept_as c h subs same = same_kept (kept_of c g) (kept_of c h) (kept_size c g ∙ length_same (under c subs) (calls_of c h) same ∙ sym (kept_size c h)) at
+  where
+    g : History
+    g = with_subs h subs
+
+    at : (k : ℕ) → kept_at (kept_of c g) k ≡ kept_at (kept_of c h) k
+    at k = go (slice_get (calls_of c h) k) refl
+      where
+        go : (o : Option Submission) → slice_get (calls_of c h) k ≡ o → kept_at (kept_of c g) k ≡ kept_at (kept_of c h) k
+        go None e = kept_at_is g c k ∙ ap (kept_by g c k) (none_same (under c subs) (calls_of c h) k same e) ∙ sym (kept_at_is h c k ∙ ap (kept_by h c k) e)
+        go (Some call) e =
+            let twin = at_same (under c subs) (calls_of c h) k call same e in
+            kept_at_is g c k ∙ ap (kept_by g c k) twin.1
+            ∙ ap (λ (a : ℕ). slice_get (filter_map (answer_in h c k a) h.collected) 0) twin.2
+            ∙ sym (kept_at_is h c k ∙ ap (kept_by h c k) e)
+
+-- ---- the call that stands for another
+
+-- how a call stands for one of the play
+pub record IsTwin (x : Stand) (c k : ℕ) (call twin : Submission) : Type 0 where
+  pub at : slice_get (x.calls c) k ≡ Some twin
+  pub actor : twin.actor ≡ call.actor
+  pub is : (twin ≡ call) ⊎ ((twin.args ≡ as_run (kept_of c x.late.history) call.args) ⊎ (twin.args ≡ []))
+  pub ran : (a place : ℕ) (item : RunItem) → slice_get (x.told.runs a) place ≡ Some item → item.caller ≡ c → item.future ≡ k
+      → (twin ≡ call) ⊎ IsAsRun twin item
+
+ran_as : (x : Stand) (c k : ℕ) (call twin : Submission) → slice_get (x.told.calls c) k ≡ Some call → Ran x.told c k twin
+    → twin.args ≡ as_run (kept_of c x.late.history) call.args
+ran_as x c k call twin at r =
+    r.is.args ∙ ap (map arg_as_run) (submitted.args ∙ ap (λ (d : ℕ). map (settle (kept_of d late)) submitted.call.args) r.caller
+    ∙ ap (λ (s : Submission). map (settle (kept_of c late)) s.args) one)
+  where
+    late : History
+    late = x.late.history
+
+    w : IsWorld x.casts late
+    w = world x.casts x.plans x.late x.is_late.play
+
+    submitted : IsAsSubmitted (λ d. calls_of d late) (λ d. kept_of d late) r.item
+    submitted = All_at (IsAsSubmitted (λ d. calls_of d late) (λ d. kept_of d late)) (runs_of r.actor late) r.place r.item
+        ((consistent late w.sound).as_submitted r.actor) (ap (λ (items : List RunItem). slice_get items r.place) (x.is_late.leaves.runs r.actor) ∙ r.at)
+
+    there : slice_get (x.told.calls c) k ≡ Some submitted.call
+    there = ap (λ (calls : List Submission). slice_get calls k) (sym (x.is_late.leaves.calls c))
+        ∙ subst (λ (d : ℕ). slice_get (calls_of d late) k ≡ Some submitted.call) r.caller
+        (subst (λ (j : ℕ). slice_get (calls_of r.item.caller late) j ≡ Some submitted.call) r.future submitted.at)
+
+    one : submitted.call ≡ call
+    one = let e : Some submitted.call ≡ Some call = sym there ∙ at in cc
+
+pub twin_of : (x : Stand) (c k : ℕ) (call : Submission) → slice_get (x.told.calls c) k ≡ Some call → (twin : Submission) × IsTwin x c k call twin
+twin_of x c k call at = go (x.stand c)
+  where
+    go : (x.calls c ≡ x.told.calls c) ⊎ ((x.bound c ≡ None) × StandFor x.told c (x.calls c)) → (twin : Submission) × IsTwin x c k call twin
+    go (inl same) = (
+      call,
+      record {
+        at = ap (λ (calls : List Submission). slice_get calls k) same ∙ at;
+        actor = refl;
+        is = inl refl;
+        ran = λ a place item _ _ _. inl refl;
+      },
+    )
+    go (inr stands) =
+        let twin = at_same (x.calls c) (x.told.calls c) k call stands.1.actors at in (
+          twin.0,
+          record {
+            at = twin.1;
+            actor = twin.2;
+            is = inr (either twin.0 (stands.1.each k twin.0 twin.1));
+            ran = λ a place item there caller future. inr (stands.1.ran a place item twin.0 there caller
+                (ap (λ (j : ℕ). slice_get (x.calls c) j) future ∙ twin.1));
+          },
+        )
+      where
+        either : (twin : Submission) → Ran x.told c k twin ⊎ (twin.args ≡ []) → (twin.args ≡ as_run (kept_of c x.late.history) call.args) ⊎ (twin.args ≡ [])
+        either twin (inl r) = inl (ran_as x c k call twin at r)
+        either twin (inr none) = inr none
+
+-- ---- one event
+
+pub record IsSwapped (x : Stand) (h : History) (subs : List (ℕ × Submission)) (other : Event) : Type 0 where
+  pub may : refusal_of (with_subs h subs) (swap x.calls h other) ≡ None
+  pub next : List (ℕ × Submission)
+  pub left : add_event (with_subs h subs) (swap x.calls h other) ≡ with_subs (add_event h other) next
+  pub first : AreFirst x.calls (add_event h other) next
+
+fits_args : (count : ℕ) (call twin : Submission) (kept : List (Option Answer))
+    → (twin ≡ call) ⊎ ((twin.args ≡ as_run kept call.args) ⊎ (twin.args ≡ [])) → nat_le (length call.args) 4 ≡ true → list_all (is_earlier count) call.args ≡ true
+    → (nat_le (length twin.args) 4 ≡ true) × (list_all (is_earlier count) twin.args ≡ true)
+fits_args count call twin kept (inl same) few earlier =
+    (ap (λ (s : Submission). nat_le (length s.args) 4) same ∙ few, ap (λ (s : Submission). list_all (is_earlier count) s.args) same ∙ earlier)
+fits_args count call twin kept (inr (inl is)) few earlier = (
+  ap (λ (args : List Arg). nat_le (length args) 4) is ∙ ap (λ (n : ℕ). nat_le n 4) (as_run_length kept call.args) ∙ few,
+  ap (λ (args : List Arg). list_all (is_earlier count) args) is ∙ as_run_earlier count kept call.args earlier,
+)
+fits_args count call twin kept (inr (inr none)) few earlier =
+    (ap (λ (args : List Arg). nat_le (length args) 4) none, ap (λ (args : List Arg). list_all (is_earlier count) args) none)
+
+known_args : (now kept : List (Option Answer)) (call twin : Submission) → (twin ≡ call) ⊎ ((twin.args ≡ as_run kept call.args) ⊎ (twin.args ≡ []))
+    → list_all (is_known now) call.args ≡ true → list_all (is_known now) twin.args ≡ true
+known_args now kept call twin (inl same) known = ap (λ (s : Submission). list_all (is_known now) s.args) same ∙ known
+known_args now kept call twin (inr (inl is)) known = ap (λ (args : List Arg). list_all (is_known now) args) is ∙ as_run_known now kept call.args known
+known_args now kept call twin (inr (inr none)) known = ap (λ (args : List Arg). list_all (is_known now) args) none
+
+-- a submission that isn't refused isn't with other arguments that fit
+other_args : (o : Option ℕ) (count : ℕ) (args others : List Arg) → submit_refusal o count args ≡ None
+    → (nat_le (length args) 4 ≡ true → list_all (is_earlier count) args ≡ true
+        → (nat_le (length others) 4 ≡ true) × (list_all (is_earlier count) others ≡ true))
+    → submit_refusal o count others ≡ None
+other_args o count args others e fit =
+    let first = needs-none (is_some o) NoSuchActor (needs (nat_lt 0 (copies_held o)) NoCopy (rest args)) e in
+    let second = needs-none (nat_lt 0 (copies_held o)) NoCopy (rest args) first.1 in
+    let third = needs-none (nat_le (length args) 4) TooManyArgs (needs (list_all (is_earlier count) args) BadFuture last) second.1 in
+    let fourth = needs-none (list_all (is_earlier count) args) BadFuture last third.1 in
+    let fits = fit third.0 fourth.0 in
+    let one = first.0 in
+    let two = second.0 in
+    let three = fits.0 in
+    let four = fits.1 in
+    rw (one, two, three, four) fourth.1
+  where
+    last : Option SubmitRefusal
+    last = needs (nat_lt count 65536) TooManyCalls None
+
+    rest : List Arg → Option SubmitRefusal
+    rest args = needs (nat_le (length args) 4) TooManyArgs (needs (list_all (is_earlier count) args) BadFuture last)
+
+-- of two lists with the same numbers, what stands at a place
+first_at : (xs ys : List (ℕ × Submission)) (n : ℕ) (y : ℕ × Submission) → firsts xs ≡ firsts ys → slice_get ys n ≡ Some y
+    → (other : ℕ × Submission) × (slice_get xs n ≡ Some other) × (other.0 ≡ y.0)
+first_at xs [] n y e at = cc
+first_at [] (z ∷ ys) n y e at = cc
+first_at (x ∷ xs) (z ∷ ys) zero y e at =
+    let same : z ≡ y = cc in (x, refl, head_same x.0 z.0 (firsts xs) (firsts ys) e ∙ ap (λ (call : ℕ × Submission). call.0) same)
+first_at (x ∷ xs) (z ∷ ys) (suc n) y e at = first_at xs ys n y (tail_same x.0 z.0 (firsts xs) (firsts ys) e) at
+
+none_at : (xs ys : List (ℕ × Submission)) (n : ℕ) → firsts xs ≡ firsts ys → slice_get ys n ≡ None → slice_get xs n ≡ None
+none_at [] [] n e at = refl
+none_at (x ∷ xs) [] n e at = cc
+none_at [] (z ∷ ys) n e at = cc
+none_at (x ∷ xs) (z ∷ ys) zero e at = cc
+none_at (x ∷ xs) (z ∷ ys) (suc n) e at = none_at xs ys n (tail_same x.0 z.0 (firsts xs) (firsts ys) e) at
+
+-- an event of which no call is asked
+plain : (x : Stand) (h : History) (subs : List (ℕ × Submission)) (other : Event) (next : List (ℕ × Submission)) (g : History)
+    → refusal_of (with_subs h subs) (swap x.calls h other) ≡ None → add_event h other ≡ g
+    → add_event (with_subs h subs) (swap x.calls h other) ≡ with_subs g next → ((c : ℕ) → calls_of c g ≡ calls_of c h)
+    → ((c : ℕ) → under c next ≡ under c subs) → AreFirst x.calls h subs → IsSwapped x h subs other
+plain x h subs other next g may is left calls same first = record {
+  may = may;
+  next = next;
+  left = left ∙ ap (λ (k : History). with_subs k next) (sym is);
+  first = λ c. same c ∙ first c ∙ ap (λ (l : List Submission). take (length l) (x.calls c)) (sym (calls c))
+      ∙ ap (λ (k : History). take (length (calls_of c k)) (x.calls c)) (sym is);
+}
+
+submit_swapped : (x : Stand) (h : History) (subs : List (ℕ × Submission)) (c a : ℕ) (method : Method) (args : List Arg)
+    → refusal_of h (event.Submit c a method args) ≡ None → IsLater h x.late.history → IsLater (add_event h (event.Submit c a method args)) x.late.history
+    → AreFirst x.calls h subs → IsSwapped x h subs (event.Submit c a method args)
+submit_swapped x h subs c a method args may was later first = record { may = may_swapped; next = next; left = left; first = first_next }
+  where
+    g : History
+    g = with_subs h subs
+
+    n : ℕ
+    n = length (calls_of c h)
+
+    call : Submission
+    call = record { actor = a; method = method; args = args }
+
+    after : calls_of c (add_event h (event.Submit c a method args)) ≡ calls_of c h ++ call ∷ []
+    after = under-push c c h.submitted call ∙ ap (λ (b : Bool). calls_of c h ++ cond b (call ∷ []) []) (eq-eqb c c refl)
+
+    told : slice_get (x.told.calls c) n ≡ Some call
+    told = slice_get_front (calls_of c (add_event h (event.Submit c a method args))) (x.told.calls c) n call
+        (told_front x (add_event h (event.Submit c a method args)) c later)
+        (ap (λ (calls : List Submission). slice_get calls n) after ∙ slice_get_last (calls_of c h) call)
+
+    found : (twin : Submission) × IsTwin x c n call twin
+    found = twin_of x c n call told
+
+    twin : Submission
+    twin = found.0
+
+    swapped : swap x.calls h (event.Submit c a method args) ≡ event.Submit c a twin.method twin.args
+    swapped = ap (by_call c a method args) found.1.at
+
+    next : List (ℕ × Submission)
+    next = subs ++ (c, record { actor = a; method = twin.method; args = twin.args }) ∷ []
+
+    left : add_event g (swap x.calls h (event.Submit c a method args)) ≡ with_subs (add_event h (event.Submit c a method args)) next
+    left = ap (add_event g) swapped
+
+    same : (d : ℕ) → actors (under d subs) ≡ actors (calls_of d h)
+    same d = same_actors x h subs d was first
+
+    kept : kept_of c g ≡ kept_of c h
+    kept = kept_as c h subs (same c)
+
+    pending : unanswered c a g ≡ unanswered c a h
+    pending = ap (λ (kept : List (Option Answer)). length (filter (λ (call : ℕ × Submission). is_none (kept_at kept call.0)) (calls_to a (under c subs)))) kept
+        ∙ passing_same (λ (k : ℕ). is_none (kept_at (kept_of c h) k)) (calls_to a (under c subs)) (calls_to a (calls_of c h))
+        (calls_to_same a (under c subs) (calls_of c h) (same c))
+
+    known : (is_caller c h ≡ true) × (option_map SubmitRefused (option_or (submit_refusal (copies_of c a h) n args)
+        (limit_refusal (limit_of c a h) (unanswered c a h))) ≡ None)
+    known = needs-none (is_caller c h) NoCaller (option_map SubmitRefused (option_or (submit_refusal (copies_of c a h) n args)
+        (limit_refusal (limit_of c a h) (unanswered c a h)))) may
+
+    none : option_or (submit_refusal (copies_of c a h) n args) (limit_refusal (limit_of c a h) (unanswered c a h)) ≡ None
+    none = option_map-none SubmitRefused (option_or (submit_refusal (copies_of c a h) n args) (limit_refusal (limit_of c a h) (unanswered c a h))) known.1
+
+    own : submit_refusal (copies_of c a h) n args ≡ None
+    own = option_or-none (submit_refusal (copies_of c a h) n args) (limit_refusal (limit_of c a h) (unanswered c a h)) none
+
+    limit : limit_refusal (limit_of c a h) (unanswered c a h) ≡ None
+    limit = option_or-none_second (submit_refusal (copies_of c a h) n args) (limit_refusal (limit_of c a h) (unanswered c a h)) none
+
+    own_twin : submit_refusal (copies_of c a h) n twin.args ≡ None
+    own_twin = other_args (copies_of c a h) n args twin.args own (λ few earlier. fits_args n call twin (kept_of c x.late.history) found.1.is few earlier)
+
+    allowed : (b : Bool) (o p : Option SubmitRefusal) → b ≡ true → o ≡ None → p ≡ None → needs b NoCaller (option_map SubmitRefused (option_or o p)) ≡ None
+    allowed b o p y z w = rw (y, z, w) refl
+
+    may_twin : refusal_of g (event.Submit c a twin.method twin.args) ≡ None
+    may_twin = allowed (is_caller c h) (submit_refusal (copies_of c a h) (length (under c subs)) twin.args)
+        (limit_refusal (limit_of c a h) (unanswered c a g)) known.0
+        (ap (λ (m : ℕ). submit_refusal (copies_of c a h) m twin.args) (length_same (under c subs) (calls_of c h) (same c)) ∙ own_twin)
+        (ap (limit_refusal (limit_of c a h)) pending ∙ limit)
+
+    may_swapped : refusal_of g (swap x.calls h (event.Submit c a method args)) ≡ None
+    may_swapped = ap (refusal_of g) swapped ∙ may_twin
+
+    -- the twin has the call's actor
+    is_twin : ◌≡◌ {A = Submission} (record { actor = a; method = twin.method; args = twin.args }) twin
+    is_twin = λ i. record { actor = sym found.1.actor i; method = twin.method; args = twin.args }
+
+    first_next : AreFirst x.calls (add_event h (event.Submit c a method args)) next
+    first_next d = under-push d c subs (record { actor = a; method = twin.method; args = twin.args }) ∙ go (c == d) refl
+        ∙ ap (λ (l : List Submission). take (length l) (x.calls d)) (sym (under-push d c h.submitted call))
+      where
+        mine : under c subs ++ record { actor = a; method = twin.method; args = twin.args } ∷ [] ≡ take (length (calls_of c h ++ call ∷ [])) (x.calls c)
+        mine = ap (λ (s : Submission). under c subs ++ s ∷ []) is_twin ∙ ap (λ (l : List Submission). l ++ twin ∷ []) (first c)
+            ∙ sym (take-at (x.calls c) n twin found.1.at) ∙ ap (λ (m : ℕ). take m (x.calls c)) (sym (length_push (calls_of c h) call))
+
+        go : (y : Bool) → (c == d) ≡ y → under d subs ++ cond y (record { actor = a; method = twin.method; args = twin.args } ∷ []) []
+            ≡ take (length (calls_of d h ++ cond y (call ∷ []) [])) (x.calls d)
+        go false e = append-nil (under d subs) ∙ first d ∙ ap (λ (l : List Submission). take (length l) (x.calls d)) (sym (append-nil (calls_of d h)))
+        go true e = subst (λ (m : ℕ). under m subs ++ record { actor = a; method = twin.method; args = twin.args } ∷ []
+            ≡ take (length (calls_of m h ++ call ∷ [])) (x.calls m)) (eqb-true c d e) mine
+
+-- the letter of a call that stands for another is the same
+letter_same : (c k : ℕ) (h : History) (subs : List (ℕ × Submission)) (call twin : Submission) → twin.actor ≡ call.actor
+    → actors (under c subs) ≡ actors (calls_of c h) → call_letter c k twin (with_subs h subs) ≡ call_letter c k call h
+letter_same c k h subs call twin actor same = ap (CallLetter c twin.actor) (number_same twin.actor k (under c subs) (calls_of c h) same)
+    ∙ ap (λ (a : ℕ). CallLetter c a (number_of a k (calls_of c h))) actor
+
+send_swapped : (x : Stand) (h : History) (subs : List (ℕ × Submission)) (c k : ℕ) → refusal_of h (event.Send c k) ≡ None → IsLater h x.late.history
+    → AreFirst x.calls h subs → IsSwapped x h subs (event.Send c k)
+send_swapped x h subs c k may was first = go (slice_get (calls_of c h) k) refl
+  where
+    g : History
+    g = with_subs h subs
+
+    same : actors (under c subs) ≡ actors (calls_of c h)
+    same = same_actors x h subs c was first
+
+    sending : Option Submission → Bool → List (Option Answer) → Type 0
+    sending o sent kept = needs (is_caller c h) NoCaller (option_map Sending (send_refusal kept k sent o)) ≡ None
+
+    go : (o : Option Submission) → slice_get (calls_of c h) k ≡ o → IsSwapped x h subs (event.Send c k)
+    go None e =
+        let bad = needs-none (is_caller c h) NoCaller (option_map Sending (send_refusal (kept_of c h) k (was_sent c k (slice_get (calls_of c h) k) h)
+        (slice_get (calls_of c h) k))) may in
+        let refused = option_map-none Sending (send_refusal (kept_of c h) k (was_sent c k (slice_get (calls_of c h) k) h) (slice_get (calls_of c h) k)) bad.1 in
+        absurd (no_future (slice_get (calls_of c h) k) e refused)
+      where
+        no_future : (o : Option Submission) → o ≡ None → send_refusal (kept_of c h) k (was_sent c k (slice_get (calls_of c h) k) h) o ≡ None → ⊥
+        no_future None e f = cc
+        no_future (Some call) e f = cc
+    go (Some call) e = plain x h subs (event.Send c k) subs (add_event h (event.Send c k)) may_twin refl left (λ d. refl) (λ d. refl) first
+      where
+        told : slice_get (x.told.calls c) k ≡ Some call
+        told = slice_get_front (calls_of c h) (x.told.calls c) k call (told_front x h c was) e
+
+        twin : (twin : Submission) × (slice_get (under c subs) k ≡ Some twin) × (twin.actor ≡ call.actor)
+        twin = at_same (under c subs) (calls_of c h) k call same e
+
+        found : (other : Submission) × IsTwin x c k call other
+        found = twin_of x c k call told
+
+        one : twin.0 ≡ found.0
+        one =
+            let there : slice_get (x.calls c) k ≡ Some twin.0 = slice_get-take (length (calls_of c h)) k (x.calls c) twin.0
+            (ap (λ (l : List Submission). slice_get l k) (sym (first c)) ∙ twin.1) in
+            let both : Some twin.0 ≡ Some found.0 = sym there ∙ found.1.at in
+            cc
+
+        kept : kept_of c g ≡ kept_of c h
+        kept = kept_as c h subs same
+
+        letter : call_letter c k twin.0 g ≡ call_letter c k call h
+        letter = letter_same c k h subs call twin.0 twin.2 same
+
+        known : list_all (is_known (kept_of c h)) call.args ≡ true
+        known =
+            let needed = needs-none (is_caller c h) NoCaller (option_map Sending (send_refusal (kept_of c h) k (was_sent c k (slice_get (calls_of c h) k) h)
+            (slice_get (calls_of c h) k))) may in
+            let none = option_map-none Sending (send_refusal (kept_of c h) k (was_sent c k (slice_get (calls_of c h) k) h) (slice_get (calls_of c h) k)) needed.1 in
+            asked (was_sent c k (slice_get (calls_of c h) k) h)
+            (subst (λ (o : Option Submission). send_refusal (kept_of c h) k (was_sent c k (slice_get (calls_of c h) k) h) o ≡ None) e none)
+          where
+            asked : (sent : Bool) → send_refusal (kept_of c h) k sent (Some call) ≡ None → list_all (is_known (kept_of c h)) call.args ≡ true
+            asked sent f = (needs-none (list_all (is_known (kept_of c h)) call.args) NotReady
+                (needs (sent || not (is_some (kept_at (kept_of c h) k))) Answered None) f).0
+
+        known_twin : list_all (is_known (kept_of c h)) twin.0.args ≡ true
+        known_twin = ap (λ (s : Submission). list_all (is_known (kept_of c h)) s.args) one
+            ∙ known_args (kept_of c h) (kept_of c x.late.history) call found.0 found.1.is known
+
+        -- the refusal of sending call s, as it is in h
+        of_call : Submission → Bool → Option WorldRefusal
+        of_call s sent = needs (is_caller c h) NoCaller (option_map Sending (needs (list_all (is_known (kept_of c h)) s.args) NotReady
+            (needs (sent || not (is_some (kept_at (kept_of c h) k))) Answered None)))
+
+        in_walk : refusal_of g (event.Send c k) ≡ of_call twin.0 (has_letter (call_letter c k call h) h.mail)
+        in_walk =
+            ap (λ (o : Option Submission). needs (is_caller c h) NoCaller (option_map Sending (send_refusal (kept_of c g) k (was_sent c k o g) o))) twin.1
+            ∙ ap (λ (l : Letter). needs (is_caller c h) NoCaller (option_map Sending (send_refusal (kept_of c g) k (has_letter l h.mail) (Some twin.0)))) letter
+            ∙ ap (λ (kept : List (Option Answer)). needs (is_caller c h) NoCaller (option_map Sending
+            (send_refusal kept k (has_letter (call_letter c k call h) h.mail) (Some twin.0)))) kept
+
+        in_play : refusal_of h (event.Send c k) ≡ of_call call (has_letter (call_letter c k call h) h.mail)
+        in_play = ap (λ (o : Option Submission). needs (is_caller c h) NoCaller (option_map Sending (send_refusal (kept_of c h) k (was_sent c k o h) o))) e
+
+        swapped : (sent : Bool) → of_call call sent ≡ None → of_call twin.0 sent ≡ None
+        swapped sent f = ap (λ (b : Bool). needs (is_caller c h) NoCaller (option_map Sending (needs b NotReady
+            (needs (sent || not (is_some (kept_at (kept_of c h) k))) Answered None)))) (known_twin ∙ sym known) ∙ f
+
+        may_twin : refusal_of g (event.Send c k) ≡ None
+        may_twin = in_walk ∙ swapped (has_letter (call_letter c k call h) h.mail) (sym in_play ∙ may)
+
+        left : add_event g (event.Send c k) ≡ with_subs (add_event h (event.Send c k)) subs
+        left = ap (λ (o : Option Letter). record h { submitted = subs; mail = and_also h.mail o }) (
+            ap (option_map (λ (call : Submission). call_letter c k call g)) twin.1 ∙ ap (λ (l : Letter). Some l) letter
+            ∙ sym (ap (option_map (λ (call : Submission). call_letter c k call h)) e))
+
+release_swapped : (x : Stand) (h : History) (subs : List (ℕ × Submission)) (c a : ℕ) → refusal_of h (event.Release c a) ≡ None → IsLater h x.late.history
+    → AreFirst x.calls h subs → IsSwapped x h subs (event.Release c a)
+release_swapped x h subs c a may was first = plain x h subs (event.Release c a) subs (add_event h (event.Release c a)) may refl
+    (ap (λ (n : ℕ). record h { submitted = subs; released = h.released ++ (c, a) ∷ [];
+    mail = and_also h.mail (cond (is_last c a h) (Some (NoteLetter c a n)) None) }) (count_same a (under c subs) (calls_of c h) (same_actors x h subs c was first)))
+    (λ d. refl) (λ d. refl) first
+
+run_swapped : (x : Stand) (h : History) (subs : List (ℕ × Submission)) (a c : ℕ) → refusal_of h (event.Run a c) ≡ None → IsLater h x.late.history
+    → IsLater (add_event h (event.Run a c)) x.late.history → AreFirst x.calls h subs → IsSwapped x h subs (event.Run a c)
+run_swapped x h subs a c may was later first = go (next_item a c h) refl later
+  where
+    g : History
+    g = with_subs h subs
+
+    same : actors (under c subs) ≡ actors (calls_of c h)
+    same = same_actors x h subs c was first
+
+    n : ℕ
+    n = ran_count c a h
+
+    kept : kept_of c g ≡ kept_of c h
+    kept = kept_as c h subs same
+
+    -- nothing runs there, either
+    none_next : next_item a c h ≡ None → next_item a c g ≡ None
+    none_next e = arrived (has_letter (CallLetter c a n) h.arrived) e
+      where
+        calls : option_map (run_item c n (kept_of c h)) (slice_get (calls_to a (calls_of c h)) n) ≡ None
+            → option_map (run_item c n (kept_of c g)) (slice_get (calls_to a (under c subs)) n) ≡ None
+        calls f = ap (option_map (run_item c n (kept_of c g)))
+            (none_at (calls_to a (under c subs)) (calls_to a (calls_of c h)) n (calls_to_same a (under c subs) (calls_of c h) same)
+            (option_map-none (run_item c n (kept_of c h)) (slice_get (calls_to a (calls_of c h)) n) f))
+
+        arrived : (b : Bool) → cond b (option_map (run_item c n (kept_of c h)) (slice_get (calls_to a (calls_of c h)) n)) None ≡ None
+            → cond b (option_map (run_item c n (kept_of c g)) (slice_get (calls_to a (under c subs)) n)) None ≡ None
+        arrived true f = calls f
+        arrived false f = refl
+
+    go : (o : Option RunItem) → next_item a c h ≡ o → IsLater (after_run a c h o) x.late.history → IsSwapped x h subs (event.Run a c)
+    go None e later = plain x h subs (event.Run a c) subs h may (ap (after_run a c h) e) (ap (after_run a c g) (none_next e)) (λ d. refl) (λ d. refl) first
+    go (Some item) e later =
+        plain x h subs (event.Run a c) subs (after_run a c h (Some item)) may (ap (after_run a c h) e) (ap (after_run a c g) next_is) (λ d. refl) (λ d. refl) first
+      where
+        is : IsNext a c h item
+        is = next_item_is a c h item e
+
+        call : ℕ × Submission
+        call = is.call
+
+        stands : slice_get (calls_of c h) call.0 ≡ Some call.1
+        stands = (calls_to-at a (calls_of c h) n call is.at).at
+
+        caller : item.caller ≡ c
+        caller = ap (λ (i : RunItem). i.caller) (sym is.is)
+
+        future : item.future ≡ call.0
+        future = ap (λ (i : RunItem). i.future) (sym is.is)
+
+        after : runs_of a (after_run a c h (Some item)) ≡ runs_of a h ++ item ∷ []
+        after = under-push a a h.ran item ∙ ap (λ (b : Bool). runs_of a h ++ cond b (item ∷ []) []) (eq-eqb a a refl)
+
+        told_run : slice_get (x.told.runs a) (length (runs_of a h)) ≡ Some item
+        told_run = slice_get_front (runs_of a (after_run a c h (Some item))) (x.told.runs a) (length (runs_of a h)) item
+            (subst (λ (items : List RunItem). IsPrefix (runs_of a (after_run a c h (Some item))) items) (x.is_late.leaves.runs a) (later.early.runs a))
+            (ap (λ (items : List RunItem). slice_get items (length (runs_of a h))) after ∙ slice_get_last (runs_of a h) item)
+
+        found : (other : Submission) × IsTwin x c call.0 call.1 other
+        found = twin_of x c call.0 call.1 (slice_get_front (calls_of c h) (x.told.calls c) call.0 call.1 (told_front x h c was) stands)
+
+        -- the twin's place among those to the actor
+        twin : (other : ℕ × Submission) × (slice_get (calls_to a (under c subs)) n ≡ Some other) × (other.0 ≡ call.0)
+        twin = first_at (calls_to a (under c subs)) (calls_to a (calls_of c h)) n call (calls_to_same a (under c subs) (calls_of c h) same) is.at
+
+        one : twin.0.1 ≡ found.0
+        one =
+            let here : slice_get (under c subs) twin.0.0 ≡ Some twin.0.1 = (calls_to-at a (under c subs) n twin.0 twin.1).at in
+            let there : slice_get (x.calls c) call.0 ≡ Some twin.0.1 = slice_get-take (length (calls_of c h)) call.0 (x.calls c) twin.0.1
+            (ap (λ (l : List Submission). slice_get l call.0) (sym (first c)) ∙ subst (λ (k : ℕ). slice_get (under c subs) k ≡ Some twin.0.1) twin.2 here) in
+            let both : Some twin.0.1 ≡ Some found.0 = sym there ∙ found.1.at in
+            cc
+
+        as_item : (found.0 ≡ call.1) ⊎ IsAsRun found.0 item → run_item c n (kept_of c h) (call.0, found.0) ≡ item
+        as_item (inl same) = ap (λ (s : Submission). run_item c n (kept_of c h) (call.0, s)) same ∙ is.is
+        as_item (inr run) =
+            ap (λ (m : Method). record { caller = c; number = n; future = call.0; method = m; args = map (settle (kept_of c h)) found.0.args })
+            (run.method ∙ ap (λ (i : RunItem). i.method) (sym is.is))
+            ∙ ap (λ (settled : List Settled). record { caller = c; number = n; future = call.0; method = call.1.method; args = settled }) (
+            ap (map (settle (kept_of c h))) (run.args ∙ ap (λ (i : RunItem). map arg_as_run i.args) (sym is.is)) ∙ as_run_settles (kept_of c h) call.1.args)
+            ∙ is.is
+
+        pair : ◌≡◌ {A = ℕ × Submission} twin.0 (call.0, found.0)
+        pair = λ i. (twin.2 i, one i)
+
+        next_is : next_item a c g ≡ Some item
+        next_is =
+            ap (λ (b : Bool). cond b (option_map (run_item c n (kept_of c g)) (slice_get (calls_to a (under c subs)) n)) None) is.arrived
+            ∙ ap (option_map (run_item c n (kept_of c g))) twin.1
+            ∙ ap (λ (kept : List (Option Answer)). Some (run_item c n kept twin.0)) kept
+            ∙ ap (λ (other : ℕ × Submission). Some (run_item c n (kept_of c h) other)) pair
+            ∙ ap (λ (i : RunItem). Some i) (as_item (found.1.ran a (length (runs_of a h)) item told_run caller future))
+
+deliver_same : (h : History) (subs : List (ℕ × Submission)) (o : Option Letter) → deliver_refusal o (with_subs h subs) ≡ deliver_refusal o h
+deliver_same h subs None = refl
+deliver_same h subs (Some letter) = refl
+
+pub event_swapped : (x : Stand) (h : History) (subs : List (ℕ × Submission)) (other : Event) → refusal_of h other ≡ None → IsLater h x.late.history
+    → IsLater (add_event h other) x.late.history → AreFirst x.calls h subs → IsSwapped x h subs other
+event_swapped x h subs (event.Submit c a method args) may was later first = submit_swapped x h subs c a method args may was later first
+event_swapped x h subs (event.Copy c a) may was later first = record { may = may; next = subs; left = refl; first = first }
+event_swapped x h subs (event.Release c a) may was later first = release_swapped x h subs c a may was first
+event_swapped x h subs (event.Send c k) may was later first = send_swapped x h subs c k may was first
+event_swapped x h subs (event.Deliver i) may was later first = record { may = deliver_same h subs (slice_get h.mail i) ∙ may; next = subs; left = refl; first = first }
+event_swapped x h subs (event.Run a c) may was later first = run_swapped x h subs a c may was later first
+event_swapped x h subs (event.Collect j) may was later first = record { may = may; next = subs; left = refl; first = first }
+event_swapped x h subs (event.AskKill c a) may was later first = record { may = may; next = subs; left = refl; first = first }
+event_swapped x h subs (event.TakeKill a) may was later first = record { may = may; next = subs; left = refl; first = first }
+event_swapped x h subs (event.Tell a c) may was later first = record { may = may; next = subs; left = refl; first = first }
+event_swapped x h subs (event.Retire a) may was later first = record { may = may; next = subs; left = refl; first = first }
