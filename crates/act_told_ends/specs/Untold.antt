@@ -8,8 +8,10 @@ use Rattle.act_rules.specs.declared.event.Event.{Event}
 use Rattle.act_rules.specs.declared.history.RunItem.{RunItem}
 use Rattle.act_rules.specs.declared.history.Submission.{Submission}
 use Rattle.act_rules.specs.declared.script.Step.{Step}
-use Rattle.act_rules.specs.History.{ActorSpec}
+use Rattle.act_rules.specs.History.{ActorSpec, History}
 use Rattle.act_told_ends.specs.Told.{Told, EndsAsTold}
+use Rattle.act_told_ends.specs.Walks.{MayGoOn, IsThrough}
+use Rattle.act_told_ends.specs.Walked.{IsWalked}
 
 -- an argument as it ran: a value, or the future that failed
 abbrev pub arg_as_run : Settled → Arg
@@ -54,3 +56,11 @@ UntoldMayBeAsRun = (casts : List ActorSpec) (bound : ℕ → Option (List Step))
     (calls : ℕ → List Submission) (events : List Event) →
     EndsAsTold casts bound told events → MayStandFor bound told calls →
     (others : List Event) × EndsAsTold casts bound (with_calls calls told) others
+
+-- so where a walk to the end with such calls is stuck before it is through, no events end as is told
+abbrev pub StuckRefutesAllAsRun : Type 0
+StuckRefutesAllAsRun = (casts : List ActorSpec) (bound : ℕ → Option (List Step)) (told : Told)
+    (calls : ℕ → List Submission) (done : ℕ → ℕ) (h : History) →
+    IsWalked casts bound (with_calls calls told) done h → (IsThrough bound (with_calls calls told) done h → ⊥) →
+    (MayGoOn bound (with_calls calls told) done h → ⊥) →
+    (events : List Event) → EndsAsTold casts bound told events → MayStandFor bound told calls → ⊥

@@ -41,10 +41,11 @@ pub fn each_end_is_told()
     ensures { EachEndIsTold }
 {}
 
-ghost use Rattle.act_told_ends.specs.Untold.{UntoldMayBeAsRun};
+ghost use Rattle.act_told_ends.specs.Untold.{StuckRefutesAllAsRun, UntoldMayBeAsRun};
 
 /// Where the arguments of calls aren't told, those with which they ran may stand for them.
 #[tactic(none)]
 pub fn untold_may_be_as_run()
-    ensures { UntoldMayBeAsRun }
+    ensures ends { UntoldMayBeAsRun }
+    ensures stuck { StuckRefutesAllAsRun }
 {}
