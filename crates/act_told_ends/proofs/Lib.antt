@@ -13,3 +13,4 @@ pub mod Stepped
 pub mod Twins
 pub mod Swapped
 pub mod Standing
+pub mod Resting

@@ -143,11 +143,11 @@ cast_listed a (cast ∷ casts) e = go (cast.actor == a) (cast_listed a casts) e
     go true rest e = refl
     go false rest e = rest e
 
-pub retiring : (casts : List ActorSpec) (bound : ℕ → Option (List Step)) (told : Told) (done : ℕ → ℕ) (events walk : List Event)
-    → EndsAsTold casts bound told events → All IsOk (outcomes (opening casts) walk) → IsThrough bound told done (history casts walk)
+pub retire_on : (casts : List ActorSpec) (bound : ℕ → Option (List Step)) (told : Told) (events walk : List Event)
+    → EndsAsTold casts bound told events → All IsOk (outcomes (opening casts) walk) → Leaves told (history casts walk)
     → ((a : ℕ) → is_retired a (history casts walk) ≡ true → told.retired a ≡ true)
     → RetiredAsTold told (history casts walk) ⊎ MayRetire told (history casts walk)
-retiring casts bound told done events walk ends accepted through only = go (all_so casts bound told found.0 found.1 g (all_actors casts) r)
+retire_on casts bound told events walk ends accepted leaves only = go (all_so casts bound told found.0 found.1 g (all_actors casts) r)
   where
     g : History
     g = history casts walk
@@ -161,7 +161,7 @@ retiring casts bound told done events walk ends accepted through only = go (all_
     r : IsRest casts bound told found.0 found.1 g
     r = record {
       end = found.2;
-      left = through.leaves;
+      left = leaves;
       world = world_of casts walk;
       notes = subst (λ (h : History). NotesSent h) played.3 (notes_sent casts played.0 played.1 played.2);
     }
@@ -176,6 +176,12 @@ retiring casts bound told done events walk ends accepted through only = go (all_
     go (inr goal) = inr goal
     go (inl all) = inl (λ a. same_truth (is_retired a g) (told.retired a) (only a)
         (λ e. all_listed (λ a. told.retired a ≡ true → is_retired a g ≡ true) (all_actors casts) a all (listed a e) e))
+
+pub retiring : (casts : List ActorSpec) (bound : ℕ → Option (List Step)) (told : Told) (done : ℕ → ℕ) (events walk : List Event)
+    → EndsAsTold casts bound told events → All IsOk (outcomes (opening casts) walk) → IsThrough bound told done (history casts walk)
+    → ((a : ℕ) → is_retired a (history casts walk) ≡ true → told.retired a ≡ true)
+    → RetiredAsTold told (history casts walk) ⊎ MayRetire told (history casts walk)
+retiring casts bound told done events walk ends accepted through only = retire_on casts bound told events walk ends accepted through.leaves only
 
 -- ---- what is told
 

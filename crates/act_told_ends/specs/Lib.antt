@@ -3,3 +3,4 @@ pub mod Walks
 pub mod Retiring
 pub mod Walked
 pub mod Untold
+pub mod Resting

@@ -49,3 +49,12 @@ pub fn untold_may_be_as_run()
     ensures ends { UntoldMayBeAsRun }
     ensures stuck { StuckRefutesAllAsRun }
 {}
+
+ghost use Rattle.act_told_ends.specs.Resting.{RestsAtTheEnd, StuckAtRestRefutesAll};
+
+/// Once a walk is through it comes to the end that is told, or no events end so.
+#[tactic(none)]
+pub fn each_walk_rests()
+    ensures ends { RestsAtTheEnd }
+    ensures stuck { StuckAtRestRefutesAll }
+{}
