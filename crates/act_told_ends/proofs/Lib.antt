@@ -14,3 +14,4 @@ pub mod Twins
 pub mod Swapped
 pub mod Standing
 pub mod Resting
+pub mod Example
