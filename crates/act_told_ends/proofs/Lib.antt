@@ -15,3 +15,4 @@ pub mod Swapped
 pub mod Standing
 pub mod Resting
 pub mod Example
+pub mod Asked

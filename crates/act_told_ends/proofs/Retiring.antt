@@ -4,7 +4,6 @@ use Rattle.act_early.proofs.Common.{◌∙◌, subst, arith, All, IsOk, ◌==◌
 use Rattle.act_early.proofs.Common.{length-map, and_from, Event, Letter, RunItem, Submission, Step, ActorSpec, History, opening, contains, names, cast_of}
 use Rattle.act_early.proofs.Common.{callers_in, is_caller, calls_of, copies_of, runs_of, ran_count, items_of, is_dead, is_retired, is_ended, is_done, is_drained}
 use Rattle.act_early.proofs.Common.{has_letter, calls_to, handle_refusal, deliver_refusal, outcomes, history, ran_all, summary, At, IsPlay}
-use Rattle.act_rules.specs.declared.event.Event.TheVariants as event
 use Rattle.act_rules.specs.declared.history.Letter.TheVariants.{Note as NoteLetter}
 use Rattle.act_early.proofs.Listed.{all_actors, all_listed, named_caller}
 use Rattle.act_early.proofs.Notes.{letter_place, notes_sent, NotesSent}

@@ -1,5 +1,5 @@
 -- What a play that did only what is told may do next, and that it is never stuck.
-use Rattle.std.specs.Prelude.{◌≡◌, ◌≤◌, ◌⊎◌, ℕ, true, false, List, length, slice_get, Option, Some, None, is_some, Contains}
+use Rattle.std.specs.Prelude.{◌≡◌, ◌≢◌, AllPairs, ◌≤◌, ◌⊎◌, ℕ, true, false, List, length, slice_get, Option, Some, None, is_some, Contains}
 use Rattle.act_rules.specs.declared.event.Event.{Event}
 use Rattle.act_rules.specs.declared.event.Event.TheVariants as event
 use Rattle.act_rules.specs.declared.history.Letter.{Letter}
@@ -9,8 +9,9 @@ use Rattle.act_rules.specs.declared.history.RunItem.{RunItem}
 use Rattle.act_rules.specs.declared.history.Submission.{Submission}
 use Rattle.act_rules.specs.declared.script.Step.{Step}
 use Rattle.act_rules.specs.declared.script.Step.TheVariants.{Kill}
-use Rattle.act_rules.specs.History.{ActorSpec, History, contains, calls_of, kept_of, runs_of, is_dead, has_letter, next_item}
+use Rattle.act_rules.specs.History.{ActorSpec, History, actors_naming, contains, calls_of, kept_of, runs_of, is_dead, has_letter, next_item}
 use Rattle.act_rules.specs.Laws.{history}
+use Rattle.act_rules.specs.Plans.{first_bad}
 use Rattle.act_rules.specs.Rules.{refusal_of}
 use Rattle.act_rules.specs.Submissions.{kept_at}
 use Rattle.act_early.specs.Early.{is_reply}
@@ -76,3 +77,12 @@ NoWalkIsStuck = (casts : List ActorSpec) (bound : ℕ → Option (List Step)) (t
     (events walk : List Event) →
     EndsAsTold casts bound told events → IsWalk bound told done (history casts walk) →
     IsThrough bound told done (history casts walk) ⊎ MayGoOn bound told done (history casts walk)
+
+-- where no step of a bound caller's plan is refused, it can ask for the kill that is its next step, so that it need not
+-- do without
+abbrev pub KillsCanBeAsked : Type 0
+KillsCanBeAsked = (casts : List ActorSpec) (bound : ℕ → Option (List Step)) (told : Told) (done : ℕ → ℕ) (h : History)
+    (c a : ℕ) (steps : List Step) →
+    AllPairs (λ one other. one.actor ≢ other.actor) casts → h.casts ≡ casts → IsWalk bound told done h →
+    bound c ≡ Some steps → first_bad (actors_naming c casts) steps ≡ None →
+    slice_get steps (done c) ≡ Some (Kill a) → refusal_of h (event.AskKill c a) ≡ None

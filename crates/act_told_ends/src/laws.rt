@@ -1,6 +1,6 @@
 //! The laws of walks: plays that do only what is told.
 
-ghost use Rattle.act_told_ends.specs.Walks.{NoWalkIsStuck};
+ghost use Rattle.act_told_ends.specs.Walks.{KillsCanBeAsked, NoWalkIsStuck};
 
 /// Where some play ends as is told, a walk is through, or may go on.
 #[tactic(none)]
@@ -57,4 +57,10 @@ ghost use Rattle.act_told_ends.specs.Resting.{RestsAtTheEnd, StuckAtRestRefutesA
 pub fn each_walk_rests()
     ensures ends { RestsAtTheEnd }
     ensures stuck { StuckAtRestRefutesAll }
+{}
+
+/// No kill has to be done without by a caller of whose plan no step is refused.
+#[tactic(none)]
+pub fn kills_can_be_asked()
+    ensures { KillsCanBeAsked }
 {}
