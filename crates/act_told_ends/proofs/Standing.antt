@@ -194,8 +194,10 @@ does_one x c (Release a) before done own ok was ok_done later does = ap (swap_al
 does_one x c (Kill a) before done own ok was ok_done later (inl asked) = inl (ap (swap_all x.calls (history x.casts before)) asked)
 does_one x c (Kill a) before done own ok was ok_done later (inr dead) =
     let same = same_after x c before ok was in
-    inr (ap (swap_all x.calls (history x.casts before)) dead.0,
-    subst (λ (g : History). Contains g.collected (DeathPost c a)) (sym same.1) dead.1)
+    inr (
+      ap (swap_all x.calls (history x.casts before)) dead.0,
+      subst (λ (g : History). Contains g.collected (DeathPost c a)) (sym same.1) dead.1,
+    )
 does_one x c (Await k) before done own ok was ok_done later does =
     let same = same_after x c before ok was in
     (ap (swap_all x.calls (history x.casts before)) does.0, ap (λ (kept : List (Option Answer)). is_some (kept_at kept k)) same.2 ∙ does.1)
@@ -282,17 +284,20 @@ does_all x c (step ∷ steps) before events own s (first, done, later, split, ot
 
 pub may_stand : (casts : List ActorSpec) (bound : ℕ → Option (List Step)) (told : Told) (calls : ℕ → List Submission) (events : List Event)
     → EndsAsTold casts bound told events → MayStandFor bound told calls → (others : List Event) × EndsAsTold casts bound (with_calls calls told) others
-may_stand casts bound told calls events ends stand = (before_of x events, record {
-  accepted = all.ok;
-  leaves = record {
-    calls = λ c. ap (calls_of c) all.left ∙ all.first c ∙ ap (λ (n : ℕ). take n (calls c)) (long c) ∙ take-past (calls c) (length (calls c)) (omega arith);
-    kept = λ c. ap (kept_of c) all.left ∙ kept_as c h all.next (same_actors x h all.next c later all.first) ∙ ends.leaves.kept c;
-    runs = λ a. ap (runs_of a) all.left ∙ ends.leaves.runs a;
-    dead = λ a. ap (is_dead a) all.left ∙ ends.leaves.dead a;
-  };
-  retired = λ a. ap (is_retired a) all.left ∙ ends.retired a;
-  does = λ c steps is. ((ends.does c steps is).0, does_all x c (steps ++ map (λ a. Release a) (ends.does c steps is).0) [] events (own c steps is) split (ends.does c steps is).1);
-})
+may_stand casts bound told calls events ends stand = (
+  before_of x events,
+  record {
+    accepted = all.ok;
+    leaves = record {
+      calls = λ c. ap (calls_of c) all.left ∙ all.first c ∙ ap (λ (n : ℕ). take n (calls c)) (long c) ∙ take-past (calls c) (length (calls c)) (omega arith);
+      kept = λ c. ap (kept_of c) all.left ∙ kept_as c h all.next (same_actors x h all.next c later all.first) ∙ ends.leaves.kept c;
+      runs = λ a. ap (runs_of a) all.left ∙ ends.leaves.runs a;
+      dead = λ a. ap (is_dead a) all.left ∙ ends.leaves.dead a;
+    };
+    retired = λ a. ap (is_retired a) all.left ∙ ends.retired a;
+    does = λ c steps is. ((ends.does c steps is).0, does_all x c (steps ++ map (λ a. Release a) (ends.does c steps is).0) [] events (own c steps is) split (ends.does c steps is).1);
+  },
+)
   where
     found : (plans : ℕ → List Step) × (late : At) × IsLate casts bound told plans late × (late.history ≡ history casts events)
     found = late_found casts bound told events ends

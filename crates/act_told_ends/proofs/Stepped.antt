@@ -15,7 +15,7 @@ use Rattle.act_early.proofs.Replies.{front_short, front_whole}
 use Rattle.act_early.proofs.Worlds.{IsWorld, either_of, or_second, step_keeps}
 use Rattle.act_told_ends.specs.Told.{Told, IsWalk, DidFirst, EndsAsTold, submission_of, copies, releases}
 use Rattle.act_told_ends.specs.Walks.{MayGoOn, Calls, Asks, Steps, DoesWithout, Sends, Delivers, Runs, Collects, TakesKill, Tells, Hears, IsThrough}
-use Rattle.act_told_ends.specs.Walked.{IsWalked, Begins, GoesOn, gone_on, one_more}
+use Rattle.act_told_ends.specs.Walked.{IsWalked, Begins, GoesOn, gone_on, one_step_more}
 use Rattle.act_told_ends.proofs.Lists.{filter_alike, filter_map_alike}
 use Rattle.act_told_ends.proofs.Bridge.{IsLate, late_play}
 use Rattle.act_told_ends.proofs.Posted.{RunsPosted, CameBy, Replied, Died, came_by, posted_step, all_posted}
@@ -284,7 +284,7 @@ told_calls casts bound told plans late c steps l is =
 further : (bound : ℕ → Option (List Step)) (told : Told) (done : ℕ → ℕ) (h g : History) (c : ℕ) (steps : List Step) → bound c ≡ Some steps
     → DidFirst c (done c + 1) steps g
     → ((d : ℕ) (other : List Step) → bound d ≡ Some other → (c == d) ≡ false → DidFirst d (done d) other g)
-    → (d : ℕ) (other : List Step) → bound d ≡ Some other → DidFirst d (one_more c done d) other g
+    → (d : ℕ) (other : List Step) → bound d ≡ Some other → DidFirst d (one_step_more c done d) other g
 further bound told done h g c steps is own others d other has = go (c == d) refl
   where
     go : (y : Bool) → (c == d) ≡ y → DidFirst d (cond y (done d + 1) (done d)) other g
@@ -297,8 +297,8 @@ further bound told done h g c steps is own others d other has = go (c == d) refl
 
 take_going : (casts : List ActorSpec) (bound : ℕ → Option (List Step)) (told : Told) (plans : ℕ → List Step) (late : At) (done : ℕ → ℕ) (h : History)
     (c : ℕ) (steps : List Step) (step : Step) → IsLate casts bound told plans late → IsGoing casts bound told done h → bound c ≡ Some steps
-    → slice_get steps (done c) ≡ Some step → MayTake c step h → IsGoing casts bound told (one_more c done) (after_step c step h)
-take_going casts bound told plans late done h c steps step l w is at may = step_going casts bound told done (one_more c done) h c step w may (record {
+    → slice_get steps (done c) ≡ Some step → MayTake c step h → IsGoing casts bound told (one_step_more c done) (after_step c step h)
+take_going casts bound told plans late done h c steps step l w is at may = step_going casts bound told done (one_step_more c done) h c step w may (record {
   own = subst (λ (calls : List Submission). IsPrefix (calls_of c g) calls) (sym (told_calls casts bound told plans late c steps l is))
       (subst (λ (calls : List Submission). IsPrefix calls (filter_map submission_of steps)) (sym own.calls)
       (IsPrefix-filter_map submission_of (take (done c + 1) steps) steps front));
@@ -322,7 +322,7 @@ take_going casts bound told plans late done h c steps step l w is at may = step_
 
 without_going : (casts : List ActorSpec) (bound : ℕ → Option (List Step)) (told : Told) (done : ℕ → ℕ) (h : History) (c a : ℕ) (steps : List Step)
     → IsGoing casts bound told done h → bound c ≡ Some steps → slice_get steps (done c) ≡ Some (Kill a) → is_dead a h ≡ true
-    → IsGoing casts bound told (one_more c done) h
+    → IsGoing casts bound told (one_step_more c done) h
 without_going casts bound told done h c a steps w is at dead = record {
   walk = record {
     calls = w.walk.calls;

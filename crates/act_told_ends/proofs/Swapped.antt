@@ -199,7 +199,7 @@ known_args now kept call twin (inr (inr none)) known = ap (λ (args : List Arg).
 -- a submission that isn't refused isn't with other arguments that fit
 other_args : (o : Option ℕ) (count : ℕ) (args others : List Arg) → submit_refusal o count args ≡ None
     → (nat_le (length args) 4 ≡ true → list_all (is_earlier count) args ≡ true
-        → (nat_le (length others) 4 ≡ true) × (list_all (is_earlier count) others ≡ true))
+    → (nat_le (length others) 4 ≡ true) × (list_all (is_earlier count) others ≡ true))
     → submit_refusal o count others ≡ None
 other_args o count args others e fit =
     let first = needs-none (is_some o) NoSuchActor (needs (nat_lt 0 (copies_held o)) NoCopy (rest args)) e in
@@ -442,8 +442,11 @@ send_swapped x h subs c k may was first = go (slice_get (calls_of c h) k) refl
 release_swapped : (x : Stand) (h : History) (subs : List (ℕ × Submission)) (c a : ℕ) → refusal_of h (event.Release c a) ≡ None → IsLater h x.late.history
     → AreFirst x.calls h subs → IsSwapped x h subs (event.Release c a)
 release_swapped x h subs c a may was first = plain x h subs (event.Release c a) subs (add_event h (event.Release c a)) may refl
-    (ap (λ (n : ℕ). record h { submitted = subs; released = h.released ++ (c, a) ∷ [];
-    mail = and_also h.mail (cond (is_last c a h) (Some (NoteLetter c a n)) None) }) (count_same a (under c subs) (calls_of c h) (same_actors x h subs c was first)))
+    (ap (λ (n : ℕ). record h {
+      submitted = subs;
+      released = h.released ++ (c, a) ∷ [];
+      mail = and_also h.mail (cond (is_last c a h) (Some (NoteLetter c a n)) None);
+    }) (count_same a (under c subs) (calls_of c h) (same_actors x h subs c was first)))
     (λ d. refl) (λ d. refl) first
 
 run_swapped : (x : Stand) (h : History) (subs : List (ℕ × Submission)) (a c : ℕ) → refusal_of h (event.Run a c) ≡ None → IsLater h x.late.history

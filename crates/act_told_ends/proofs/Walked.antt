@@ -151,7 +151,7 @@ free_going : (casts : List ActorSpec) (bound : ℕ → Option (List Step)) (told
     → IsGoing casts bound told done h → is_free other ≡ true → refusal_of h other ≡ None → (add_event h other).retired ≡ h.retired
     → ((a : ℕ) → IsPrefix (runs_of a (add_event h other)) (told.runs a))
     → ((c k : ℕ) (answer : Answer) → kept_at (kept_of c h) k ≡ None → kept_at (kept_of c (add_event h other)) k ≡ Some answer
-        → kept_at (told.kept c) k ≡ Some answer)
+    → kept_at (told.kept c) k ≡ Some answer)
     → ((a : ℕ) → contains a (add_event h other).killed ≡ true → (told.dead a ≡ true) × (runs_of a (add_event h other) ≡ told.runs a))
     → ((i c a : ℕ) → slice_get (add_event h other).collected i ≡ Some (DeathPost c a) → MayHear told c a (add_event h other))
     → IsGoing casts bound told done (add_event h other)
@@ -203,10 +203,10 @@ quiet_going casts bound told done h other w free may retired ran collected kille
     free_going casts bound told done h other w free may retired
     (λ a. subst (λ (l : List (ℕ × RunItem)). IsPrefix (under a l) (told.runs a)) (sym ran) (w.walk.runs a))
     (λ c k answer none e. let bad : None ≡ Some answer = sym none
-        ∙ sym (quiet_kept h (add_event h other) c k (added_grows h other) w.world.sound (free_idle h other free).submitted collected) ∙ e in cc)
+    ∙ sym (quiet_kept h (add_event h other) c k (added_grows h other) w.world.sound (free_idle h other free).submitted collected) ∙ e in cc)
     (λ a e. ((killed a e).0, ap (λ (l : List (ℕ × RunItem)). under a l) ran ∙ (killed a e).1))
     (λ i c a at. hear_more told c a h (add_event h other) (added_grows h other) w.world.sound
-        (w.heard i c a (ap (λ (l : List Post). slice_get l i) (sym collected) ∙ at)))
+    (w.heard i c a (ap (λ (l : List Post). slice_get l i) (sym collected) ∙ at)))
 
 pub still_killed : (casts : List ActorSpec) (bound : ℕ → Option (List Step)) (told : Told) (done : ℕ → ℕ) (h : History) → IsGoing casts bound told done h
     → (a : ℕ) → contains a h.killed ≡ true → (told.dead a ≡ true) × (runs_of a h ≡ told.runs a)
@@ -229,10 +229,10 @@ run_going casts bound told done h a c item w next is may =
     free_going casts bound told done h (event.Run a c) w refl may (retired (next_item a c h))
     runs
     (λ d k answer none e. let bad : None ≡ Some answer = sym none
-        ∙ sym (quiet_kept h g d k (added_grows h (event.Run a c)) w.world.sound (free_idle h (event.Run a c) refl).submitted (collected (next_item a c h))) ∙ e in cc)
+    ∙ sym (quiet_kept h g d k (added_grows h (event.Run a c)) w.world.sound (free_idle h (event.Run a c) refl).submitted (collected (next_item a c h))) ∙ e in cc)
     (λ b e. (w.walk.dead b (ap (contains b) (sym (killed (next_item a c h))) ∙ e), last b (ap (contains b) (sym (killed (next_item a c h))) ∙ e)))
     (λ i d b at. hear_more told d b h g (added_grows h (event.Run a c)) w.world.sound
-        (w.heard i d b (ap (λ (l : List Post). slice_get l i) (sym (collected (next_item a c h))) ∙ at)))
+    (w.heard i d b (ap (λ (l : List Post). slice_get l i) (sym (collected (next_item a c h))) ∙ at)))
   where
     g : History
     g = add_event h (event.Run a c)
@@ -278,13 +278,13 @@ run_going casts bound told done h a c item w next is may =
 collect_going : (casts : List ActorSpec) (bound : ℕ → Option (List Step)) (told : Told) (done : ℕ → ℕ) (h : History) (j : ℕ) (post : Post)
     → IsGoing casts bound told done h → slice_get h.posts j ≡ Some post
     → ((c k : ℕ) (answer : Answer) → kept_at (kept_of c h) k ≡ None → kept_at (kept_of c (add_event h (event.Collect j))) k ≡ Some answer
-        → kept_at (told.kept c) k ≡ Some answer)
+    → kept_at (told.kept c) k ≡ Some answer)
     → ((c a : ℕ) → DeathPost c a ≡ post → MayHear told c a h)
     → IsGoing casts bound told done (add_event h (event.Collect j))
 collect_going casts bound told done h j post w at kept hears =
     free_going casts bound told done h (event.Collect j) w refl may refl w.walk.runs kept (still_killed casts bound told done h w)
     (λ i c a there. hear_more told c a h (add_event h (event.Collect j)) (added_grows h (event.Collect j)) w.world.sound
-        (either i c a (push_at h.collected post (DeathPost c a) i (ap (λ (o : Option Post). slice_get (and_also h.collected o) i) (sym at) ∙ there))))
+    (either i c a (push_at h.collected post (DeathPost c a) i (ap (λ (o : Option Post). slice_get (and_also h.collected o) i) (sym at) ∙ there))))
   where
     may : refusal_of h (event.Collect j) ≡ None
     may = let some : is_some (slice_get h.posts j) ≡ true = ap (λ (o : Option Post). is_some o) at in rw some refl
@@ -297,7 +297,7 @@ collect_going casts bound told done h j post w at kept hears =
 new_by : (casts : List ActorSpec) (bound : ℕ → Option (List Step)) (told : Told) (done : ℕ → ℕ) (h : History) (j : ℕ) (post : Post) (P : Type 0)
     → IsGoing casts bound told done h → slice_get h.posts j ≡ Some post → (c k : ℕ) (answer : Answer) → kept_at (kept_of c h) k ≡ None
     → ((a place : ℕ) (item : RunItem) → ReplyPost c a place ≡ post → slice_get (runs_of a h) place ≡ Some item → item.future ≡ k
-        → is_reply (Some answer) ≡ true → P)
+    → is_reply (Some answer) ≡ true → P)
     → ((call : Submission) → DeathPost c call.actor ≡ post → slice_get (calls_of c h) k ≡ Some call → answer ≡ Err ActorDied → P)
     → CameBy (add_event h (event.Collect j)) c k answer → P
 new_by casts bound told done h j post P w at c k answer none replied died (Replied i a place item has there caller future reply) =
@@ -323,10 +323,10 @@ pub reply_going : (casts : List ActorSpec) (bound : ℕ → Option (List Step)) 
 reply_going casts bound told plans late done h j c a place item l w at there reply =
     collect_going casts bound told done h j (ReplyPost c a place) w at
     (λ d k answer none e. new_by casts bound told done h j (ReplyPost c a place) (kept_at (told.kept d) k ≡ Some answer) w at d k answer none
-        (λ b q other is stands future alive. told_reply casts bound told plans late g d k answer l v w.walk.runs
-            (told_here d b q k other is stands future) e alive)
-        (λ call is _ _. let bad : DeathPost d call.actor ≡ ReplyPost c a place = is in cc)
-        (came_by g d k answer v.sound e))
+    (λ b q other is stands future alive. told_reply casts bound told plans late g d k answer l v w.walk.runs
+    (told_here d b q k other is stands future) e alive)
+    (λ call is _ _. let bad : DeathPost d call.actor ≡ ReplyPost c a place = is in cc)
+    (came_by g d k answer v.sound e))
     (λ d b is. let bad : DeathPost d b ≡ ReplyPost c a place = is in cc)
   where
     g : History
@@ -357,9 +357,9 @@ pub death_going : (casts : List ActorSpec) (bound : ℕ → Option (List Step)) 
 death_going casts bound told done h j c a w at hear =
     collect_going casts bound told done h j (DeathPost c a) w at
     (λ d k answer none e. new_by casts bound told done h j (DeathPost c a) (kept_at (told.kept d) k ≡ Some answer) w at d k answer none
-        (λ b q other is _ _ _. let bad : ReplyPost d b q ≡ DeathPost c a = is in cc)
-        (λ call is stands died. told_here d call is k stands none ∙ ap (λ (x : Answer). Some x) (sym died))
-        (came_by g d k answer v.sound e))
+    (λ b q other is _ _ _. let bad : ReplyPost d b q ≡ DeathPost c a = is in cc)
+    (λ call is stands died. told_here d call is k stands none ∙ ap (λ (x : Answer). Some x) (sym died))
+    (came_by g d k answer v.sound e))
     (λ d b is. hears d b is)
   where
     g : History

@@ -10,8 +10,8 @@ use Rattle.act_told_ends.specs.Told.{Told, EndsAsTold, IsWalk}
 use Rattle.act_told_ends.specs.Walks.{MayGoOn, Calls, Asks, Steps, DoesWithout, Sends, Delivers, Runs, Collects, TakesKill, Tells, Hears, IsThrough}
 
 -- one step more that the caller did
-abbrev pub one_more : ℕ → (ℕ → ℕ) → ℕ → ℕ
-one_more c done d = if c == d then done d + 1 else done d
+abbrev pub one_step_more : ℕ → (ℕ → ℕ) → ℕ → ℕ
+one_step_more c done d = if c == d then done d + 1 else done d
 
 -- what is left once it was done
 abbrev pub gone_on : (bound : ℕ → Option (List Step)) (told : Told) (done : ℕ → ℕ) (h : History) →
@@ -19,8 +19,8 @@ abbrev pub gone_on : (bound : ℕ → Option (List Step)) (told : Told) (done : 
 gone_on bound told done h (Calls c call free next may) =
     (done, add_event h (event.Submit c call.actor call.method call.args))
 gone_on bound told done h (Asks c a free dead yet may) = (done, add_event h (event.AskKill c a))
-gone_on bound told done h (Steps c steps step is next may) = (one_more c done, after_step c step h)
-gone_on bound told done h (DoesWithout c a steps is next dead) = (one_more c done, h)
+gone_on bound told done h (Steps c steps step is next may) = (one_step_more c done, after_step c step h)
+gone_on bound told done h (DoesWithout c a steps is next dead) = (one_step_more c done, h)
 gone_on bound told done h (Sends a item next unsent may) = (done, add_event h (event.Send item.caller item.future))
 gone_on bound told done h (Delivers a i item next yet at may) = (done, add_event h (event.Deliver i))
 gone_on bound told done h (Runs a item next is may) = (done, add_event h (event.Run a item.caller))
