@@ -1,0 +1,320 @@
+-- What holds of each history of a script: its numbers are small, and what it says is sayable.
+use Rattle.act_rules.proofs.Common.{◌≡◌, ◌≢◌, ◌⊎◌, inl, inr, ℕ, ◌<◌, ◌≤◌, ◌^◌, ◌==◌, ◌||◌, Bool, true, false, cond, List, [], ◌∷◌, ◌++◌}
+use Rattle.act_rules.proofs.Common.{length, map, filter, find, slice_get, Some, None, Option, is_some, option_map, option_and_then, Ok, Err, refl, sym, ap, subst, ◌∙◌, arith, nat_lt, nat_le}
+use Rattle.act_rules.proofs.Common.{length-append, append-nil, eqb-true, and_parts, ltb-true, AllByRecursion, list_all}
+use Rattle.act_rules.proofs.Common.{History, ActorSpec, contains, names, cast_of}
+use Rattle.act_rules.proofs.Common.{calls_of, runs_of, kept_of, under, opening_of, ran_count, next_item, refusal_of, add_event, after, after_run}
+use Rattle.act_rules.proofs.Common.{after_all, opening, Answer, answer_at, answers_from, state_after, KindState, settle, settled_future}
+use Rattle.act_rules.proofs.Common.{kept_at, is_sayable, is_sayable_arg, is_sayable_method, is_number, is_actor_number, is_caller_number, actor_spec_of}
+use Rattle.act_rules.proofs.Common.{needs, is_caller, copies_of, copies_held, is_earlier, limit_of, unanswered, submission_refusal, submit_refusal}
+use Rattle.act_rules.specs.declared.event.Event.{Event}
+use Rattle.act_rules.specs.declared.event.Event.TheVariants.{Submit, Copy, Release, Send, Deliver, Run, Collect, AskKill, TakeKill, Tell, Retire}
+use Rattle.act_rules.specs.declared.history.RunItem.{RunItem}
+use Rattle.act_rules.specs.declared.history.Submission.{Submission}
+use Rattle.act_rules.specs.declared.outcome.WorldRefusal.TheVariants.{NoCaller}
+use Rattle.act_rules.specs.declared.script.Role.{Role}
+use Rattle.act_types.specs.declared.call.Arg.{Arg}
+use Rattle.act_types.specs.declared.call.Arg.TheVariants.{Fut, Plain}
+use Rattle.act_types.specs.declared.call.Fault.TheVariants.{ActorDied}
+use Rattle.act_types.specs.declared.call.Method.{Method}
+use Rattle.act_rules.specs.declared.outcome.SubmitRefusal.TheVariants.{NoActor as NoSuchActor, NoHandle as NoCopy, TooManyArgs, BadFuture, TooManyCalls}
+use Rattle.act_rules.specs.declared.outcome.WorldRefusal.TheVariants.{Submit as SubmitRefused}
+use Rattle.act_rules.specs.declared.script.KindName.{KindName}
+use Rattle.act_rules.specs.declared.script.KindName.TheVariants as kind
+use Rattle.act_rules.specs.Scripts.{opening_state}
+use Rattle.act_rules.specs.Submissions.{limit_refusal}
+use Rattle.act_rules.specs.Laws.{history}
+use Rattle.act_rules.proofs.Lists.{All_more, option_map-none, option_or-none}
+use Rattle.act_rules.proofs.Ended.{needs-none, under-push}
+use Rattle.act_rules.proofs.Steps.{IsKept, after_all_keeps, after_keeps}
+use Rattle.act_rules.proofs.Order.{next_item_is}
+use Rattle.act_rules.proofs.AsSubmitted.{calls_to-at, filter-slice_get}
+use Rattle.act_rules.proofs.Unique.{map-slice_get}
+use Rattle.act_rules.proofs.Sound.{IsSound, sound_step, world_sound, answers_are}
+use Rattle.act_rules.proofs.RanAll.{AllNamed, IsNamed, named_step}
+use Rattle.std.proofs.lemmas.Bool.{leb-true}
+use Rattle.act_summaries.specs.Summaries.{is_sayable_role, is_sayable_event}
+use Rattle.act_summaries.proofs.Words.{IsGoodArg, IsGoodAnswer, IsGoodState}
+use Rattle.act_summaries.proofs.Replies.{AreGoodItems, runs_good, at_good}
+use Rattle.act_summaries.proofs.Ends.{EndOnce, ends_once}
+
+-- ---- lists
+
+under_all : {A : Type 0} (P : A → Type 0) (n : ℕ) (pairs : List (ℕ × A)) → AllByRecursion (λ pair. P pair.1) pairs → AllByRecursion P (under n pairs)
+under_all P n [] all = tt
+under_all {A = A} P n (pair ∷ pairs) all = go (pair.0 == n) (under_all P n pairs all.1)
+  where
+    go : (b : Bool) → AllByRecursion P (under n pairs) → AllByRecursion P (map (λ (r : ℕ × A). r.1) (cond b (pair ∷ filter (λ (r : ℕ × A). r.0 == n) pairs) (filter (λ (r : ℕ × A). r.0 == n) pairs)))
+    go true rest = (all.0, rest)
+    go false rest = rest
+
+found : {A : Type 0} (P : A → Type 0) (p : A → Bool) (xs : List A) (x : A) → AllByRecursion P xs → find p xs ≡ Some x → P x × (p x ≡ true)
+found P p [] x all e = absurd (cc)
+found {A = A} P p (y ∷ xs) x all e = go (p y) refl e (found P p xs x all.1)
+  where
+    go : (b : Bool) → p y ≡ b → cond b (Some y) (find p xs) ≡ Some x → (find p xs ≡ Some x → P x × (p x ≡ true)) → P x × (p x ≡ true)
+    go true is e rest = let same : y ≡ x = cc in (subst P same all.0, ap p (sym same) ∙ is)
+    go false is e rest = rest e
+
+contained : (P : ℕ → Type 0) (n : ℕ) (ns : List ℕ) → AllByRecursion P ns → contains n ns ≡ true → P n
+contained P n [] all e = absurd (cc)
+contained P n (m ∷ ns) all e = go (m == n) refl e (contained P n ns all.1)
+  where
+    go : (b : Bool) → (m == n) ≡ b → (b || contains n ns) ≡ true → (contains n ns ≡ true → P n) → P n
+    go true is e rest = subst P (eqb-true m n is) all.0
+    go false is e rest = rest e
+
+-- ---- casts
+
+abbrev pub IsCallerNumber : ℕ → Type 0
+IsCallerNumber c = (1 ≤ c) × (c ≤ 16)
+
+pub record IsGoodCast (cast : ActorSpec) : Type 0 where
+  pub some : 1 ≤ cast.actor
+  pub few : cast.actor ≤ 8
+  pub callers : AllByRecursion IsCallerNumber cast.callers
+  pub state : IsGoodState cast.opening
+
+opens_good : (kind : KindName) → IsGoodState (opening_state kind)
+opens_good kind.Counter = refl
+opens_good kind.Table = (tt, omega arith)
+opens_good kind.Account = refl
+opens_good kind.ListKind = (tt, omega arith)
+
+callers_good : (callers : List ℕ) → list_all is_caller_number callers ≡ true → AllByRecursion IsCallerNumber callers
+callers_good [] e = tt
+callers_good (c ∷ callers) e =
+    let parts = and_parts (is_caller_number c) (list_all is_caller_number callers) e in
+    let number = and_parts (nat_le 1 c) (nat_le c 16) parts.0 in
+    ((leb-true 1 c number.0, leb-true c 16 number.1), callers_good callers parts.1)
+
+casts_good : (roles : List Role) → list_all is_sayable_role roles ≡ true → AllByRecursion IsGoodCast (map actor_spec_of roles)
+casts_good [] e = tt
+casts_good (role ∷ roles) e =
+    let parts = and_parts (is_sayable_role role) (list_all is_sayable_role roles) e in
+    let both = and_parts (is_actor_number role.actor) (list_all is_caller_number role.callers) parts.0 in
+    let number = and_parts (nat_le 1 role.actor) (nat_le role.actor 8) both.0 in (
+      record {
+        some = leb-true 1 role.actor number.0;
+        few = leb-true role.actor 8 number.1;
+        callers = callers_good role.callers both.1;
+        state = opens_good role.kind;
+      },
+      casts_good roles parts.1,
+    )
+
+-- ---- what a history says
+
+abbrev pub IsGoodCall : Submission → Type 0
+IsGoodCall call = (is_sayable_method call.method ≡ true) × (list_all is_sayable_arg call.args ≡ true)
+
+pub record IsGood (h : History) : Type 0 where
+  pub casts : AllByRecursion IsGoodCast h.casts
+  pub submitted : AllByRecursion (λ (call : ℕ × Submission). IsGoodCall call.1) h.submitted
+  pub args : AllByRecursion (λ (run : ℕ × RunItem). AllByRecursion IsGoodArg run.1.args) h.ran
+
+pub calls_good : (h : History) (c : ℕ) → IsGood h → AllByRecursion IsGoodCall (calls_of c h)
+calls_good h c s = under_all IsGoodCall c h.submitted s.submitted
+
+pub items_good : (h : History) (a : ℕ) → IsGood h → AreGoodItems (runs_of a h)
+items_good h a s = under_all (λ (item : RunItem). AllByRecursion IsGoodArg item.args) a h.ran s.args
+
+opening_good : (h : History) (a : ℕ) (state : KindState) → IsGood h → opening_of a h ≡ Some state → IsGoodState state
+opening_good h a state s e = go (cast_of a h) refl e
+  where
+    go : (o : Option ActorSpec) → cast_of a h ≡ o → option_map (λ (cast : ActorSpec). cast.opening) o ≡ Some state → IsGoodState state
+    go None is e = absurd (cc)
+    go (Some cast) is e =
+        let same : cast.opening ≡ state = cc in
+        subst IsGoodState same (found IsGoodCast (λ (cast : ActorSpec). cast.actor == a) h.casts cast s.casts is).0.state
+
+-- what an actor's run list answers is good, and so is the state that it leaves
+pub opened_good : (h : History) (a : ℕ) (state : KindState) → IsGood h → opening_of a h ≡ Some state → IsGoodState (state_after state (runs_of a h)) × AllByRecursion IsGoodAnswer (answers_from state (runs_of a h))
+opened_good h a state s e = runs_good state (runs_of a h) (opening_good h a state s e) (items_good h a s)
+
+pub died_or_not : (answer : Answer) → (answer ≡ Err ActorDied) ⊎ (answer ≢ Err ActorDied)
+died_or_not (Ok value) = inr (λ e. cc)
+died_or_not (Err ActorDied) = inl refl
+died_or_not (Err fault) = inr (λ e. cc)
+
+pub kept_good : (h : History) (c k : ℕ) (answer : Answer) → IsGood h → IsSound h → kept_at (kept_of c h) k ≡ Some answer → IsGoodAnswer answer
+kept_good h c k answer s sound e = elim (died_or_not answer) [
+  | inl died ↦ subst IsGoodAnswer (sym died) refl
+  | inr alive ↦
+      let run = answers_are h c k answer sound e alive in
+      go run.actor run.place (opening_of run.actor h) refl run.answered
+]
+  where
+    go : (a place : ℕ) (o : Option KindState) → opening_of a h ≡ o → option_and_then (λ (state : KindState). answer_at state (runs_of a h) place) o ≡ Some answer → IsGoodAnswer answer
+    go a place None is e = absurd (cc)
+    go a place (Some state) is e = at_good IsGoodAnswer (answers_from state (runs_of a h)) place answer (opened_good h a state s is).1 e
+
+settled_good : (h : History) (c : ℕ) (args : List Arg) → IsGood h → IsSound h → list_all is_sayable_arg args ≡ true → AllByRecursion IsGoodArg (map (settle (kept_of c h)) args)
+settled_good h c [] s sound e = tt
+settled_good h c (Plain v ∷ args) s sound e =
+    let parts = and_parts (is_sayable v) (list_all is_sayable_arg args) e in (parts.0, settled_good h c args s sound parts.1)
+settled_good h c (Fut j ∷ args) s sound e =
+    let parts = and_parts (is_number j) (list_all is_sayable_arg args) e in
+    (go (kept_at (kept_of c h) j) refl (ltb-true j (2 ^ 32) parts.0), settled_good h c args s sound parts.1)
+  where
+    go : (o : Option Answer) → kept_at (kept_of c h) j ≡ o → j < 2 ^ 32 → IsGoodArg (settled_future j o)
+    go None is small = small
+    go (Some (Ok v)) is small = kept_good h c j (Ok v) s sound is
+    go (Some (Err fault)) is small = small
+
+next_good : (h : History) (a c : ℕ) (item : RunItem) → IsGood h → IsSound h → next_item a c h ≡ Some item → AllByRecursion IsGoodArg item.args
+next_good h a c item s sound e =
+    let next = next_item_is a c h item e in
+    let call = calls_to-at a (calls_of c h) (ran_count c a h) next.call next.at in
+    let good = at_good IsGoodCall (calls_of c h) next.call.0 next.call.1 (calls_good h c s) call.at in
+    subst (λ (i : RunItem). AllByRecursion IsGoodArg i.args) next.is (settled_good h c next.call.1.args s sound good.1)
+
+good_step : (h : History) (event : Event) → is_sayable_event event ≡ true → IsGood h → IsSound h → refusal_of h event ≡ None → IsGood (add_event h event)
+good_step h (Submit c a method args) sayable s sound accepted =
+    let parts = and_parts (is_sayable_method method) (list_all is_sayable_arg args) sayable in
+    let call : Submission = record { actor = a; method = method; args = args } in
+    record { casts = s.casts; submitted = All_more (λ (call : ℕ × Submission). IsGoodCall call.1) h.submitted (c, call) s.submitted (parts.0, parts.1); args = s.args }
+good_step h (Copy c a) sayable s sound accepted = record { casts = s.casts; submitted = s.submitted; args = s.args }
+good_step h (Release c a) sayable s sound accepted = record { casts = s.casts; submitted = s.submitted; args = s.args }
+good_step h (Send c k) sayable s sound accepted = record { casts = s.casts; submitted = s.submitted; args = s.args }
+good_step h (Deliver i) sayable s sound accepted = record { casts = s.casts; submitted = s.submitted; args = s.args }
+good_step h (Run a c) sayable s sound accepted = go (next_item a c h) refl
+  where
+    go : (o : Option RunItem) → next_item a c h ≡ o → IsGood (after_run a c h o)
+    go None e = s
+    go (Some item) e = record {
+      casts = s.casts;
+      submitted = s.submitted;
+      args = All_more (λ (run : ℕ × RunItem). AllByRecursion IsGoodArg run.1.args) h.ran (a, item) s.args (next_good h a c item s sound e);
+    }
+good_step h (Collect j) sayable s sound accepted = record { casts = s.casts; submitted = s.submitted; args = s.args }
+good_step h (AskKill c a) sayable s sound accepted = record { casts = s.casts; submitted = s.submitted; args = s.args }
+good_step h (TakeKill a) sayable s sound accepted = record { casts = s.casts; submitted = s.submitted; args = s.args }
+good_step h (Tell a c) sayable s sound accepted = record { casts = s.casts; submitted = s.submitted; args = s.args }
+good_step h (Retire a) sayable s sound accepted = record { casts = s.casts; submitted = s.submitted; args = s.args }
+
+goes_good : (h : History) (events : List Event) → list_all is_sayable_event events ≡ true → IsGood h → IsSound h → IsGood (after_all h events)
+goes_good h [] sayable s sound = s
+goes_good h (event ∷ events) sayable s sound =
+    let parts = and_parts (is_sayable_event event) (list_all is_sayable_event events) sayable in
+    goes_good (after h event) events parts.1
+    (after_keeps IsGood h event s (good_step h event parts.0 s sound))
+    (after_keeps IsSound h event sound (sound_step h event sound))
+
+-- ---- how many calls a caller has
+
+abbrev AreFew : History → Type 0
+AreFew h = (c : ℕ) → length (calls_of c h) ≤ 65536
+
+room_for : (h : History) (c a : ℕ) (method : Method) (args : List Arg) → refusal_of h (Submit c a method args) ≡ None → length (calls_of c h) < 65536
+room_for h c a method args e =
+    let count = length (calls_of c h) in
+    let copies = copies_of c a h in
+    let whole = option_map-none SubmitRefused (submission_refusal c a args h)
+    (needs-none (is_caller c h) NoCaller (option_map SubmitRefused (submission_refusal c a args h)) e).1 in
+    let none = option_or-none (submit_refusal copies count args) (limit_refusal (limit_of c a h) (unanswered c a h)) whole in
+    let last = needs (nat_lt count 65536) TooManyCalls None in
+    let fourth = needs (list_all (is_earlier count) args) BadFuture last in
+    let third = needs (nat_le (length args) 4) TooManyArgs fourth in
+    let first = needs-none (is_some copies) NoSuchActor (needs (nat_lt 0 (copies_held copies)) NoCopy third) none in
+    let second = needs-none (nat_lt 0 (copies_held copies)) NoCopy third first.1 in
+    let few = needs-none (nat_le (length args) 4) TooManyArgs fourth second.1 in
+    let earlier = needs-none (list_all (is_earlier count) args) BadFuture last few.1 in
+    ltb-true count 65536 (needs-none (nat_lt count 65536) TooManyCalls None earlier.1).0
+
+few_more : (h : History) (d c : ℕ) (call : Submission) → length (calls_of d h) < 65536 → length (calls_of c h) ≤ 65536 → length (under c (h.submitted ++ (d, call) ∷ [])) ≤ 65536
+few_more h d c call room few = rw (under-push c d h.submitted call) (go (d == c) refl)
+  where
+    go : (same : Bool) → (d == c) ≡ same → length (calls_of c h ++ cond same (call ∷ []) []) ≤ 65536
+    go true e =
+        let less : length (calls_of c h) < 65536 = subst (λ (x : ℕ). length (calls_of x h) < 65536) (eqb-true d c e) room in
+        rw (length-append (calls_of c h) (call ∷ [])) (omega arith)
+    go false e = rw (append-nil (calls_of c h)) few
+
+few_step : IsKept AreFew
+few_step h (Submit c a method args) s accepted = λ d. few_more h c d (record { actor = a; method = method; args = args }) (room_for h c a method args accepted) (s d)
+few_step h (Copy c a) s accepted = s
+few_step h (Release c a) s accepted = s
+few_step h (Send c k) s accepted = s
+few_step h (Deliver i) s accepted = s
+few_step h (Run a c) s accepted = go (next_item a c h)
+  where
+    go : (o : Option RunItem) → AreFew (after_run a c h o)
+    go None = s
+    go (Some item) = s
+few_step h (Collect j) s accepted = s
+few_step h (AskKill c a) s accepted = s
+few_step h (TakeKill a) s accepted = s
+few_step h (Tell a c) s accepted = s
+few_step h (Retire a) s accepted = s
+
+-- ---- all of it
+
+pub record Facts (casts : List ActorSpec) (h : History) : Type 0 where
+  pub same : h.casts ≡ casts
+  pub good : IsGood h
+  pub sound : IsSound h
+  pub named : AllNamed h
+  pub few : (c : ℕ) → length (calls_of c h) ≤ 65536
+  pub once : EndOnce h
+
+same_step : (casts : List ActorSpec) → IsKept (λ (h : History). h.casts ≡ casts)
+same_step casts h (Run a c) s accepted = go (next_item a c h)
+  where
+    go : (o : Option RunItem) → (after_run a c h o).casts ≡ casts
+    go None = s
+    go (Some item) = s
+same_step casts h event s accepted = s
+
+pub facts : (roles : List Role) (events : List Event) → list_all is_sayable_role roles ≡ true → list_all is_sayable_event events ≡ true →
+    Facts (map actor_spec_of roles) (history (map actor_spec_of roles) events)
+facts roles events said sayable =
+    let casts = map actor_spec_of roles in
+    record {
+      same = after_all_keeps (λ (h : History). h.casts ≡ casts) (same_step casts) (opening casts) events refl;
+      good = goes_good (opening casts) events sayable (record { casts = casts_good roles said; submitted = tt; args = tt }) (world_sound casts []);
+      sound = world_sound casts events;
+      named = after_all_keeps AllNamed named_step (opening casts) events tt;
+      few = after_all_keeps AreFew few_step (opening casts) events (λ c. omega arith);
+      once = ends_once casts events;
+    }
+
+-- ---- calls and runs
+
+-- the numbers of a caller and an actor whose cast names it
+pub record AreNumbers (c a : ℕ) (h : History) : Type 0 where
+  pub caller : IsCallerNumber c
+  pub some : 1 ≤ a
+  pub few : a ≤ 8
+  pub cast : is_some (cast_of a h) ≡ true
+
+pub cast_good : (h : History) (a : ℕ) → IsGood h → is_some (cast_of a h) ≡ true → (1 ≤ a) × (a ≤ 8)
+cast_good h a s e = go (cast_of a h) refl e
+  where
+    go : (o : Option ActorSpec) → cast_of a h ≡ o → is_some o ≡ true → (1 ≤ a) × (a ≤ 8)
+    go None is e = absurd (cc)
+    go (Some cast) is e =
+        let it = found IsGoodCast (λ (cast : ActorSpec). cast.actor == a) h.casts cast s.casts is in
+        let number : cast.actor ≡ a = eqb-true cast.actor a it.1 in
+        (subst (λ (n : ℕ). 1 ≤ n) number it.0.some, subst (λ (n : ℕ). n ≤ 8) number it.0.few)
+
+named_good : (h : History) (c a : ℕ) → IsGood h → names c (cast_of a h) ≡ true → AreNumbers c a h
+named_good h c a s e = go (cast_of a h) refl e
+  where
+    go : (o : Option ActorSpec) → cast_of a h ≡ o → names c o ≡ true → AreNumbers c a h
+    go None is e = absurd (let bad : false ≡ true = e in cc)
+    go (Some cast) is e =
+        let it = found IsGoodCast (λ (cast : ActorSpec). cast.actor == a) h.casts cast s.casts is in
+        let there : is_some (cast_of a h) ≡ true = ap (λ (o : Option ActorSpec). is_some o) is in
+        let number = cast_good h a s there in
+        record { caller = contained IsCallerNumber c cast.callers it.0.callers e; some = number.0; few = number.1; cast = there }
+
+-- a call that stands
+pub call_numbers : (casts : List ActorSpec) (h : History) (c k : ℕ) (call : Submission) → Facts casts h → slice_get (calls_of c h) k ≡ Some call → AreNumbers c call.actor h
+call_numbers casts h c k call f at =
+    let pair = map-slice_get (λ (s : ℕ × Submission). s.1) (filter (λ (s : ℕ × Submission). s.0 == c) h.submitted) k call at in
+    let place = filter-slice_get (λ (s : ℕ × Submission). s.0 == c) h.submitted k pair.0 pair.1 in
+    let named : names pair.0.0 (cast_of pair.0.1.actor h) ≡ true = at_good (IsNamed h) h.submitted place.place pair.0 f.named place.at in
+    let caller : pair.0.0 ≡ c = eqb-true pair.0.0 c place.passes in
+    named_good h c call.actor f.good
+    (subst (λ (n : ℕ). names n (cast_of call.actor h) ≡ true) caller (subst (λ (s : Submission). names pair.0.0 (cast_of s.actor h) ≡ true) pair.2 named))

@@ -1,0 +1,10 @@
+pub mod Bytes
+pub mod Marks
+pub mod Reading
+pub mod Texts
+pub mod Words
+pub mod Replies
+pub mod Ends
+pub mod Facts
+pub mod Decoding
+pub mod Alike
