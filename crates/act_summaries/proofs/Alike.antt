@@ -19,7 +19,7 @@ use Rattle.act_rules.proofs.Order.{numbers, numbered as keyed}
 use Rattle.act_rules.proofs.Unique.{held_submission, rank}
 use Rattle.act_rules.proofs.Sound.{answers_are, consistent}
 use Rattle.act_histories.specs.Lines.{AreTold}
-use Rattle.act_summaries.specs.Summaries.{AreReadOneWay, open_line}
+use Rattle.act_summaries.specs.Summaries.{AreReadOneWay, open_line, KeepsDeath}
 use Rattle.act_summaries.proofs.Bytes.{tails, spaced, IsWord, IsPlain, Lacks, AreWords, word_plain, word_lacks, plain_lacks, Each-append, Each-weaker}
 use Rattle.act_summaries.proofs.Marks.{TellsRest, peel, head_same}
 use Rattle.act_summaries.proofs.Reading.{IsToldTwice, told_twice}
@@ -402,6 +402,26 @@ module _ (casts : List ActorSpec) (h g : History) (f : Facts casts h) (t : Facts
           let texts = tails 32 32 (answer_text answer) (answer_text other) (tails 61 61 (32 ∷ answer_text answer) (32 ∷ answer_text other) words) in
           inl (e ∙ ap (λ (a : Answer). Some a) (answer_same c k answer other e d texts) ∙ sym d)
 
+  -- answers that are both of runs are one
+  deaths_differ : (c k : ℕ) → (kept_at (kept_of c h) k ≡ kept_at (kept_of c g) k) ⊎ (KeepsDeath c k h ⊎ KeepsDeath c k g)
+  deaths_differ c k = go (kept_at (kept_of c h) k) (kept_at (kept_of c g) k) refl refl ((caller_alike c).kept k).kept
+    where
+      go : (o p : Option Answer) → kept_at (kept_of c h) k ≡ o → kept_at (kept_of c g) k ≡ p →
+          is_some (kept_at (kept_of c h) k) ≡ is_some (kept_at (kept_of c g) k) →
+          (kept_at (kept_of c h) k ≡ kept_at (kept_of c g) k) ⊎ (KeepsDeath c k h ⊎ KeepsDeath c k g)
+      go None None e d same = inl (e ∙ sym d)
+      go None (Some other) e d same = absurd (let bad : false ≡ true = sym (ap (λ (o : Option Answer). is_some o) e) ∙ same ∙ ap (λ (o : Option Answer). is_some o) d in cc)
+      go (Some answer) None e d same = absurd (let bad : true ≡ false = sym (ap (λ (o : Option Answer). is_some o) e) ∙ same ∙ ap (λ (o : Option Answer). is_some o) d in cc)
+      go (Some answer) (Some other) e d same = elim (died_or_not answer) [
+        | inl died ↦ inr (inl (e ∙ ap (λ (a : Answer). Some a) died))
+        | inr alive ↦ elim (died_or_not other) [
+          | inl died ↦ inr (inr (d ∙ ap (λ (a : Answer). Some a) died))
+          | inr lives ↦
+              let one = ran_same c k answer other (answers_are h c k answer f.sound e alive) (answers_are g c k other t.sound d lives) in
+              inl (e ∙ ap (λ (a : Answer). Some a) one ∙ sym d)
+        ]
+      ]
+
 pub read_one_way : AreReadOneWay
 read_one_way roles events others bytes said first second one two =
     let casts = map actor_spec_of roles in
@@ -418,4 +438,5 @@ read_one_way roles events others bytes said first second one two =
       calls = λ c. (caller_alike casts h g f t (lines_in bytes) told c).calls;
       kept = λ c k. ((caller_alike casts h g f t (lines_in bytes) told c).kept k).kept;
       answers = λ c k. kept_alike casts h g f t (lines_in bytes) told c k;
+      deaths = λ c k. deaths_differ casts h g f t (lines_in bytes) told c k;
     }

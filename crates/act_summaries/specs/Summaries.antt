@@ -1,10 +1,12 @@
 -- What the same lines tell of two histories.
-use Rattle.std.specs.Prelude.{ℕ, ◌≡◌, ◌⊎◌, ◌++◌, ◌&&◌, Bool, true, List, map, Contains, is_some, IsTrue, codes}
+use Rattle.std.specs.Prelude.{ℕ, ◌≡◌, ◌⊎◌, ◌++◌, ◌&&◌, Bool, true, List, map, Contains, is_some, IsTrue, codes, Option, Some, Err}
 use Rattle.std.specs.List.{list_all}
 use Rattle.act_types.specs.Texts.{space, actor_text}
+use Rattle.act_types.specs.declared.call.Fault.TheVariants.{ActorDied}
 use Rattle.act_rules.specs.declared.event.Event.{Event}
 use Rattle.act_rules.specs.declared.event.Event.TheVariants.{Submit}
 use Rattle.act_rules.specs.declared.script.Role.{Role}
+use Rattle.act_rules.specs.RunList.{Answer}
 use Rattle.act_rules.specs.Submissions.{kept_at}
 use Rattle.act_rules.specs.History.{History, calls_of, runs_of, kept_of, is_dead, is_retired}
 use Rattle.act_rules.specs.Laws.{history, is_actor_number, is_caller_number, is_sayable_method, is_sayable_arg}
@@ -30,6 +32,14 @@ open_line c k a = future_text c k ++ space ++ actor_text a ++ codes " = *"
 abbrev pub IsLeftOpen : List ℕ → ℕ → ℕ → Type 0
 IsLeftOpen bytes c k = (a : ℕ) × Contains (lines_in bytes) (open_line c k a)
 
+-- what a caller keeps for a future, if anything
+abbrev pub kept_for : ℕ → ℕ → History → Option Answer
+kept_for c k h = kept_at (kept_of c h) k
+
+-- the caller keeps for a future that its actor died
+abbrev pub KeepsDeath : ℕ → ℕ → History → Type 0
+KeepsDeath c k h = kept_for c k h ≡ Some (Err ActorDied)
+
 -- the two histories end alike, but for the answers that the lines leave open
 pub record EndAlike (bytes : List ℕ) (h g : History) : Type 0 where
   -- each actor ran the same calls, in the same order
@@ -40,9 +50,11 @@ pub record EndAlike (bytes : List ℕ) (h g : History) : Type 0 where
   -- each caller submitted as many calls, to the same actors
   pub calls : (c : ℕ) → map (λ call. call.actor) (calls_of c h) ≡ map (λ call. call.actor) (calls_of c g)
   -- it keeps an answer for the same futures
-  pub kept : (c k : ℕ) → is_some (kept_at (kept_of c h) k) ≡ is_some (kept_at (kept_of c g) k)
+  pub kept : (c k : ℕ) → is_some (kept_for c k h) ≡ is_some (kept_for c k g)
   -- and the same answer, but where it is left open
-  pub answers : (c k : ℕ) → (kept_at (kept_of c h) k ≡ kept_at (kept_of c g) k) ⊎ IsLeftOpen bytes c k
+  pub answers : (c k : ℕ) → (kept_for c k h ≡ kept_for c k g) ⊎ IsLeftOpen bytes c k
+  -- there, too, but where one keeps that the actor died
+  pub deaths : (c k : ℕ) → (kept_for c k h ≡ kept_for c k g) ⊎ (KeepsDeath c k h ⊎ KeepsDeath c k g)
 
 -- two histories of the same roles that the same lines tell end alike
 abbrev pub AreReadOneWay : Type 0
