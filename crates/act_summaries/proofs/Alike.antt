@@ -19,7 +19,7 @@ use Rattle.act_rules.proofs.Order.{numbers, numbered as keyed}
 use Rattle.act_rules.proofs.Unique.{held_submission, rank}
 use Rattle.act_rules.proofs.Sound.{answers_are, consistent}
 use Rattle.act_histories.specs.Lines.{AreTold}
-use Rattle.act_summaries.specs.Summaries.{AreReadOneWay, open_line, KeepsDeath}
+use Rattle.act_summaries.specs.Summaries.{AreReadOneWay, PlaysAreReadOneWay, play_script, open_line, KeepsDeath}
 use Rattle.act_summaries.proofs.Bytes.{tails, spaced, IsWord, IsPlain, Lacks, AreWords, word_plain, word_lacks, plain_lacks, Each-append, Each-weaker}
 use Rattle.act_summaries.proofs.Marks.{TellsRest, peel, head_same}
 use Rattle.act_summaries.proofs.Reading.{IsToldTwice, told_twice}
@@ -27,6 +27,7 @@ use Rattle.act_summaries.proofs.Texts.{numbered, kept_word, future_as, item_as, 
 use Rattle.act_summaries.proofs.Words.{IsGoodArg, IsGoodState, answer_word, method_word, args_words, state_plain, plain_from, spaced_plain, dead_alike}
 use Rattle.act_summaries.proofs.Replies.{at_good}
 use Rattle.act_summaries.proofs.Facts.{Facts, facts, IsGoodCall, IsCallerNumber, call_numbers, cast_good, calls_good, items_good, opened_good, kept_good, died_or_not}
+use Rattle.act_summaries.proofs.Spelled.{spelled_good}
 use Rattle.act_summaries.proofs.Decoding.{IsGoodKept, AreKeptAlike, futures_alike, IsGoodItem, IsSameItem, items_alike}
 
 -- ---- what the facts say of items and answers
@@ -423,7 +424,7 @@ module _ (casts : List ActorSpec) (h g : History) (f : Facts casts h) (t : Facts
       ]
 
 pub read_one_way : AreReadOneWay
-read_one_way roles events others bytes said first second one two =
+read_one_way roles events others said first second bytes one two =
     let casts = map actor_spec_of roles in
     let h = history casts events in
     let g = history casts others in
@@ -440,3 +441,9 @@ read_one_way roles events others bytes said first second one two =
       answers = λ c k. kept_alike casts h g f t (lines_in bytes) told c k;
       deaths = λ c k. deaths_differ casts h g f t (lines_in bytes) told c k;
     }
+
+pub read_plays : PlaysAreReadOneWay
+read_plays roles events others one other first second =
+    let mine = spelled_good one (play_script roles events) first in
+    let theirs = spelled_good other (play_script roles others) second in
+    read_one_way roles events others mine.roles mine.events theirs.events

@@ -48,7 +48,7 @@ under_all {A = A} P n (pair ∷ pairs) all = go (pair.0 == n) (under_all P n pai
     go true rest = (all.0, rest)
     go false rest = rest
 
-found : {A : Type 0} (P : A → Type 0) (p : A → Bool) (xs : List A) (x : A) → AllByRecursion P xs → find p xs ≡ Some x → P x × (p x ≡ true)
+pub found : {A : Type 0} (P : A → Type 0) (p : A → Bool) (xs : List A) (x : A) → AllByRecursion P xs → find p xs ≡ Some x → P x × (p x ≡ true)
 found P p [] x all e = absurd (cc)
 found {A = A} P p (y ∷ xs) x all e = go (p y) refl e (found P p xs x all.1)
   where

@@ -8,3 +8,4 @@ pub mod Ends
 pub mod Facts
 pub mod Decoding
 pub mod Alike
+pub mod Spelled

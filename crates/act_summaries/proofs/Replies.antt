@@ -51,7 +51,7 @@ look_up_good : (state : KindState) (fault : Fault) (o : Option Value) → is_kno
 look_up_good state fault None own good value = failed fault own
 look_up_good state fault (Some v) own good value = answered state v good (value v refl)
 
-low_in_range : (n : ℕ) → n < 2 ^ 63 → is_in_range (pos n) ≡ true
+pub low_in_range : (n : ℕ) → n < 2 ^ 63 → is_in_range (pos n) ≡ true
 low_in_range n low = grind (arith, nat_tests)
 
 small_in_range : (n : ℕ) → n ≤ 4096 → is_in_range (pos n) ≡ true

@@ -1,16 +1,17 @@
 -- What the same lines tell of two histories.
-use Rattle.std.specs.Prelude.{ℕ, ◌≡◌, ◌⊎◌, ◌++◌, ◌&&◌, Bool, true, List, map, Contains, is_some, IsTrue, codes, Option, Some, Err}
+use Rattle.std.specs.Prelude.{ℕ, ◌≡◌, ◌⊎◌, ◌++◌, ◌&&◌, Bool, true, List, map, Contains, is_some, IsTrue, codes, Option, Some, Ok, Err, []}
 use Rattle.std.specs.List.{list_all}
 use Rattle.act_types.specs.Texts.{space, actor_text}
 use Rattle.act_types.specs.declared.call.Fault.TheVariants.{ActorDied}
 use Rattle.act_rules.specs.declared.event.Event.{Event}
 use Rattle.act_rules.specs.declared.event.Event.TheVariants.{Submit}
+use Rattle.act_rules.specs.declared.script.Mode.TheVariants.{Play}
 use Rattle.act_rules.specs.declared.script.Role.{Role}
 use Rattle.act_rules.specs.RunList.{Answer}
 use Rattle.act_rules.specs.Submissions.{kept_at}
 use Rattle.act_rules.specs.History.{History, calls_of, runs_of, kept_of, is_dead, is_retired}
 use Rattle.act_rules.specs.Laws.{history, is_actor_number, is_caller_number, is_sayable_method, is_sayable_arg}
-use Rattle.act_rules.specs.Grammar.{lines_in}
+use Rattle.act_rules.specs.Grammar.{Script, lines_in, spelled}
 use Rattle.act_rules.specs.Report.{future_text, summary}
 use Rattle.act_rules.specs.Scripts.{actor_spec_of}
 use Rattle.act_histories.specs.Lines.{AreTold}
@@ -56,11 +57,27 @@ pub record EndAlike (bytes : List ℕ) (h g : History) : Type 0 where
   -- there, too, but where one keeps that the actor died
   pub deaths : (c k : ℕ) → (kept_for c k h ≡ kept_for c k g) ⊎ (KeepsDeath c k h ⊎ KeepsDeath c k g)
 
--- two histories of the same roles that the same lines tell end alike
-abbrev pub AreReadOneWay : Type 0
-AreReadOneWay = (roles : List Role) (events others : List Event) (bytes : List ℕ) →
+-- where the same lines tell what these events leave and what the others leave, the two end alike
+abbrev pub EndsAreAlike : List Role → List Event → List Event → Type 0
+EndsAreAlike roles events others = (bytes : List ℕ) →
     let h = history (map actor_spec_of roles) events in
     let g = history (map actor_spec_of roles) others in
+    AreTold bytes (summary h) → AreTold bytes (summary g) → EndAlike bytes h g
+
+-- two histories of the same roles that the same lines tell end alike
+abbrev pub AreReadOneWay : Type 0
+AreReadOneWay = (roles : List Role) (events others : List Event) →
     IsTrue (list_all is_sayable_role roles) →
     IsTrue (list_all is_sayable_event events) → IsTrue (list_all is_sayable_event others) →
-    AreTold bytes (summary h) → AreTold bytes (summary g) → EndAlike bytes h g
+    EndsAreAlike roles events others
+
+-- a script of events
+abbrev pub play_script : List Role → List Event → Script
+play_script roles events = record { roles = roles; events = events; steps = [] }
+
+-- so do two scripts of events with the same roles
+abbrev pub PlaysAreReadOneWay : Type 0
+PlaysAreReadOneWay = (roles : List Role) (events others : List Event) (one other : List ℕ) →
+    spelled Play one ≡ Ok (play_script roles events) →
+    spelled Play other ≡ Ok (play_script roles others) →
+    EndsAreAlike roles events others

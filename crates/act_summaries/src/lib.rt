@@ -3,4 +3,4 @@
 
 mod laws;
 
-pub use laws::lines_are_read_one_way;
+pub use laws::{lines_are_read_one_way, plays_are_read_one_way};
