@@ -19,7 +19,7 @@ use Rattle.act_rules.proofs.Order.{numbers, numbered as keyed}
 use Rattle.act_rules.proofs.Unique.{held_submission, rank}
 use Rattle.act_rules.proofs.Sound.{answers_are, consistent}
 use Rattle.act_histories.specs.Lines.{AreTold}
-use Rattle.act_summaries.specs.Summaries.{AreReadOneWay, PlaysAreReadOneWay, play_script, open_line, KeepsDeath}
+use Rattle.act_summaries.specs.Summaries.{AreReadOneWay, PlaysAreReadOneWay, open_line, KeepsDeath}
 use Rattle.act_summaries.proofs.Bytes.{tails, spaced, IsWord, IsPlain, Lacks, AreWords, word_plain, word_lacks, plain_lacks, Each-append, Each-weaker}
 use Rattle.act_summaries.proofs.Marks.{TellsRest, peel, head_same}
 use Rattle.act_summaries.proofs.Reading.{IsToldTwice, told_twice}
@@ -443,7 +443,7 @@ read_one_way roles events others said first second bytes one two =
     }
 
 pub read_plays : PlaysAreReadOneWay
-read_plays roles events others one other first second =
-    let mine = spelled_good one (play_script roles events) first in
-    let theirs = spelled_good other (play_script roles others) second in
-    read_one_way roles events others mine.roles mine.events theirs.events
+read_plays script rest one other short small play another =
+    let mine = spelled_good one (record { roles = script.roles; events = play.events; steps = [] }) (play.written short) in
+    let theirs = spelled_good other (record { roles = script.roles; events = another.events; steps = [] }) (another.written small) in
+    read_one_way script.roles play.events another.events mine.roles mine.events theirs.events rest play.ends.shown another.ends.shown

@@ -1,20 +1,21 @@
 -- What the same lines tell of two histories.
-use Rattle.std.specs.Prelude.{ℕ, ◌≡◌, ◌⊎◌, ◌++◌, ◌&&◌, Bool, true, List, map, Contains, is_some, IsTrue, codes, Option, Some, Ok, Err, []}
+use Rattle.std.specs.Prelude.{ℕ, ◌≡◌, ◌⊎◌, ◌++◌, ◌&&◌, Bool, true, List, map, Contains, is_some, IsTrue, codes, Option, Some, Err, ◌≤◌, length}
 use Rattle.std.specs.List.{list_all}
+use Rattle.act_types.specs.declared.limits.TheConstants.{MAX_SCRIPT_BYTES}
 use Rattle.act_types.specs.Texts.{space, actor_text}
 use Rattle.act_types.specs.declared.call.Fault.TheVariants.{ActorDied}
 use Rattle.act_rules.specs.declared.event.Event.{Event}
 use Rattle.act_rules.specs.declared.event.Event.TheVariants.{Submit}
-use Rattle.act_rules.specs.declared.script.Mode.TheVariants.{Play}
 use Rattle.act_rules.specs.declared.script.Role.{Role}
 use Rattle.act_rules.specs.RunList.{Answer}
 use Rattle.act_rules.specs.Submissions.{kept_at}
 use Rattle.act_rules.specs.History.{History, calls_of, runs_of, kept_of, is_dead, is_retired}
 use Rattle.act_rules.specs.Laws.{history, is_actor_number, is_caller_number, is_sayable_method, is_sayable_arg}
-use Rattle.act_rules.specs.Grammar.{Script, lines_in, spelled}
+use Rattle.act_rules.specs.Grammar.{Script, lines_in}
 use Rattle.act_rules.specs.Report.{future_text, summary}
 use Rattle.act_rules.specs.Scripts.{actor_spec_of}
 use Rattle.act_histories.specs.Lines.{AreTold}
+use Rattle.act_histories.specs.Play.{IsPlayText}
 
 -- a role that a script can write
 abbrev pub is_sayable_role : Role → Bool
@@ -71,13 +72,10 @@ AreReadOneWay = (roles : List Role) (events others : List Event) →
     IsTrue (list_all is_sayable_event events) → IsTrue (list_all is_sayable_event others) →
     EndsAreAlike roles events others
 
--- a script of events
-abbrev pub play_script : List Role → List Event → Script
-play_script roles events = record { roles = roles; events = events; steps = [] }
-
--- so do two scripts of events with the same roles
+-- and so do two plays of one history that a script can hold
 abbrev pub PlaysAreReadOneWay : Type 0
-PlaysAreReadOneWay = (roles : List Role) (events others : List Event) (one other : List ℕ) →
-    spelled Play one ≡ Ok (play_script roles events) →
-    spelled Play other ≡ Ok (play_script roles others) →
-    EndsAreAlike roles events others
+PlaysAreReadOneWay = (script : Script) (rest one other : List ℕ) →
+    length one ≤ MAX_SCRIPT_BYTES → length other ≤ MAX_SCRIPT_BYTES →
+    (play : IsPlayText script rest one) (another : IsPlayText script rest other) →
+    let casts = map actor_spec_of script.roles in
+    EndAlike rest (history casts play.events) (history casts another.events)

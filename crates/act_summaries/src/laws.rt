@@ -8,7 +8,7 @@ pub fn lines_are_read_one_way()
     ensures { AreReadOneWay }
 {}
 
-/// So do two scripts of events with the same roles.
+/// So do two plays of one history.
 #[tactic(none)]
 pub fn plays_are_read_one_way()
     ensures { PlaysAreReadOneWay }
