@@ -6,6 +6,6 @@ pub mod Words
 pub mod Replies
 pub mod Ends
 pub mod Facts
+pub mod Spelled
 pub mod Decoding
 pub mod Alike
-pub mod Spelled
