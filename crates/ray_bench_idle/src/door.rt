@@ -10,23 +10,21 @@ pub(crate) struct Door<'a, R> {
     pub(crate) rt: &'a R,
 }
 
-impl<'a, R: AllocGlobal + Input + Print + Sync> Door<'a, R> {
-    /// Waits for a line, or for the end of the input.
-    fn wait_for_line(&self) {
-        let mut line = String::new(self.rt.alloc());
-        let _ = self.rt.read_line(&mut line);
-    }
+/// Waits for a line, or for the end of the input.
+fn wait_for_line<R: AllocGlobal + Input>(rt: &R) {
+    let mut line = String::new(rt.alloc());
+    let _ = rt.read_line(&mut line);
+}
 
-    fn tell(&self) {
-        let _ = println!(self.rt; "called");
-    }
+fn tell<R: AllocGlobal + Print>(rt: &R) {
+    let _ = println!(rt; "called");
 }
 
 impl<'a, R: AllocGlobal + Input + Print + Sync> Gate for Door<'a, R> {
     fn pass(&self, actor: ActorId, place: u32) {
         match (actor.number(), place) {
-            (1, 0) => self.wait_for_line(),
-            (2, 0) => self.tell(),
+            (1, 0) => wait_for_line(self.rt),
+            (2, 0) => tell(self.rt),
             _ => {}
         }
     }

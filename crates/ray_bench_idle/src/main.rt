@@ -7,12 +7,10 @@ mod plans;
 use act_actor::cast_fits;
 use act_executor::{plans_fit, run_plans};
 use act_types::{ActorId, CallerId, MAX_ACTORS, MAX_CALLERS};
+use anyhow::{Result, ensure};
 use door::Door;
 use plans::plans_of;
-use ray_bench_work::{Reach, Stop, Style, Work, are_served, casts_of, exit_code};
-use std::process::ExitCode;
-use std::sync::Wait;
-use std::thread::Threads;
+use ray_bench_work::{Reach, Style, Work, are_served, casts_of};
 
 /// Each caller calls the first actor, and then the second.
 const CALLS: u32 = 2;
@@ -28,28 +26,18 @@ fn work() -> Work {
     }
 }
 
-/// Runs the work once.
-fn run<Rt: AllocGlobal + Input + Print + Threads + Wait + Sync>(rt: &Rt) -> Result<(), Stop> {
+/// Runs the work once. Where it can't, that is one line on the standard error.
+fn main(rt: HostRuntime) -> Result<()> {
+    let alloc = rt.alloc();
     let work = work();
-    let casts = casts_of(rt.alloc(), &work)?;
-    let plans = plans_of(rt.alloc(), &work)?;
-    if !cast_fits(casts.as_slice()) || !plans_fit(casts.as_slice(), plans.as_slice()) {
-        return Err(Stop::BadPlan);
-    }
-    let joined = run_plans(rt, rt.alloc(), casts, plans, &Door { rt })?;
-    if !are_served(joined.owners.as_slice(), work.calls) {
-        return Err(Stop::Unanswered);
-    }
+    let casts = casts_of(alloc, &work)?;
+    let plans = plans_of(alloc, &work)?;
+    let fit = cast_fits(casts.as_slice()) && plans_fit(casts.as_slice(), plans.as_slice());
+    ensure!(fit, "the casts or the plans don't fit");
+    let joined = run_plans(&rt, alloc, casts, plans, &Door { rt: &rt })?;
+    ensure!(
+        are_served(joined.owners.as_slice(), work.calls),
+        "a call has no answer"
+    );
     Ok(())
-}
-
-/// Ends with a status and, where that is not 0, one line on the standard error.
-fn main(rt: HostRuntime) -> ExitCode {
-    match run(&rt) {
-        Ok(()) => ExitCode::SUCCESS,
-        Err(stop) => {
-            let _ = rt.eprintln(&stop);
-            exit_code(&stop)
-        }
-    }
 }
