@@ -16,3 +16,4 @@ pub mod Standing
 pub mod Resting
 pub mod Example
 pub mod Asked
+pub mod Deciding

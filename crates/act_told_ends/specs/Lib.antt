@@ -4,3 +4,4 @@ pub mod Retiring
 pub mod Walked
 pub mod Untold
 pub mod Resting
+pub mod Deciding

@@ -59,6 +59,16 @@ pub fn each_walk_rests()
     ensures stuck { StuckAtRestRefutesAll }
 {}
 
+ghost use Rattle.act_told_ends.specs.Deciding.{StuckEndsAsTold, StuckIsThrough};
+
+/// So a walk that can't go on decides: it ends as is told, if any events do. Nobody has to compare what
+/// it left with what is told before it goes on to rest.
+#[tactic(none)]
+pub fn stuck_walks_decide()
+    ensures through { StuckIsThrough }
+    ensures ends { StuckEndsAsTold }
+{}
+
 /// No kill has to be done without by a caller of whose plan no step is refused.
 #[tactic(none)]
 pub fn kills_can_be_asked()
