@@ -12,9 +12,9 @@ main thread stand beside them: it makes the plans, checks them, and lets all go.
 for where that is the most, counted by dhat. A list that grows by doubling is full then, since the calls of each actor
 are a power of two; at worst such a list has room for twice as many.
 
-Other work on the machine changes these counts by some hundredths at most, where a thread waits more often. So an
-instruction count is the median of three. With --small it is one of shorter runs, taken anew, up to three times, where
-it is too high.
+Other work on the machine changes the instructions by some hundredths, where a thread waits more often: they are the
+median of three. Bytes are the least of three: where a caller's thread begins late, its whole plan stands beside the
+calls of the others. With --small each is one count of shorter runs, taken anew, up to three times, where it is too high.
 
 It fails where a program does, and where a call takes more than 1.5 times the instructions of docs/measures.md, or 1.1
 times the bytes. Where valgrind isn't there it says so, counts nothing and ends with status 2, as a failure of the
@@ -130,17 +130,21 @@ class Counter:
         return self.grown(*(most_bytes(self.words(shape, times)) for times in (1, 2)))
 
     def cost(self, shape):
-        """By the median of several counts of instructions."""
+        """By the medians of several counts of instructions, and the least of several of bytes."""
         threads, main = map(statistics.median, zip(*(self.instructions(shape) for _ in range(TRIES))))
-        return Cost(threads, main, self.bytes(shape))
+        return Cost(threads, main, min(self.bytes(shape) for _ in range(TRIES)))
 
     def small_cost(self, shape, bound):
-        """By the first count of instructions that is within the bound, or else the last one."""
+        """By the first count that is within the bound, or else the last one: of instructions, and then of bytes."""
         for _ in range(TRIES):
             threads, main = self.instructions(shape)
             if bound is None or threads <= MOST_INSTRUCTIONS * bound.threads:
                 break
-        return Cost(threads, main, self.bytes(shape))
+        for _ in range(TRIES):
+            asked_for = self.bytes(shape)
+            if bound is None or asked_for <= MOST_BYTES * bound.bytes:
+                break
+        return Cost(threads, main, asked_for)
 
 
 # The verdict.
