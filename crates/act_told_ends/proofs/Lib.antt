@@ -17,3 +17,8 @@ pub mod Resting
 pub mod Example
 pub mod Asked
 pub mod Deciding
+pub mod Sent
+pub mod LeftOpen
+pub mod LeftOpenEvents
+pub mod LeftOpenRun
+pub mod LeftOpenAll

@@ -7,17 +7,17 @@ use Rattle.act_rules.specs.declared.event.Event.TheVariants as event
 use Rattle.act_early.proofs.Worlds.{contains_push, either_of}
 use Rattle.act_told_ends.specs.Told.{Told, Leaves, EndsAsTold}
 use Rattle.act_told_ends.specs.Walks.{MayGoOn, Calls, Asks, Steps, DoesWithout, Sends, Delivers, Runs, Collects, TakesKill, Tells, Hears}
-use Rattle.act_told_ends.specs.Walked.{IsWalked, Begins, GoesOn, gone_on}
+use Rattle.act_told_ends.specs.Walked.{IsWalked, Begins, GoesOn, Mails, Brings, gone_on}
 use Rattle.act_told_ends.specs.Retiring.{MayRetire, LetsGo, Notes, Retires, RetiredAsTold}
 use Rattle.act_told_ends.specs.Resting.{IsResting, Through, Rests, IsEndTold, rested}
 use Rattle.act_told_ends.proofs.Retiring.{retire_on}
 use Rattle.act_told_ends.proofs.Stepped.{is_one}
 
 -- accepted events left it
-record IsLeft (casts : List ActorSpec) (h : History) : Type 0 where
-  events : List Event
-  accepted : All IsOk (outcomes (opening casts) events)
-  left : h ≡ history casts events
+pub record IsLeft (casts : List ActorSpec) (h : History) : Type 0 where
+  pub events : List Event
+  pub accepted : All IsOk (outcomes (opening casts) events)
+  pub left : h ≡ history casts events
 
 one_more : (casts : List ActorSpec) (h : History) (other : Event) → IsLeft casts h → refusal_of h other ≡ None → IsLeft casts (add_event h other)
 one_more casts h other before may = record {
@@ -58,11 +58,13 @@ thing_more casts bound told done h (TakesKill a dead last may) left = one_more c
 thing_more casts bound told done h (Tells c a hears none may) left = one_more casts h (event.Tell a c) left may
 thing_more casts bound told done h (Hears j c a hears none at) left = one_more casts h (event.Collect j) left (collect_may h j _ at)
 
-walked_left : (casts : List ActorSpec) (bound : ℕ → Option (List Step)) (told : Told) (done : ℕ → ℕ) (h : History) → IsWalked casts bound told done h
+pub walked_left : (casts : List ActorSpec) (bound : ℕ → Option (List Step)) (told : Told) (done : ℕ → ℕ) (h : History) → IsWalked casts bound told done h
     → IsLeft casts h
 walked_left casts bound told done h Begins = record { events = []; accepted = All-nil IsOk; left = refl }
 walked_left casts bound told done h (GoesOn before g thing walked) =
     thing_more casts bound told before g thing (walked_left casts bound told before g walked)
+walked_left casts bound told done h (Mails before g c k may walked) = one_more casts g (event.Send c k) (walked_left casts bound told before g walked) may
+walked_left casts bound told done h (Brings before g i may walked) = one_more casts g (event.Deliver i) (walked_left casts bound told before g walked) may
 
 -- what stays while actors retire
 record IsNear (casts : List ActorSpec) (told : Told) (h : History) : Type 0 where

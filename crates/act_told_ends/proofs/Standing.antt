@@ -28,30 +28,30 @@ swap_all-append calls h (x ∷ xs) ys = ap (λ (l : List Event). swap calls h x 
 
 -- ---- accepted events
 
-accepted_none : (h : History) (other : Event) → IsOk (outcome_of h other) → refusal_of h other ≡ None
+pub accepted_none : (h : History) (other : Event) → IsOk (outcome_of h other) → refusal_of h other ≡ None
 accepted_none h other ok = go (refusal_of h other) ok
   where
     go : (o : Option WorldRefusal) → IsOk (outcome_by h other o) → o ≡ None
     go None e = refl
     go (Some refusal) e = cc
 
-first_ok : (h : History) (other : Event) (events : List Event) → All IsOk (outcomes h (other ∷ events)) → refusal_of h other ≡ None
+pub first_ok : (h : History) (other : Event) (events : List Event) → All IsOk (outcomes h (other ∷ events)) → refusal_of h other ≡ None
 first_ok h other events ok = accepted_none h other (ok 0 (outcome_of h other) (omega arith))
 
-rest_ok : (h : History) (other : Event) (events : List Event) → All IsOk (outcomes h (other ∷ events)) → All IsOk (outcomes (after h other) events)
+pub rest_ok : (h : History) (other : Event) (events : List Event) → All IsOk (outcomes h (other ∷ events)) → All IsOk (outcomes (after h other) events)
 rest_ok h other events ok = λ i d within. ok (suc i) d (omega arith)
 
-after_is : (h : History) (other : Event) → refusal_of h other ≡ None → after h other ≡ add_event h other
+pub after_is : (h : History) (other : Event) → refusal_of h other ≡ None → after h other ≡ add_event h other
 after_is h other may = ap (after_by h other) may
 
 -- the first of accepted events, and those after them
-front_ok : (h : History) (xs ys : List Event) → All IsOk (outcomes h (xs ++ ys)) → All IsOk (outcomes h xs) × All IsOk (outcomes (after_all h xs) ys)
+pub front_ok : (h : History) (xs ys : List Event) → All IsOk (outcomes h (xs ++ ys)) → All IsOk (outcomes h xs) × All IsOk (outcomes (after_all h xs) ys)
 front_ok h [] ys ok = (All-nil IsOk, ok)
 front_ok h (x ∷ xs) ys ok =
     let rest = front_ok (after h x) xs ys (rest_ok h x (xs ++ ys) ok) in
     (All-cons IsOk (outcome_of h x) (outcomes (after h x) xs) (ok 0 (outcome_of h x) (omega arith)) rest.0, rest.1)
 
-all_later : (h : History) (events : List Event) → IsSound h → All IsOk (outcomes h events) → IsLater h (after_all h events)
+pub all_later : (h : History) (events : List Event) → IsSound h → All IsOk (outcomes h events) → IsLater h (after_all h events)
 all_later h [] sound ok = later_same h
 all_later h (other ∷ events) sound ok =
     let may = first_ok h other events ok in
@@ -206,7 +206,7 @@ before_more : (x : Stand) (before more : List Event)
     → before_of x (before ++ more) ≡ before_of x before ++ swap_all x.calls (history x.casts before) more
 before_more x before more = swap_all-append x.calls (opening x.casts) before more
 
-history_more : (casts : List ActorSpec) (before more : List Event) → history casts (before ++ more) ≡ after_all (history casts before) more
+pub history_more : (casts : List ActorSpec) (before more : List Event) → history casts (before ++ more) ≡ after_all (history casts before) more
 history_more casts before more = after_all-append (opening casts) before more
 
 -- all that is known of the events of which these are the first and the rest

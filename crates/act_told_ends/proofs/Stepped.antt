@@ -15,7 +15,7 @@ use Rattle.act_early.proofs.Replies.{front_short, front_whole}
 use Rattle.act_early.proofs.Worlds.{IsWorld, either_of, or_second, step_keeps}
 use Rattle.act_told_ends.specs.Told.{Told, IsWalk, DidFirst, EndsAsTold, submission_of, copies, releases}
 use Rattle.act_told_ends.specs.Walks.{MayGoOn, Calls, Asks, Steps, DoesWithout, Sends, Delivers, Runs, Collects, TakesKill, Tells, Hears, IsThrough}
-use Rattle.act_told_ends.specs.Walked.{IsWalked, Begins, GoesOn, gone_on, one_step_more}
+use Rattle.act_told_ends.specs.Walked.{IsWalked, Begins, GoesOn, Mails, Brings, gone_on, one_step_more}
 use Rattle.act_told_ends.proofs.Lists.{filter_alike, filter_map_alike}
 use Rattle.act_told_ends.proofs.Bridge.{IsLate, late_play}
 use Rattle.act_told_ends.proofs.Posted.{RunsPosted, CameBy, Replied, Died, came_by, posted_step, all_posted}
@@ -385,11 +385,17 @@ begins casts bound told = record {
   heard = λ i c a e. cc;
 }
 
-going : (casts : List ActorSpec) (bound : ℕ → Option (List Step)) (told : Told) (plans : ℕ → List Step) (late : At) (done : ℕ → ℕ) (h : History)
+pub going : (casts : List ActorSpec) (bound : ℕ → Option (List Step)) (told : Told) (plans : ℕ → List Step) (late : At) (done : ℕ → ℕ) (h : History)
     → IsLate casts bound told plans late → IsWalked casts bound told done h → IsGoing casts bound told done h
 going casts bound told plans late done h l Begins = begins casts bound told
 going casts bound told plans late done h l (GoesOn before g thing walked) =
     going_on casts bound told plans late before g thing l (going casts bound told plans late before g l walked)
+going casts bound told plans late done h l (Mails before g c k may walked) =
+    let w = going casts bound told plans late before g l walked in
+    quiet_going casts bound told before g (event.Send c k) w refl may refl refl refl (still_killed casts bound told before g w)
+going casts bound told plans late done h l (Brings before g i may walked) =
+    let w = going casts bound told plans late before g l walked in
+    quiet_going casts bound told before g (event.Deliver i) w refl may refl refl refl (still_killed casts bound told before g w)
 
 pub is_one : (casts : List ActorSpec) (bound : ℕ → Option (List Step)) (told : Told) (events : List Event) (done : ℕ → ℕ) (h : History)
     → EndsAsTold casts bound told events → IsWalked casts bound told done h → IsWalk bound told done h

@@ -42,7 +42,7 @@ new_kept casts bound told done h g w grows new c k answer e = go (kept_at (kept_
     go (Some old) is = w.walk.kept c k old is ∙ sym (kept_extends c h g grows w.world.sound.posts k old is) ∙ e
 
 -- no answer is new where nothing is collected and no call made
-quiet_kept : (h g : History) (c k : ℕ) → Grows h g → IsSound h → g.submitted ≡ h.submitted → g.collected ≡ h.collected
+pub quiet_kept : (h g : History) (c k : ℕ) → Grows h g → IsSound h → g.submitted ≡ h.submitted → g.collected ≡ h.collected
     → kept_at (kept_of c g) k ≡ kept_at (kept_of c h) k
 quiet_kept h g c k grows sound calls collected = go (slice_get (calls_of c h) k) refl
   where

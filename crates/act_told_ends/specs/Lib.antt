@@ -5,3 +5,4 @@ pub mod Walked
 pub mod Untold
 pub mod Resting
 pub mod Deciding
+pub mod LeftOpen

@@ -1,10 +1,10 @@
--- A walk made of nothing but what may be done next.
-use Rattle.std.specs.Prelude.{◌+◌, ◌==◌, ◌⊎◌, ℕ, if◌then◌else◌, List, Option}
+-- A walk made of nothing but what may be done next, and any letters that are sent and delivered.
+use Rattle.std.specs.Prelude.{◌≡◌, ◌+◌, ◌==◌, ◌⊎◌, ℕ, if◌then◌else◌, List, Option, None}
 use Rattle.act_rules.specs.declared.event.Event.{Event}
 use Rattle.act_rules.specs.declared.event.Event.TheVariants as event
 use Rattle.act_rules.specs.declared.script.Step.{Step}
 use Rattle.act_rules.specs.History.{ActorSpec, History, opening}
-use Rattle.act_rules.specs.Rules.{add_event}
+use Rattle.act_rules.specs.Rules.{refusal_of, add_event}
 use Rattle.act_early.specs.Plays.{after_step}
 use Rattle.act_told_ends.specs.Told.{Told, EndsAsTold, IsWalk}
 use Rattle.act_told_ends.specs.Walks.{MayGoOn, Calls, Asks, Steps, DoesWithout, Sends, Delivers, Runs, Collects, TakesKill, Tells, Hears, IsThrough}
@@ -29,14 +29,18 @@ gone_on bound told done h (TakesKill a dead last may) = (done, add_event h (even
 gone_on bound told done h (Tells c a hears none may) = (done, add_event h (event.Tell a c))
 gone_on bound told done h (Hears j c a hears none at) = (done, add_event h (event.Collect j))
 
--- from the opened world on, only such things were done
+-- from the opened world on, only such things were done, and letters sent and delivered
 pub data IsWalked (casts : List ActorSpec) (bound : ℕ → Option (List Step)) (told : Told) :
     (ℕ → ℕ) → History → Type 0 where
   Begins : IsWalked casts bound told (λ c. 0) (opening casts)
   GoesOn : (done : ℕ → ℕ) (h : History) (thing : MayGoOn bound told done h) → IsWalked casts bound told done h →
       IsWalked casts bound told (gone_on bound told done h thing).0 (gone_on bound told done h thing).1
+  Mails : (done : ℕ → ℕ) (h : History) (c k : ℕ) → refusal_of h (event.Send c k) ≡ None →
+      IsWalked casts bound told done h → IsWalked casts bound told done (add_event h (event.Send c k))
+  Brings : (done : ℕ → ℕ) (h : History) (i : ℕ) → refusal_of h (event.Deliver i) ≡ None →
+      IsWalked casts bound told done h → IsWalked casts bound told done (add_event h (event.Deliver i))
 
--- where some events end as is told, whoever does only such things did only what is told
+-- where some events end as is told, whoever walks so did only what is told
 abbrev pub EachWalkIsOne : Type 0
 EachWalkIsOne = (casts : List ActorSpec) (bound : ℕ → Option (List Step)) (told : Told) (events : List Event)
     (done : ℕ → ℕ) (h : History) →

@@ -24,8 +24,8 @@ pub fn told_alike()
 
 ghost use Rattle.act_told_ends.specs.Walked.{EachWalkIsOne, StuckRefutesAll, WalksGoOn};
 
-/// Whoever does only what may be done next makes a walk, and so is never stuck: where one is stuck
-/// before it is through, no events end as is told.
+/// Whoever does only what may be done next, and sends and delivers letters, makes a walk, and so is
+/// never stuck: where one is stuck before it is through, no events end as is told.
 #[tactic(none)]
 pub fn each_walk_goes_on()
     ensures is { EachWalkIsOne }
@@ -73,4 +73,12 @@ pub fn stuck_walks_decide()
 #[tactic(none)]
 pub fn kills_can_be_asked()
     ensures { KillsCanBeAsked }
+{}
+
+ghost use Rattle.act_told_ends.specs.LeftOpen.{DeathsMayBeReplies};
+
+/// Where a death is told of a call that ran, its reply may stand for it.
+#[tactic(none)]
+pub fn deaths_may_be_replies()
+    ensures { DeathsMayBeReplies }
 {}

@@ -1,0 +1,336 @@
+-- Once a call ran whose reply stands for a death, its reply is collected.
+use Rattle.act_early.proofs.Common.{◌≡◌, ℕ, Bool, true, false, cond, List, [], ◌∷◌, ◌++◌, length, All, All-cons, All-nil, IsOk, Option, Some, None, inl, inr}
+use Rattle.act_early.proofs.Common.{◌⊎◌, refl, ap, sym, ◌∙◌, subst, ◌==◌, filter_map, slice_get, option_map, option_and_then, find, is_some, eq-eqb, and_from}
+use Rattle.act_early.proofs.Common.{append-nil, filter_map-append, Event, RunItem, Submission, Post, Answer, KindState, answer_at, kept_at, needs, ActorSpec}
+use Rattle.act_early.proofs.Common.{History, opening, opening_of, calls_of, runs_of, kept_of, next_item, answer_in, answer_of, is_item_of, ran_count}
+use Rattle.act_early.proofs.Common.{refusal_of, add_event, after_run, and_also, after, after_all, outcome_by, outcome_of, outcomes, under-push}
+use Rattle.act_early.proofs.Common.{slice_get_last, slice_get_front, run_stands, run_needs, next_item_caller, kept_at_is, kept_by, answer_at-front}
+use Rattle.act_early.proofs.Common.{answer_in_stays, added_grows, filter_map-same, All_weaker, IsSound, sound_step, IsSoundPost, one_place, IsNext}
+use Rattle.act_early.proofs.Common.{next_item_is, calls_to-at, Grows}
+use Rattle.act_rules.specs.declared.event.Event.TheVariants as event
+use Rattle.act_rules.specs.declared.history.Post.TheVariants.{Reply as ReplyPost}
+use Rattle.act_rules.specs.declared.outcome.WorldRefusal.{WorldRefusal}
+use Rattle.act_rules.specs.declared.outcome.WorldRefusal.TheVariants.{NoReply}
+use Rattle.act_early.proofs.Unanswered.{next_unanswered}
+use Rattle.act_told_ends.specs.LeftOpen.{IsReplyForDeath}
+use Rattle.act_told_ends.proofs.Later.{IsLater}
+use Rattle.act_told_ends.proofs.Lists.{push_at}
+use Rattle.act_told_ends.proofs.Standing.{after_is}
+use Rattle.act_told_ends.proofs.Sent.{AreSent, sent_step}
+use Rattle.act_told_ends.proofs.LeftOpen.{Open, is_replaced, replaced, IsPut, more_put, with_collected, answer_same}
+use Rattle.act_told_ends.proofs.LeftOpenEvents.{IsBeside, event_there, next_posts, next_same, given_stays, beside_next}
+
+-- ---- what is done then
+
+abbrev pub collect_then : Open → ℕ → History → Option RunItem → List Event
+collect_then x c h None = []
+collect_then x c h (Some item) = cond (is_replaced x c item.future) (event.Collect (length h.posts) ∷ []) []
+
+-- after the run of a call whose reply stands for a death, its reply is collected
+abbrev pub extra : Open → History → Event → List Event
+extra x h (event.Submit c a method args) = []
+extra x h (event.Copy c a) = []
+extra x h (event.Release c a) = []
+extra x h (event.Send c k) = []
+extra x h (event.Deliver i) = []
+extra x h (event.Run a c) = collect_then x c h (next_item a c h)
+extra x h (event.Collect j) = []
+extra x h (event.AskKill c a) = []
+extra x h (event.TakeKill a) = []
+extra x h (event.Tell a c) = []
+extra x h (event.Retire a) = []
+
+-- the event and what is done then are accepted, and leave the same but for the replies
+pub record Goes (x : Open) (h : History) (posts : List Post) (other : Event) (more : List Event) (next : History) : Type 0 where
+  pub ok : All IsOk (outcomes (with_collected h posts) (other ∷ more))
+  pub after : List Post
+  pub left : after_all (with_collected h posts) (other ∷ more) ≡ with_collected next after
+  pub beside : IsBeside x next after
+
+one_ok : (g : History) (other : Event) (more : List Event) → refusal_of g other ≡ None → All IsOk (outcomes (after g other) more)
+    → All IsOk (outcomes g (other ∷ more))
+one_ok g other more may rest = All-cons IsOk (outcome_of g other) (outcomes (after g other) more)
+    (subst (λ (o : Option WorldRefusal). IsOk (outcome_by g other o)) (sym may) refl) rest
+
+-- an event by which no such call ran
+plain : (x : Open) (h : History) (posts : List Post) (other : Event) → IsBeside x h posts → refusal_of h other ≡ None → IsLater (add_event h other) x.last
+    → ((a place : ℕ) (item : RunItem) → slice_get (runs_of a (add_event h other)) place ≡ Some item → is_replaced x item.caller item.future ≡ true
+    → slice_get (runs_of a h) place ≡ Some item) → Goes x h posts other [] (add_event h other)
+plain x h posts other b may later old =
+    let there = event_there x h posts other b may later in
+    record {
+      ok = one_ok (with_collected h posts) other [] there.may (All-nil IsOk);
+      after = next_posts h posts other;
+      left = after_is (with_collected h posts) other there.may ∙ there.left;
+      beside = beside_next x h posts other b may later old;
+    }
+
+-- ---- the run of such a call
+
+-- the first answer of a call, where none was collected before
+first_then : (f : Post → Option Answer) (posts : List Post) (p : Post) (answer : Answer) → slice_get (filter_map f posts) 0 ≡ None → f p ≡ Some answer
+    → slice_get (filter_map f (posts ++ p ∷ [])) 0 ≡ Some answer
+first_then f posts p answer none gives =
+    ap (λ (l : List Answer). slice_get l 0) (filter_map-append f posts (p ∷ [])
+    ∙ ap (λ (l : List Answer). l ++ filter_map f (p ∷ [])) (empty (filter_map f posts) none))
+    ∙ rw gives refl
+  where
+    empty : (l : List Answer) → slice_get l 0 ≡ None → l ≡ []
+    empty [] e = refl
+    empty (y ∷ l) e = cc
+
+-- a run of a call whose reply stands for a death
+pub record IsRunOf (x : Open) (h : History) (posts : List Post) (a c : ℕ) (item : RunItem) : Type 0 where
+  pub beside : IsBeside x h posts
+  pub may : refusal_of h (event.Run a c) ≡ None
+  pub is : next_item a c h ≡ Some item
+  pub put : is_replaced x c item.future ≡ true
+  pub later : IsLater (after_run a c h (Some item)) x.last
+
+abbrev own_post : History → ℕ → ℕ → Post
+own_post h a c = ReplyPost c a (length (runs_of a h))
+
+abbrev ran : History → ℕ → ℕ → RunItem → History
+ran h a c item = after_run a c h (Some item)
+
+item_told : (x : Open) (h : History) (posts : List Post) (a c : ℕ) (item : RunItem) → IsRunOf x h posts a c item
+    → slice_get (runs_of a x.last) (length (runs_of a h)) ≡ Some item
+item_told x h posts a c item r = slice_get_front (runs_of a (ran h a c item)) (runs_of a x.last) (length (runs_of a h)) item (r.later.early.runs a)
+    (run_stands a h.ran item)
+
+is_put : (x : Open) (h : History) (posts : List Post) (a c : ℕ) (item : RunItem) → IsRunOf x h posts a c item → IsPut x (own_post h a c)
+is_put x h posts a c item r = (
+  item,
+  ap (λ (l : List RunItem). slice_get l (length (runs_of a h))) (sym (x.leaves.runs a)) ∙ item_told x h posts a c item r,
+  next_item_caller a c h item r.is,
+  r.put,
+)
+
+-- its reply is the answer that stands for the death
+own_answer : (x : Open) (h : History) (posts : List Post) (a c : ℕ) (item : RunItem) (r : IsRunOf x h posts a c item)
+    → answer_of a (length (runs_of a h)) (ran h a c item) ≡ kept_at (x.kept c) item.future
+own_answer x h posts a c item r = go (opening_of a (ran h a c item)) ∙ opens ∙ sym there ∙ told ∙ reply.3.is ∙ sym reply.2
+  where
+    n : ℕ
+    n = length (runs_of a h)
+
+    caller : item.caller ≡ c
+    caller = next_item_caller a c h item r.is
+
+    reply : IsReplyForDeath x.casts x.told x.kept c item.future
+    reply = replaced x c item.future r.put
+
+    -- the call ran there
+    same : (reply.3.actor ≡ a) × (reply.3.place ≡ n)
+    same = one_place x.last c item.future a n reply.3.actor reply.3.place item reply.3.item x.sound.order (item_told x h posts a c item r) caller refl
+        (ap (λ (l : List RunItem). slice_get l reply.3.place) (x.leaves.runs reply.3.actor) ∙ reply.3.at) reply.3.caller reply.3.future
+
+    go : (o : Option KindState) → option_and_then (λ (state : KindState). answer_at state (runs_of a (ran h a c item)) n) o
+        ≡ option_and_then (λ (state : KindState). answer_at state (runs_of a x.last) n) o
+    go None = refl
+    go (Some state) = sym (answer_at-front state (runs_of a (ran h a c item)) (runs_of a x.last) n item (r.later.early.runs a) (run_stands a h.ran item))
+
+    opens : option_and_then (λ (state : KindState). answer_at state (runs_of a x.last) n) (opening_of a (ran h a c item))
+        ≡ option_and_then (λ (state : KindState). answer_at state (runs_of a x.last) n) (opening_of a (opening x.casts))
+    opens = ap (λ (casts : List ActorSpec). option_and_then (λ (state : KindState). answer_at state (runs_of a x.last) n)
+        (option_map (λ (cast : ActorSpec). cast.opening) (find (λ (cast : ActorSpec). cast.actor == a) casts))) r.beside.opened
+
+    there : option_and_then (λ (state : KindState). answer_at state (runs_of reply.3.actor x.last) reply.3.place) (opening_of reply.3.actor (opening x.casts))
+        ≡ option_and_then (λ (state : KindState). answer_at state (runs_of a x.last) n) (opening_of a (opening x.casts))
+    there = ap (λ (b : ℕ). option_and_then (λ (state : KindState). answer_at state (runs_of b x.last) reply.3.place) (opening_of b (opening x.casts))) same.0
+        ∙ ap (λ (place : ℕ). option_and_then (λ (state : KindState). answer_at state (runs_of a x.last) place) (opening_of a (opening x.casts))) same.1
+
+    told : option_and_then (λ (state : KindState). answer_at state (runs_of reply.3.actor x.last) reply.3.place) (opening_of reply.3.actor (opening x.casts))
+        ≡ option_and_then (λ (state : KindState). answer_at state (x.told.runs reply.3.actor) reply.3.place) (opening_of reply.3.actor (opening x.casts))
+    told = ap (λ (l : List RunItem). option_and_then (λ (state : KindState). answer_at state l reply.3.place) (opening_of reply.3.actor (opening x.casts)))
+        (x.leaves.runs reply.3.actor)
+
+-- it is kept once it is collected
+own_kept : (x : Open) (h : History) (posts : List Post) (a c : ℕ) (item : RunItem) → IsRunOf x h posts a c item
+    → add_event (with_collected h posts) (event.Run a c) ≡ with_collected (ran h a c item) posts
+    → kept_at (kept_of c (with_collected (ran h a c item) (posts ++ own_post h a c ∷ []))) item.future ≡ kept_at (x.kept c) item.future
+own_kept x h posts a c item r left =
+    subst (λ (k : ℕ). kept_at (kept_of c f) k ≡ kept_at (x.kept c) item.future) future
+    (kept_at_is f c call.0 ∙ ap (kept_by f c call.0) stands ∙ go (answer_of a (length (runs_of a h)) (ran h a c item)) refl (own_answer x h posts a c item r))
+  where
+    g : History
+    g = with_collected h posts
+
+    f : History
+    f = with_collected (ran h a c item) (posts ++ own_post h a c ∷ [])
+
+    is : IsNext a c h item
+    is = next_item_is a c h item r.is
+
+    call : ℕ × Submission
+    call = is.call
+
+    future : call.0 ≡ item.future
+    future = ap (λ (i : RunItem). i.future) is.is
+
+    stands : slice_get (calls_of c h) call.0 ≡ Some call.1
+    stands = (calls_to-at a (calls_of c h) (ran_count c a h) call is.at).at
+
+    answers : Post → Option Answer
+    answers p = answer_in f c call.0 call.1.actor p
+
+    grows : Grows g (with_collected (ran h a c item) posts)
+    grows = subst (λ (k : History). Grows g k) left (added_grows g (event.Run a c))
+
+    -- nothing answered it before
+    none : slice_get (filter_map answers posts) 0 ≡ None
+    none = ap (λ (l : List Answer). slice_get l 0) (filter_map-same answers (answer_in g c call.0 call.1.actor) posts
+        (All_weaker (IsSoundPost g) (λ p. answers p ≡ answer_in g c call.0 call.1.actor p) posts (λ p sound.
+        answer_same (with_collected (ran h a c item) posts) (posts ++ own_post h a c ∷ []) c call.0 call.1.actor p
+        ∙ answer_in_stays g (with_collected (ran h a c item) posts) c call.0 call.1.actor grows p sound) r.beside.other.posts.collected))
+        ∙ sym (ap (kept_by g c call.0) stands) ∙ sym (kept_at_is g c call.0)
+        ∙ next_unanswered g a c call r.beside.other is.at (run_needs h a c r.may).2
+
+    own : answers (own_post h a c) ≡ answer_of a (length (runs_of a h)) (ran h a c item)
+    own = ap (λ (y : Bool). cond y (answer_of a (length (runs_of a h)) (ran h a c item)) None) (
+        and_from (c == c) (is_item_of c call.0 (slice_get (runs_of a (ran h a c item)) (length (runs_of a h)))) (eq-eqb c c refl)
+        (ap (λ (o : Option RunItem). is_item_of c call.0 o) (run_stands a h.ran item)
+        ∙ and_from (item.caller == c) (item.future == call.0) (eq-eqb item.caller c (next_item_caller a c h item r.is))
+        (eq-eqb item.future call.0 (sym future))))
+
+    go : (o : Option Answer) → answer_of a (length (runs_of a h)) (ran h a c item) ≡ o → o ≡ kept_at (x.kept c) item.future
+        → slice_get (filter_map answers (posts ++ own_post h a c ∷ [])) 0 ≡ kept_at (x.kept c) item.future
+    go None e same = let bad : ◌≡◌ {A = Option Answer} None (Some (replaced x c item.future r.put).1) = same ∙ (replaced x c item.future r.put).2 in cc
+    go (Some answer) e same = first_then answers posts (own_post h a c) answer none (own ∙ e) ∙ same
+
+collect_may : (g : History) (j : ℕ) (p : Post) → slice_get g.posts j ≡ Some p → refusal_of g (event.Collect j) ≡ None
+collect_may g j p e = ap (λ (o : Option Post). needs (is_some o) NoReply None) e
+
+-- the run of such a call, and the collecting of its reply
+run_goes : (x : Open) (h : History) (posts : List Post) (a c : ℕ) (item : RunItem) → IsRunOf x h posts a c item
+    → Goes x h posts (event.Run a c) (event.Collect (length h.posts) ∷ []) (ran h a c item)
+run_goes x h posts a c item r = record {
+  ok = one_ok g (event.Run a c) (event.Collect (length h.posts) ∷ []) may_run
+      (subst (λ (k : History). All IsOk (outcomes k (event.Collect (length h.posts) ∷ []))) (sym is_one)
+      (one_ok one (event.Collect (length h.posts)) [] may_collect (All-nil IsOk)));
+  after = posts ++ own_post h a c ∷ [];
+  left = ap (λ (k : History). after k (event.Collect (length h.posts))) is_one ∙ after_is one (event.Collect (length h.posts)) may_collect ∙ left_two;
+  beside = record {
+    sound = subst (λ (k : History). IsSound k) is_ran (sound_step h (event.Run a c) r.beside.sound r.may);
+    sent = subst (λ (k : History). AreSent k) is_ran (sent_step h (event.Run a c) r.beside.sent r.may);
+    opened = r.beside.opened;
+    later = r.later;
+    other = subst (λ (k : History). IsSound k) left_two (sound_step one (event.Collect (length h.posts)) sound_one may_collect);
+    more = more_put x h.collected posts (own_post h a c) (is_put x h posts a c item r) r.beside.more;
+    given = given;
+  };
+}
+  where
+    g : History
+    g = with_collected h posts
+
+    one : History
+    one = with_collected (ran h a c item) posts
+
+    two : History
+    two = with_collected (ran h a c item) (posts ++ own_post h a c ∷ [])
+
+    is_ran : add_event h (event.Run a c) ≡ ran h a c item
+    is_ran = ap (after_run a c h) r.is
+
+    later : IsLater (add_event h (event.Run a c)) x.last
+    later = subst (λ (k : History). IsLater k x.last) (sym is_ran) r.later
+
+    may_run : refusal_of g (event.Run a c) ≡ None
+    may_run = r.may
+
+    left_one : add_event g (event.Run a c) ≡ one
+    left_one = ap (after_run a c g) (next_same x h posts a c r.beside later ∙ r.is)
+
+    is_one : after g (event.Run a c) ≡ one
+    is_one = after_is g (event.Run a c) may_run ∙ left_one
+
+    sound_one : IsSound one
+    sound_one = subst (λ (k : History). IsSound k) left_one (sound_step g (event.Run a c) r.beside.other may_run)
+
+    may_collect : refusal_of one (event.Collect (length h.posts)) ≡ None
+    may_collect = collect_may one (length h.posts) (own_post h a c) (slice_get_last h.posts (own_post h a c))
+
+    left_two : add_event one (event.Collect (length h.posts)) ≡ two
+    left_two = ap (λ (o : Option Post). record one { collected = and_also posts o }) (slice_get_last h.posts (own_post h a c))
+
+    -- what was kept before stays
+    stays : (d k : ℕ) → is_replaced x d k ≡ true → kept_at (kept_of d g) k ≡ kept_at (x.kept d) k → kept_at (kept_of d two) k ≡ kept_at (x.kept d) k
+    stays d k put e = given_stays x one two (event.Collect (length h.posts)) d k sound_one may_collect left_two put
+        (given_stays x g one (event.Run a c) d k r.beside.other may_run left_one put e)
+
+    given : (d k b place : ℕ) (other : RunItem) → is_replaced x d k ≡ true → slice_get (runs_of b (ran h a c item)) place ≡ Some other → other.caller ≡ d
+        → other.future ≡ k → kept_at (kept_of d two) k ≡ kept_at (x.kept d) k
+    given d k b place other put at caller future =
+        go (a == b) refl (sym (ap (λ (l : List RunItem). slice_get l place) (under-push b a h.ran item)) ∙ at)
+      where
+        new : other ≡ item → kept_at (kept_of d two) k ≡ kept_at (x.kept d) k
+        new same =
+            let who : c ≡ d = sym (next_item_caller a c h item r.is) ∙ ap (λ (i : RunItem). i.caller) (sym same) ∙ caller in
+            let what : item.future ≡ k = ap (λ (i : RunItem). i.future) (sym same) ∙ future in
+            subst (λ (e : ℕ). kept_at (kept_of e two) k ≡ kept_at (x.kept e) k) who
+            (subst (λ (j : ℕ). kept_at (kept_of c two) j ≡ kept_at (x.kept c) j) what (own_kept x h posts a c item r left_one))
+
+        either : (slice_get (runs_of b h) place ≡ Some other) ⊎ ((place ≡ length (runs_of b h)) × (other ≡ item))
+            → kept_at (kept_of d two) k ≡ kept_at (x.kept d) k
+        either (inl there) = stays d k put (r.beside.given d k b place other put there caller future)
+        either (inr last) = new last.1
+
+        go : (same : Bool) → (a == b) ≡ same → slice_get (runs_of b h ++ cond same (item ∷ []) []) place ≡ Some other
+            → kept_at (kept_of d two) k ≡ kept_at (x.kept d) k
+        go false is e = either (inl (ap (λ (l : List RunItem). slice_get l place) (sym (append-nil (runs_of b h))) ∙ e))
+        go true is e = either (push_at (runs_of b h) item other place e)
+
+-- ---- each event
+
+run_plain : (x : Open) (h : History) (posts : List Post) (a c : ℕ) (item : RunItem) → IsBeside x h posts → refusal_of h (event.Run a c) ≡ None
+    → next_item a c h ≡ Some item → is_replaced x c item.future ≡ false → IsLater (add_event h (event.Run a c)) x.last
+    → Goes x h posts (event.Run a c) [] (add_event h (event.Run a c))
+run_plain x h posts a c item b may is not later = plain x h posts (event.Run a c) b may later (λ d place other at put. go d place other put (a == d) refl
+    (sym (ap (λ (l : List RunItem). slice_get l place) (under-push d a h.ran item))
+    ∙ subst (λ (o : Option RunItem). slice_get (runs_of d (after_run a c h o)) place ≡ Some other) is at))
+  where
+    go : (d place : ℕ) (other : RunItem) → is_replaced x other.caller other.future ≡ true → (same : Bool) → (a == d) ≡ same
+        → slice_get (runs_of d h ++ cond same (item ∷ []) []) place ≡ Some other → slice_get (runs_of d h) place ≡ Some other
+    go d place other put false e at = ap (λ (l : List RunItem). slice_get l place) (sym (append-nil (runs_of d h))) ∙ at
+    go d place other put true e at = either (push_at (runs_of d h) item other place at)
+      where
+        either : (slice_get (runs_of d h) place ≡ Some other) ⊎ ((place ≡ length (runs_of d h)) × (other ≡ item)) → slice_get (runs_of d h) place ≡ Some other
+        either (inl there) = there
+        either (inr last) =
+            let one : is_replaced x item.caller item.future ≡ true = subst (λ (i : RunItem). is_replaced x i.caller i.future ≡ true) last.1 put in
+            let two : is_replaced x c item.future ≡ true =
+            subst (λ (e : ℕ). is_replaced x e item.future ≡ true) (next_item_caller a c h item is) one in
+            let bad : true ≡ false = sym two ∙ not in
+            cc
+
+pub event_goes : (x : Open) (h : History) (posts : List Post) (other : Event) → IsBeside x h posts → refusal_of h other ≡ None
+    → IsLater (add_event h other) x.last → Goes x h posts other (extra x h other) (add_event h other)
+event_goes x h posts (event.Run a c) b may later = go (next_item a c h) refl
+  where
+    put : (item : RunItem) → next_item a c h ≡ Some item → (y : Bool) → is_replaced x c item.future ≡ y
+        → Goes x h posts (event.Run a c) (cond y (event.Collect (length h.posts) ∷ []) []) (add_event h (event.Run a c))
+    put item e false is = run_plain x h posts a c item b may e is later
+    put item e true is = subst (λ (o : Option RunItem). Goes x h posts (event.Run a c) (event.Collect (length h.posts) ∷ []) (after_run a c h o)) (sym e)
+        (run_goes x h posts a c item (record {
+          beside = b;
+          may = may;
+          is = e;
+          put = is;
+          later = subst (λ (o : Option RunItem). IsLater (after_run a c h o) x.last) e later;
+        }))
+
+    go : (o : Option RunItem) → next_item a c h ≡ o → Goes x h posts (event.Run a c) (collect_then x c h o) (add_event h (event.Run a c))
+    go None e = plain x h posts (event.Run a c) b may later (λ d place other at is.
+        subst (λ (o : Option RunItem). slice_get (runs_of d (after_run a c h o)) place ≡ Some other) e at)
+    go (Some item) e = put item e (is_replaced x c item.future) refl
+event_goes x h posts (event.Submit c a method args) b may later = plain x h posts (event.Submit c a method args) b may later (λ d place item at is. at)
+event_goes x h posts (event.Copy c a) b may later = plain x h posts (event.Copy c a) b may later (λ d place item at is. at)
+event_goes x h posts (event.Release c a) b may later = plain x h posts (event.Release c a) b may later (λ d place item at is. at)
+event_goes x h posts (event.Send c k) b may later = plain x h posts (event.Send c k) b may later (λ d place item at is. at)
+event_goes x h posts (event.Deliver i) b may later = plain x h posts (event.Deliver i) b may later (λ d place item at is. at)
+event_goes x h posts (event.Collect j) b may later = plain x h posts (event.Collect j) b may later (λ d place item at is. at)
+event_goes x h posts (event.AskKill c a) b may later = plain x h posts (event.AskKill c a) b may later (λ d place item at is. at)
+event_goes x h posts (event.TakeKill a) b may later = plain x h posts (event.TakeKill a) b may later (λ d place item at is. at)
+event_goes x h posts (event.Tell a c) b may later = plain x h posts (event.Tell a c) b may later (λ d place item at is. at)
+event_goes x h posts (event.Retire a) b may later = plain x h posts (event.Retire a) b may later (λ d place item at is. at)

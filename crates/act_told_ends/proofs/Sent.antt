@@ -1,0 +1,138 @@
+-- Each call that ran was sent.
+use Rattle.act_early.proofs.Common.{◌≡◌, ℕ, zero, suc, ◌+◌, Bool, true, false, cond, List, [], ◌∷◌, ◌++◌, length, map, Option, Some, None, inl, inr, ◌⊎◌}
+use Rattle.act_early.proofs.Common.{refl, ap, sym, ◌∙◌, subst, arith, ◌==◌, ◌||◌, slice_get, option_map, append-nil, eqb-true, eq-eqb, AllByRecursion}
+use Rattle.act_early.proofs.Common.{RunItem, Submission, Letter, calls_to, number_of, History, opening, under, calls_of, runs_of, has_letter, is_letter}
+use Rattle.act_early.proofs.Common.{ran_count, items_of, next_item, add_event, after_run, and_also, call_letter, under-push, IsKept, IsPrefix, added_grows}
+use Rattle.act_early.proofs.Common.{IsNext, next_item_is, numbered, numbers, has_letter-sound, held_call, held_submission, map-slice_get, rank, IsSound}
+use Rattle.act_early.proofs.Common.{slice_get_front, slice_get-filter, slice_get-map, slice_get-enumerate_from, ActorSpec, All_more, All_weaker}
+use Rattle.act_rules.specs.declared.event.Event.TheVariants as event
+use Rattle.act_rules.specs.declared.history.Letter.TheVariants.{Call as CallLetter}
+use Rattle.act_early.proofs.Notes.{same_letter, has_front}
+use Rattle.act_early.proofs.Unanswered.{number_is}
+use Rattle.act_told_ends.proofs.Lists.{push_at}
+
+-- each letter that arrived was sent, and so was that of each call that ran
+pub record AreSent (h : History) : Type 0 where
+  pub arrived : AllByRecursion (λ letter. has_letter letter h.mail ≡ true) h.arrived
+  pub ran : (a place : ℕ) (item : RunItem) → slice_get (runs_of a h) place ≡ Some item
+      → has_letter (CallLetter item.caller a item.number) h.mail ≡ true
+
+abbrev In : List Letter → Letter → Type 0
+In mail letter = has_letter letter mail ≡ true
+
+letter_at : (letter : Letter) (xs : List Letter) (i : ℕ) → slice_get xs i ≡ Some letter → has_letter letter xs ≡ true
+letter_at letter [] i e = cc
+letter_at letter (x ∷ xs) zero e = first (is_letter letter x) (has_letter letter xs)
+    (ap (is_letter letter) (let same : x ≡ letter = cc in same) ∙ same_letter letter)
+  where
+    first : (y z : Bool) → y ≡ true → (y || z) ≡ true
+    first true z e = refl
+    first false z e = cc
+letter_at letter (x ∷ xs) (suc i) e = second (is_letter letter x) (has_letter letter xs) (letter_at letter xs i e)
+  where
+    second : (y z : Bool) → z ≡ true → (y || z) ≡ true
+    second true z e = refl
+    second false z e = e
+
+-- more was sent, and nothing arrived or ran
+more_sent : (h g : History) → AreSent h → IsPrefix h.mail g.mail → g.arrived ≡ h.arrived → g.ran ≡ h.ran → AreSent g
+more_sent h g sent mail arrived ran = record {
+  arrived = subst (λ (l : List Letter). AllByRecursion (In g.mail) l) (sym arrived)
+      (All_weaker (In h.mail) (In g.mail) h.arrived (λ letter has. has_front letter h.mail g.mail mail has) sent.arrived);
+  ran = λ a place item at. has_front (CallLetter item.caller a item.number) h.mail g.mail mail
+      (sent.ran a place item (subst (λ (l : List (ℕ × RunItem)). slice_get (under a l) place ≡ Some item) ran at));
+}
+
+run_sent : (h : History) (b c : ℕ) (item : RunItem) → AreSent h → IsNext b c h item → AreSent (after_run b c h (Some item))
+run_sent h b c item sent next = record { arrived = sent.arrived; ran = ran }
+  where
+    -- the letter of what runs has arrived
+    own : has_letter (CallLetter item.caller b item.number) h.mail ≡ true
+    own = subst (λ (i : RunItem). has_letter (CallLetter i.caller b i.number) h.mail ≡ true) next.is
+        (has_letter-sound (In h.mail) (CallLetter c b (ran_count c b h)) h.arrived sent.arrived next.arrived)
+
+    ran : (a place : ℕ) (other : RunItem) → slice_get (runs_of a (after_run b c h (Some item))) place ≡ Some other
+        → has_letter (CallLetter other.caller a other.number) h.mail ≡ true
+    ran a place other at = go (b == a) refl (sym (ap (λ (l : List RunItem). slice_get l place) (under-push a b h.ran item)) ∙ at)
+      where
+        go : (same : Bool) → (b == a) ≡ same → slice_get (runs_of a h ++ cond same (item ∷ []) []) place ≡ Some other
+            → has_letter (CallLetter other.caller a other.number) h.mail ≡ true
+        go false is e = sent.ran a place other (ap (λ (l : List RunItem). slice_get l place) (sym (append-nil (runs_of a h))) ∙ e)
+        go true is e = either (push_at (runs_of a h) item other place e)
+          where
+            either : (slice_get (runs_of a h) place ≡ Some other) ⊎ ((place ≡ length (runs_of a h)) × (other ≡ item))
+                → has_letter (CallLetter other.caller a other.number) h.mail ≡ true
+            either (inl there) = sent.ran a place other there
+            either (inr last) = subst (λ (i : RunItem). has_letter (CallLetter i.caller a i.number) h.mail ≡ true) (sym last.1)
+                (subst (λ (x : ℕ). has_letter (CallLetter item.caller x item.number) h.mail ≡ true) (eqb-true b a is) own)
+
+pub sent_step : IsKept AreSent
+sent_step h (event.Run b c) sent may = go (next_item b c h) refl
+  where
+    go : (o : Option RunItem) → next_item b c h ≡ o → AreSent (after_run b c h o)
+    go None e = sent
+    go (Some item) e = run_sent h b c item sent (next_item_is b c h item e)
+sent_step h (event.Deliver i) sent may = go (slice_get h.mail i) refl
+  where
+    go : (o : Option Letter) → slice_get h.mail i ≡ o → AreSent (record h { arrived = and_also h.arrived o })
+    go None e = sent
+    go (Some letter) e = record { arrived = All_more (In h.mail) h.arrived letter sent.arrived (letter_at letter h.mail i e); ran = sent.ran }
+sent_step h (event.Submit c a method args) sent may =
+    more_sent h (add_event h (event.Submit c a method args)) sent (added_grows h (event.Submit c a method args)).mail refl refl
+sent_step h (event.Copy c a) sent may = more_sent h (add_event h (event.Copy c a)) sent (added_grows h (event.Copy c a)).mail refl refl
+sent_step h (event.Release c a) sent may = more_sent h (add_event h (event.Release c a)) sent (added_grows h (event.Release c a)).mail refl refl
+sent_step h (event.Send c k) sent may = more_sent h (add_event h (event.Send c k)) sent (added_grows h (event.Send c k)).mail refl refl
+sent_step h (event.Collect j) sent may = more_sent h (add_event h (event.Collect j)) sent (added_grows h (event.Collect j)).mail refl refl
+sent_step h (event.AskKill c a) sent may = more_sent h (add_event h (event.AskKill c a)) sent (added_grows h (event.AskKill c a)).mail refl refl
+sent_step h (event.TakeKill a) sent may = more_sent h (add_event h (event.TakeKill a)) sent (added_grows h (event.TakeKill a)).mail refl refl
+sent_step h (event.Tell a c) sent may = more_sent h (add_event h (event.Tell a c)) sent (added_grows h (event.Tell a c)).mail refl refl
+sent_step h (event.Retire a) sent may = more_sent h (add_event h (event.Retire a)) sent (added_grows h (event.Retire a)).mail refl refl
+
+pub none_sent : (casts : List ActorSpec) → AreSent (opening casts)
+none_sent casts = record { arrived = tt; ran = λ a place item e. cc }
+
+-- ---- by its future
+
+-- the number of a call that ran is the one that its letter has
+number_held : (h : History) (a c k place : ℕ) (item : RunItem) → IsSound h → slice_get (runs_of a h) place ≡ Some item → item.caller ≡ c
+    → item.future ≡ k → number_of a k (calls_of c h) ≡ item.number
+number_held h a c k place item sound at caller future =
+    let m = rank c place (runs_of a h) in
+    let other = map-slice_get (λ (s : ℕ × Submission). s.0) (calls_to a (calls_of c h)) m k (held_call h a c k place item sound.order at caller future) in
+    ap (λ (j : ℕ). number_of a j (calls_of c h)) (sym other.2) ∙ number_is a m (calls_of c h) other.0 other.1
+    ∙ sym (counted (slice_get (map (λ (call : ℕ × Submission). call.0) (calls_to a (calls_of c h))) m)
+    (sym (slice_get-enumerate_from 0 (map (λ (call : ℕ × Submission). call.0) (calls_to a (calls_of c h))) m) ∙ all))
+  where
+    mine : slice_get (items_of c (runs_of a h)) (rank c place (runs_of a h)) ≡ Some item
+    mine = slice_get-filter (λ (i : RunItem). i.caller == c) (runs_of a h) place item at (eq-eqb item.caller c caller)
+
+    all : slice_get (numbers a (calls_of c h)) (rank c place (runs_of a h)) ≡ Some (numbered item)
+    all = slice_get_front (map numbered (items_of c (runs_of a h))) (numbers a (calls_of c h)) (rank c place (runs_of a h)) (numbered item) (sound.order a c)
+        (slice_get-map numbered (items_of c (runs_of a h)) (rank c place (runs_of a h)) ∙ ap (option_map numbered) mine)
+
+    counted : (o : Option ℕ) → ◌≡◌ {A = Option (ℕ × ℕ)} (option_map (λ (x : ℕ). (0 + rank c place (runs_of a h), x)) o) (Some (numbered item))
+        → item.number ≡ rank c place (runs_of a h)
+    counted None e = cc
+    counted (Some x) e =
+        let pair : ◌≡◌ {A = ℕ × ℕ} (0 + rank c place (runs_of a h), x) (numbered item) = cc in
+        sym (ap (λ (p : ℕ × ℕ). p.0) pair) ∙ omega arith
+
+-- the letter of a call that ran was sent
+pub was_mailed : (h : History) (a c k place : ℕ) (item : RunItem) (call : Submission) → IsSound h → AreSent h → slice_get (runs_of a h) place ≡ Some item
+    → item.caller ≡ c → item.future ≡ k → slice_get (calls_of c h) k ≡ Some call → has_letter (call_letter c k call h) h.mail ≡ true
+was_mailed h a c k place item call sound sent at caller future there =
+    subst (λ (letter : Letter). has_letter letter h.mail ≡ true) letter (sent.ran a place item at)
+  where
+    held : (other : Submission) × (slice_get (calls_of c h) k ≡ Some other) × (other.actor ≡ a)
+    held = held_submission h a c k place item sound.order at caller future
+
+    one : held.0 ≡ call
+    one = let e : Some held.0 ≡ Some call = sym held.1 ∙ there in cc
+
+    actor : a ≡ call.actor
+    actor = sym held.2 ∙ ap (λ (s : Submission). s.actor) one
+
+    letter : CallLetter item.caller a item.number ≡ call_letter c k call h
+    letter = ap (λ (x : ℕ). CallLetter x a item.number) caller
+        ∙ ap (CallLetter c a) (sym (number_held h a c k place item sound at caller future))
+        ∙ ap (λ (b : ℕ). CallLetter c b (number_of b k (calls_of c h))) actor
