@@ -22,7 +22,7 @@ use act_world::{Stage, World};
 use std::alloc::Global;
 
 /// Whether the actor runs, and the caller's next call has come to it.
-fn may_run<K: Actor>(world: &World<K>, a: ActorId, c: CallerId) -> bool
+pub fn may_run<K: Actor>(world: &World<K>, a: ActorId, c: CallerId) -> bool
     ensures { result ≡ shows_next (world_view K.state world.now) a c }
 {
     match world.stage(a) {

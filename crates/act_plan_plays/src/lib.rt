@@ -13,5 +13,8 @@ mod played;
 mod retiring;
 
 pub use choice::{Choice, PlayFault};
+pub use choices::may_run;
 pub use laws::prepared_plans_hold;
+pub use moves::is_dead;
 pub use plan_play::PlanPlay;
+pub use played::{do_event, try_event};

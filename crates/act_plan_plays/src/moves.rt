@@ -71,7 +71,7 @@ fn may_take(owner: &Owner, step: &Step) -> bool
 }
 
 /// Whether the actor is dead.
-pub(crate) fn is_dead<K: Actor>(world: &World<K>, a: ActorId) -> bool
+pub fn is_dead<K: Actor>(world: &World<K>, a: ActorId) -> bool
     ensures { result ≡ shows_dead (world_view K.state world.now) a }
 {
     match world.stage(a) {

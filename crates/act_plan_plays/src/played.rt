@@ -1,6 +1,6 @@
 //! What moves in a play of plans, and the events that move it.
 
-ghost use Rattle.std.specs.Prelude.{◌≡◌, IfOk, OnOk, List, None};
+ghost use Rattle.std.specs.Prelude.{◌≡◌, ◌++◌, ◌∷◌, [], IfOk, OnOk, OnErr, List, None};
 ghost use Rattle.act_rules.specs.declared.event.Event.TheVariants as happening;
 ghost use Rattle.act_rules.specs.History.{ActorSpec, History};
 ghost use Rattle.act_rules.specs.Rules.{refusal_of, outcome_of, did, add_event, after};
@@ -25,16 +25,18 @@ pub(crate) struct Played<K = Boxed> {
     pub(crate) asked: Vec<ActorId>,
 }
 
-/// Does an event, and keeps it if it was accepted.
-fn try_event<K: Actor>(
+/// Does an event, and keeps it if it was accepted. One that is refused changes nothing.
+pub fn try_event<K: Actor>(
     world: &mut World<K>,
     events: &mut Vec<Event>,
     event: Event,
 ) -> Result<Outcome, PlayFault>
-    ensures { IfOk result (λ outcome. (casts : List ActorSpec) (h : History) →
+    ensures behind { IfOk result (λ outcome. (casts : List ActorSpec) (h : History) →
         IsBehind casts h (world_view K.state world.old) events.old.items →
         (outcome ≡ outcome_of h event)
         × IsBehind casts (after h event) (world_view K.state world.new) events.new.items) }
+    ensures kept { IfOk result (λ outcome. OnOk outcome (events.new.items ≡ events.old.items ++ event ∷ [])) }
+    ensures refused { IfOk result (λ outcome. OnErr outcome ((world.new ≡ world.old) × (events.new ≡ events.old))) }
 {
     if !world.has_room(1) {
         return Err(PlayFault::Stuck);
@@ -50,15 +52,16 @@ fn try_event<K: Actor>(
 }
 
 /// Does an event that has to be accepted.
-pub(crate) fn do_event<K: Actor>(
+pub fn do_event<K: Actor>(
     world: &mut World<K>,
     events: &mut Vec<Event>,
     event: Event,
 ) -> Result<Did, PlayFault>
-    ensures { IfOk result (λ told. (casts : List ActorSpec) (h : History) →
+    ensures behind { IfOk result (λ told. (casts : List ActorSpec) (h : History) →
         IsBehind casts h (world_view K.state world.old) events.old.items →
         (refusal_of h event ≡ None) × (told ≡ did h event)
         × IsBehind casts (add_event h event) (world_view K.state world.new) events.new.items) }
+    ensures kept { OnOk result (events.new.items ≡ events.old.items ++ event ∷ []) }
 {
     let outcome = try_event(world, events, event)?;
     match outcome {

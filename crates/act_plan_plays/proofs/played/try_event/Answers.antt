@@ -3,8 +3,8 @@ use Rattle.act_plan_plays.proofs.Events.{behind_more, behind_same}
 use Rattle.act_plan_plays.proofs.played.try_event.Goals as goal
 use Rattle.act_plan_plays.proofs.played.try_event.Goals.{then-is_ok+in_ok-push, else-is_ok}
 
-pub returns : goal.returns
-returns g c = λ casts h behind.
+pub returns-clause-behind : goal.returns-clause-behind
+returns-clause-behind g c = λ casts h behind.
     let no = sym c.is_memory.ensures ∙ c.if-is_memory.false in
     let told = c.apply-outcome.ensures.outcome no casts c.args.events.now.items behind.reached in
     let reached = c.apply-outcome.ensures.reached no casts c.args.events.now.items behind.reached in (
