@@ -7,7 +7,7 @@ use act_rules::{Event, Role};
 use act_types::CallerId;
 
 /// Whether two lists of callers are the same.
-fn same_callers(one: &[CallerId], other: &[CallerId]) -> bool
+pub fn same_callers(one: &[CallerId], other: &[CallerId]) -> bool
     ensures { IsTrue result ↔ (one.now ≡ other.now) }
 {
     if one.len() != other.len() {
