@@ -1,0 +1,311 @@
+-- How a walk rests: events of that time one after the other.
+use Rattle.std.proofs.Common.{◌≡◌, ℕ, ◌+◌, ◌<◌, ◌≤◌, ◌==◌, nat_lt, length, get_or, take, arith, Bool, true, false, List, [], ◌∷◌, ◌++◌, Option, Some, None, Result, Ok, Err, inl, inr, ◌⊎◌, refl, ap, sym, ◌∙◌, subst, append_assoc, OnOk, OnErr, is_some, option_map, slice_get}
+use Rattle.std.proofs.lemmas.Option.{get_or_from_slice_get, slice_get-get_or, slice_get_within}
+use Rattle.std.specs.Global.{Vec}
+use Rattle.std.specs.List.{find}
+use Rattle.std.specs.Option.{option_map_or}
+use Rattle.std.proofs.lemmas.Bool.{cases_lt, eqb-true, or_cases}
+use Rattle.std.proofs.lemmas.Bool.Decides.{nat_tests}
+use Rattle.std.proofs.lemmas.List.{append-nil, take_all, take_more}
+use Rattle.std.proofs.lemmas.List.Elements.{All-append, All-cons, All-nil}
+use Rattle.act_rules.specs.declared.event.Event.{Event}
+use Rattle.act_rules.specs.declared.event.Event.TheVariants as event
+use Rattle.act_rules.specs.declared.outcome.Did.{Did}
+use Rattle.act_rules.specs.declared.outcome.Did.TheVariants as did_so
+use Rattle.act_rules.specs.declared.outcome.WorldRefusal.{WorldRefusal}
+use Rattle.act_rules.specs.History.{ActorSpec, History, opening, contains, cast_of, names, is_caller, copies_of}
+use Rattle.act_rules.specs.Laws.{history}
+use Rattle.act_rules.specs.Rules.{refusal_of, outcome_of, outcome_by, did, add_event, after}
+use Rattle.act_rules.specs.Submissions.{needs, copies_held, handle_refusal}
+use Rattle.act_rules.specs.declared.outcome.HandleRefusal.TheVariants.{NoActor, NoHandle}
+use Rattle.act_rules.specs.declared.outcome.WorldRefusal.TheVariants.{Handle, NoCaller}
+use Rattle.act_rules.specs.declared.script.Step.{Step}
+use Rattle.act_rules.proofs.Ended.{needs-none}
+use Rattle.act_rules.proofs.Growth.{added_grows}
+use Rattle.act_rules.proofs.Lists.{option_map-none}
+use Rattle.act_rules.proofs.RanAll.{copies_named}
+use Rattle.act_rules.proofs.Steps.{after_all_keeps}
+use Rattle.act_early.proofs.Worlds.{contains_push}
+use Rattle.act_world.specs.View.{WorldView}
+use Rattle.act_plan_plays.specs.Parts.{IsBehind, after_mail, after_post}
+use Rattle.act_plan_plays.specs.declared.choice.PlayFault.{PlayFault}
+use Rattle.act_plan_plays.proofs.Events.{done_of}
+use Rattle.act_told_ends.specs.Told.{Told}
+use Rattle.act_told_ends.specs.Retiring.{RetiredAsTold}
+use Rattle.act_walks.specs.declared.told.ToldActor.{ToldActor}
+use Rattle.act_walks.specs.declared.told.ToldEnd.{ToldEnd}
+use Rattle.act_walks.specs.Eager.{SomeEnd, IsAtRest}
+use Rattle.act_walks.specs.Fits.{callers_of, Fits, FitsCasts}
+use Rattle.act_walks.specs.Rested.{is_restful, OnlyRests, RestsOn, IsToldRetired, SaysRetired, CannotHappen, HoldNone, IsSettled, AreSettled}
+use Rattle.act_walks.proofs.AtRest as at_rest
+
+-- ---- nothing else happened
+
+abbrev IsRestful : Event → Type 0
+IsRestful event = is_restful event ≡ true
+
+pub only_none : (events : List Event) → OnlyRests events events
+only_none events = ([], sym (append-nil events), All-nil IsRestful)
+
+pub only_one : (before after : List Event) (event : Event) → is_restful event ≡ true → after ≡ before ++ event ∷ [] → OnlyRests before after
+only_one before after event is kept = (event ∷ [], kept, All-cons IsRestful event [] is (All-nil IsRestful))
+
+pub only_trans : (before between after : List Event) → OnlyRests before between → OnlyRests between after → OnlyRests before after
+only_trans before between after (first, is, some) (second, then, others) = (
+  first ++ second,
+  then ∙ ap (λ (l : List Event). l ++ second) is ∙ append_assoc before first second,
+  All-append IsRestful first second some others,
+)
+
+-- an event that is tried
+pub only_tried : {A : Type 0} (outcome : Result Did WorldRefusal) (event : Event) (old new : A) (before later : Vec Event) → is_restful event ≡ true
+    → OnOk outcome (later.items ≡ before.items ++ event ∷ []) → OnErr outcome ((new ≡ old) × (later ≡ before)) → OnlyRests before.items later.items
+only_tried (Ok told) event old new before later is kept same = only_one before.items later.items event is kept
+only_tried (Err refusal) event old new before later is kept same =
+    subst (OnlyRests before.items) (ap (λ (v : Vec Event). v.items) (sym same.1)) (only_none before.items)
+
+-- ---- one after the other
+
+pub rests_none : (may : Told → Type 0) (world : WorldView) (events : List Event) → RestsOn may world world events events
+rests_none may world events = record { only = only_none events; behind = λ casts behind. behind; rests = λ casts told is behind rest. rest }
+
+pub rests_same : (may : Told → Type 0) {old new : WorldView} {before later : List Event} → new ≡ old → later ≡ before → RestsOn may old new before later
+rests_same may {old = old} {new = new} {before = before} {later = later} world events = subst (λ (w : WorldView). RestsOn may old w before later) (sym world)
+    (subst (λ (l : List Event). RestsOn may old old before l) (sym events) (rests_none may old before))
+
+pub rests_trans : {may : Told → Type 0} {old mid new : WorldView} {before between later : List Event} → RestsOn may old mid before between
+    → RestsOn may mid new between later → RestsOn may old new before later
+rests_trans {before = before} {between = between} {later = later} first second = record {
+  only = only_trans before between later first.only second.only;
+  behind = λ casts behind. second.behind casts (first.behind casts behind);
+  rests = λ casts told is behind rest. second.rests casts told is (first.behind casts behind) (first.rests casts told is behind rest);
+}
+
+pub rests_for : {may other : Told → Type 0} {old new : WorldView} {before later : List Event} → ((told : Told) → other told → may told)
+    → RestsOn may old new before later → RestsOn other old new before later
+rests_for from is = record {
+  only = is.only;
+  behind = is.behind;
+  rests = λ casts told so behind rest. is.rests casts told (from told so) behind rest;
+}
+
+-- ---- one event
+
+-- the history of a world is that of its events
+pub behind_itself : (casts : List ActorSpec) (h : History) (world : WorldView) (events : List Event) → IsBehind casts h world events
+    → IsBehind casts (history casts events) world events
+behind_itself casts h world events behind = record { is = refl; reached = behind.reached; accepted = behind.accepted }
+
+-- what is told of an event that is tried, and what is left
+abbrev pub Tried : Event → Result Did WorldRefusal → WorldView → WorldView → List Event → List Event → Type 0
+Tried event outcome old new before later = (casts : List ActorSpec) (h : History) → IsBehind casts h old before →
+    (outcome ≡ outcome_of h event) × IsBehind casts (after h event) new later
+
+accepted : (event : Event) (told : Did) (old new : WorldView) (before later : List Event) → Tried event (Ok told) old new before later
+    → (casts : List ActorSpec) (h : History) → IsBehind casts h old before
+    → (refusal_of h event ≡ None) × (told ≡ did h event) × IsBehind casts (add_event h event) new later
+accepted event told old new before later tried casts h behind =
+    let was = tried casts h behind in
+    let done = done_of h event told was.0 in
+    (done.0, done.1, subst (λ (k : History). IsBehind casts k new later) done.2 was.1)
+
+-- an event that is refused can't happen
+pub refused : (event : Event) (refusal : WorldRefusal) (old new : WorldView) (before later : List Event) → Tried event (Err refusal) old new before later
+    → CannotHappen event old before
+refused event refusal old new before later tried casts behind may =
+    not_ok (refusal_of (history casts before) event) (tried casts (history casts before) behind).0 may
+  where
+    not_ok : (o : Option WorldRefusal) → Err refusal ≡ outcome_by (history casts before) event o → o ≡ None → ⊥
+    not_ok None e none = cc
+    not_ok (Some other) e none = cc
+
+pub refused_same : (event : Event) (refusal : WorldRefusal) {old new : WorldView} {before later : List Event} → new ≡ old → later ≡ before
+    → Tried event (Err refusal) old new before later → CannotHappen event new later
+refused_same event refusal {old = old} {new = new} {before = before} {later = later} world events tried =
+    subst (λ (w : WorldView). CannotHappen event w later) (sym world)
+    (subst (λ (l : List Event). CannotHappen event old l) (sym events) (refused event refusal old new before later tried))
+
+-- where no letter is told, none is brought
+pub no_mail : (h : History) (d : Did) → ((i : ℕ) → d ≡ did_so.Mail i → ⊥) → after_mail d h ≡ h
+no_mail h (did_so.Future c k) none = refl
+no_mail h (did_so.Copies n) none = refl
+no_mail h (did_so.Mail i) none = absurd (none i refl)
+no_mail h (did_so.Arrived arrival) none = refl
+no_mail h (did_so.Ran place j) none = refl
+no_mail h did_so.Gap none = refl
+no_mail h (did_so.Kept c k) none = refl
+no_mail h (did_so.Late c k) none = refl
+no_mail h (did_so.Died n) none = refl
+no_mail h did_so.Asked none = refl
+no_mail h did_so.Dead none = refl
+no_mail h (did_so.Told j) none = refl
+no_mail h did_so.Retired none = refl
+
+-- a handle that is let go, and its note
+pub release_rests : (c a : ℕ) (told : Did) (old mid new : WorldView) (before between later : List Event)
+    → Tried (event.Release c a) (Ok told) old mid before between
+    → between ≡ before ++ event.Release c a ∷ [] → OnlyRests between later
+    → ((casts : List ActorSpec) (h : History) → IsBehind casts h mid between → IsBehind casts (after_mail told h) new later)
+    → RestsOn (IsToldRetired a) old new before later
+release_rests c a told old mid new before between later tried kept only brings = record {
+  only = only_trans before between later (only_one before between (event.Release c a) refl kept) only;
+  behind = λ casts behind. behind_itself casts (posted casts behind).0 new later (posted casts behind).1;
+  rests = λ casts what is behind rest.
+      let done = accepted (event.Release c a) told old mid before between tried casts (history casts before) behind in
+      let next = brings casts (add_event (history casts before) (event.Release c a)) done.2 in
+      let same : history casts later ≡ after_post (event.Release c a) (history casts before) =
+      sym next.is ∙ ap (λ (d : Did). after_mail d (add_event (history casts before) (event.Release c a))) done.1 in
+      subst (IsAtRest what) (sym same) (at_rest.let_go what (history casts before) rest c a done.0);
+}
+  where
+    posted : (casts : List ActorSpec) → IsBehind casts (history casts before) old before → (g : History) × IsBehind casts g new later
+    posted casts behind =
+        let done = accepted (event.Release c a) told old mid before between tried casts (history casts before) behind in
+        (after_mail told (add_event (history casts before) (event.Release c a)), brings casts (add_event (history casts before) (event.Release c a)) done.2)
+
+-- an actor that retires
+pub retire_rests : (a : ℕ) (told : Did) (old new : WorldView) (before later : List Event) → Tried (event.Retire a) (Ok told) old new before later
+    → later ≡ before ++ event.Retire a ∷ [] → RestsOn (IsToldRetired a) old new before later
+retire_rests a told old new before later tried kept = record {
+  only = only_one before later (event.Retire a) refl kept;
+  behind = λ casts behind.
+      let done = accepted (event.Retire a) told old new before later tried casts (history casts before) behind in
+      behind_itself casts (add_event (history casts before) (event.Retire a)) new later done.2;
+  rests = λ casts what is behind rest.
+      let done = accepted (event.Retire a) told old new before later tried casts (history casts before) behind in
+      subst (IsAtRest what) done.2.is (at_rest.retired what (history casts before) rest a is done.0);
+}
+
+-- ---- whether something moved
+
+-- a call that tells this
+abbrev tells : Bool → Result Bool PlayFault
+tells b = Ok b
+
+pub told_false : (b : Bool) → b ≡ false → tells b ≡ tells false
+told_false b e = ap tells e
+
+pub tells_none : (b : Bool) → tells b ≡ tells false → b ≡ false
+tells_none b e = cc
+
+pub not_first : (n : ℕ) → tells (nat_lt 0 n) ≡ tells false → n ≡ 0
+not_first n e = let none : nat_lt 0 n ≡ false = cc in grind (arith, nat_tests)
+
+-- one caller more that can let no handle go
+pub hold_none : (a : ℕ) (world : WorldView) (events : List Event) → HoldNone [] a world events
+hold_none a world events c e = cc
+
+pub hold_more : (callers : List ℕ) (i c a : ℕ) (world : WorldView) (events : List Event) → i < length callers → c ≡ get_or callers i c
+    → HoldNone (take i callers) a world events
+    → CannotHappen (event.Release c a) world events → HoldNone (take (i + 1) callers) a world events
+hold_more callers i c a world events within is before now d among =
+    go (or_cases (contains d (take i callers)) (c == d) (sym (contains_push d c (take i callers)) ∙ ap (contains d) (sym more) ∙ among))
+  where
+    more : take (i + 1) callers ≡ take i callers ++ c ∷ []
+    more = take_more callers i c within ∙ ap (λ (x : ℕ). take i callers ++ x ∷ []) (sym is)
+
+    go : (contains d (take i callers) ≡ true) ⊎ ((c == d) ≡ true) → CannotHappen (event.Release d a) world events
+    go (inl there) = before d there
+    go (inr same) = subst (λ (x : ℕ). CannotHappen (event.Release x a) world events) (eqb-true c d same) now
+
+pub hold_same : (callers : List ℕ) (a : ℕ) {old new : WorldView} {before later : List Event} → new ≡ old → later ≡ before → HoldNone callers a old before
+    → HoldNone callers a new later
+hold_same callers a {old = old} {new = new} {before = before} {later = later} world events hold =
+    subst (λ (w : WorldView). HoldNone callers a w later) (sym world) (subst (λ (l : List Event). HoldNone callers a old l) (sym events) hold)
+
+pub hold_all : (callers : List ℕ) (i a : ℕ) (world : WorldView) (events : List Event) → length callers ≤ i → HoldNone (take i callers) a world events
+    → HoldNone callers a world events
+hold_all callers i a world events whole hold = subst (λ (l : List ℕ). HoldNone l a world events) (take_all i callers whole) hold
+
+-- ---- all actors
+
+-- so of the actors below this number
+abbrev pub SettledBelow : ℕ → List ToldActor → WorldView → List Event → Type 0
+SettledBelow n actors world events = (a : ℕ) (actor : ToldActor) → a < n → slice_get actors a ≡ Some actor → actor.is_retired ≡ true →
+    IsSettled actor.callers.items a world events
+
+pub settled_none : (actors : List ToldActor) (world : WorldView) (events : List Event) → SettledBelow 0 actors world events
+settled_none actors world events a actor below at is = absurd (omega arith)
+
+pub settled_more : (n : ℕ) (actors : List ToldActor) (one : ToldActor) (world : WorldView) (events : List Event) → one ≡ get_or actors n one
+    → SettledBelow n actors world events
+    → (one.is_retired ≡ true → IsSettled one.callers.items n world events) → SettledBelow (n + 1) actors world events
+settled_more n actors one world events is before now a actor below at told = go (cases_lt a n)
+  where
+    go : (a < n) ⊎ (n ≤ a) → IsSettled actor.callers.items a world events
+    go (inl less) = before a actor less at told
+    go (inr past) =
+        let here : a ≡ n = omega (arith, below, past) in
+        let there : slice_get actors n ≡ Some actor = subst (λ (m : ℕ). slice_get actors m ≡ Some actor) here at in
+        let same : one ≡ actor = is ∙ get_or_from_slice_get actors n actor one there in
+        subst (λ (m : ℕ). IsSettled actor.callers.items m world events) (sym here)
+        (subst (λ (x : ToldActor). x.is_retired ≡ true → IsSettled x.callers.items n world events) same now told)
+
+settled_one : {callers : List ℕ} {a : ℕ} {old new : WorldView} {before later : List Event} → new ≡ old → later ≡ before → IsSettled callers a old before
+    → IsSettled callers a new later
+settled_one {callers = callers} {a = a} {old = old} {new = new} {before = before} {later = later} world events is =
+    subst (λ (w : WorldView). IsSettled callers a w later) (sym world) (subst (λ (l : List Event). IsSettled callers a old l) (sym events) is)
+
+pub settled_same : (n : ℕ) (actors : List ToldActor) {old new : WorldView} {before later : List Event} → new ≡ old → later ≡ before
+    → SettledBelow n actors old before
+    → SettledBelow n actors new later
+settled_same n actors world events settled a actor below at told = settled_one world events (settled a actor below at told)
+
+pub settled_all : (n : ℕ) (actors : List ToldActor) (world : WorldView) (events : List Event) → length actors ≤ n → SettledBelow n actors world events
+    → AreSettled actors world events
+settled_all n actors world events whole settled a actor at told = let within = slice_get_within actors a actor at in settled a actor (omega arith) at told
+
+-- ---- what is told
+
+pub item_there : (actors : List ToldActor) (n : ℕ) (one : ToldActor) → n < length actors → one ≡ get_or actors n one → slice_get actors n ≡ Some one
+item_there actors n one within is = slice_get-get_or actors n one within ∙ ap (λ (x : ToldActor). Some x) (sym is)
+
+-- an actor that the data says retired is told so
+pub says_retired : (end : ToldEnd) (a : ℕ) (actor : ToldActor) (told : Told) → slice_get end.actors.items a ≡ Some actor → Fits end told
+    → SaysRetired a actor told
+says_retired end a actor told at fits is = sym (fits.retired a) ∙ ap (λ (o : Option ToldActor). option_map_or (λ (x : ToldActor). x.is_retired) o false) at ∙ is
+
+-- whoever lets a handle go is named by the actor's cast
+release_named : (h : History) (c a : ℕ) → refusal_of h (event.Release c a) ≡ None → names c (cast_of a h) ≡ true
+release_named h c a may =
+    copies_named c a h (needs-none (is_some (copies_of c a h)) NoActor (needs (nat_lt 0 (copies_held (copies_of c a h))) NoHandle None) holds).0
+  where
+    holds : handle_refusal (copies_of c a h) ≡ None
+    holds = option_map-none Handle (handle_refusal (copies_of c a h))
+        (needs-none (is_caller c h) NoCaller (option_map Handle (handle_refusal (copies_of c a h))) may).1
+
+same_casts : (casts : List ActorSpec) (events : List Event) → (history casts events).casts ≡ casts
+same_casts casts events =
+    after_all_keeps (λ (h : History). h.casts ≡ casts) (λ h other same may. (added_grows h other).casts ∙ same) (opening casts) events refl
+
+-- where each of those told retired is settled, all of them retired
+pub all_retired : (end : ToldEnd) (casts : List ActorSpec) (bound : ℕ → Option (List Step)) (told : Told) (world : WorldView) (events : List Event)
+    → SomeEnd casts bound told → Fits end told
+    → FitsCasts end casts → IsBehind casts (history casts events) world events → IsAtRest told (history casts events)
+    → AreSettled end.actors.items world events
+    → RetiredAsTold told (history casts events)
+all_retired end casts bound told world events some fits named behind rest settled =
+    at_rest.settled casts bound told some events behind.accepted rest (λ c a to may. keeps c a (slice_get end.actors.items a) refl to.0 may)
+    (λ a to may. stays a (slice_get end.actors.items a) refl to.0 may)
+  where
+    says : (o : Option ToldActor) → Bool
+    says o = option_map_or (λ (x : ToldActor). x.is_retired) o false
+
+    said : (a : ℕ) (o : Option ToldActor) → slice_get end.actors.items a ≡ o → told.retired a ≡ true → says o ≡ true
+    said a o at is = ap says (sym at) ∙ fits.retired a ∙ is
+
+    keeps : (c a : ℕ) (o : Option ToldActor) → slice_get end.actors.items a ≡ o → told.retired a ≡ true
+        → refusal_of (history casts events) (event.Release c a) ≡ None → ⊥
+    keeps c a None at is may = let bad = said a None at is in cc
+    keeps c a (Some actor) at is may =
+        let own : callers_of end a ≡ actor.callers.items = ap (λ (o : Option ToldActor). option_map_or (λ (x : ToldActor). x.callers.items) o []) at in
+        let there : names c (cast_of a (opening casts)) ≡ true =
+        subst (λ (l : List ActorSpec). names c (find (λ (x : ActorSpec). x.actor == a) l) ≡ true) (same_casts casts events)
+        (release_named (history casts events) c a may) in
+        let among : contains c actor.callers.items ≡ true = ap (contains c) (sym own ∙ named.callers a) ∙ there in
+        (settled a actor at (said a (Some actor) at is)).hold c among casts behind may
+
+    stays : (a : ℕ) (o : Option ToldActor) → slice_get end.actors.items a ≡ o → told.retired a ≡ true
+        → refusal_of (history casts events) (event.Retire a) ≡ None → ⊥
+    stays a None at is may = let bad = said a None at is in cc
+    stays a (Some actor) at is may = (settled a actor at (said a (Some actor) at is)).stays casts behind may

@@ -1,0 +1,140 @@
+-- Where an eager walk can do nothing of what is told, it is through.
+use Rattle.act_early.proofs.Common.{◌≡◌, ℕ, zero, suc, Bool, true, false, List, [], ◌∷◌, ◌++◌, length, Option, Some, None, inl, inr, ◌⊎◌, refl, ap, sym, ◌∙◌, subst}
+use Rattle.act_early.proofs.Common.{Contains, slice_get, is_some, ◌||◌, not, not-true, option_map, Letter, RunItem, Post, Submission, Step, Answer}
+use Rattle.act_early.proofs.Common.{Handle, NoCaller, ActorEnded, handle_refusal, ActorSpec, History, opening, contains, names, cast_of, is_caller, copies_of}
+use Rattle.act_early.proofs.Common.{calls_of, runs_of, is_dead, is_ended, is_letter, has_letter, next_item, refusal_of, add_event, after_run, and_also}
+use Rattle.act_early.proofs.Common.{letter_actor, deliver_refusal, needs-none, copies_named, MayTake, IsKept, after_all_keeps, Contains-append_left, IsPrefix}
+use Rattle.act_early.proofs.Common.{added_grows}
+use Rattle.act_rules.specs.declared.event.Event.TheVariants as event
+use Rattle.act_rules.specs.declared.history.Post.TheVariants.{Death as DeathPost}
+use Rattle.act_rules.specs.declared.script.Step.TheVariants.{Kill}
+use Rattle.act_early.proofs.Notes.{same_letter}
+use Rattle.act_early.proofs.Worlds.{or_second}
+use Rattle.act_told_ends.specs.Told.{Told}
+use Rattle.act_told_ends.specs.Walks.{MayGoOn, Calls, Asks, Steps, DoesWithout, Sends, Delivers, Runs, Collects, TakesKill, Tells, Hears, IsThrough, IsNextRun}
+use Rattle.act_told_ends.specs.Walks.{MayHear}
+use Rattle.act_told_ends.specs.Walked.{IsWalked}
+use Rattle.act_told_ends.proofs.Lists.{place_in, push_at, stands_in}
+use Rattle.act_told_ends.proofs.Resting.{walked_left}
+use Rattle.act_told_ends.proofs.Stepped.{goes_on}
+use Rattle.act_plan_plays.specs.Parts.{IsBrought}
+use Rattle.act_walks.specs.Eager.{SomeEnd, IsEager, KillsAreAsked, IsAtRest}
+use Rattle.act_walks.proofs.Eager.{going_of}
+
+-- ---- what was collected was posted
+
+abbrev WasPosted : History → Type 0
+WasPosted h = (post : Post) → Contains h.collected post → Contains h.posts post
+
+more_posted : (h g : History) → WasPosted h → g.collected ≡ h.collected → IsPrefix h.posts g.posts → WasPosted g
+more_posted h g was same more post has = subst (λ (l : List Post). Contains l post) more.1
+    (Contains-append_left h.posts more.0 post (was post (subst (λ (l : List Post). Contains l post) same has)))
+
+collect_posted : (h : History) (j : ℕ) → WasPosted h → WasPosted (add_event h (event.Collect j))
+collect_posted h j was post has = go (slice_get h.posts j) refl has
+  where
+    either : (new : Post) (i : ℕ) → slice_get h.posts j ≡ Some new → (slice_get h.collected i ≡ Some post) ⊎ ((i ≡ length h.collected) × (post ≡ new))
+        → Contains h.posts post
+    either new i at (inl before) = was post (stands_in h.collected i post before)
+    either new i at (inr last) = subst (λ (p : Post). Contains h.posts p) (sym last.1) (stands_in h.posts j new at)
+
+    go : (o : Option Post) → slice_get h.posts j ≡ o → Contains (and_also h.collected o) post → Contains h.posts post
+    go None at has = was post has
+    go (Some new) at has =
+        let place = place_in (h.collected ++ new ∷ []) post has in
+        either new place.0 at (push_at h.collected new post place.0 place.1)
+
+was_posted_step : IsKept WasPosted
+was_posted_step h (event.Submit c a method args) was may = was
+was_posted_step h (event.Copy c a) was may = was
+was_posted_step h (event.Release c a) was may = was
+was_posted_step h (event.Send c k) was may = was
+was_posted_step h (event.Deliver i) was may = was
+was_posted_step h (event.Run a c) was may = more_posted h (add_event h (event.Run a c)) was (same (next_item a c h)) (added_grows h (event.Run a c)).posts
+  where
+    same : (o : Option RunItem) → (after_run a c h o).collected ≡ h.collected
+    same None = refl
+    same (Some item) = refl
+was_posted_step h (event.Collect j) was may = collect_posted h j was
+was_posted_step h (event.AskKill c a) was may = was
+was_posted_step h (event.TakeKill a) was may = was
+was_posted_step h (event.Tell a c) was may = more_posted h (add_event h (event.Tell a c)) was refl (added_grows h (event.Tell a c)).posts
+was_posted_step h (event.Retire a) was may = was
+
+was_posted : (casts : List ActorSpec) (bound : ℕ → Option (List Step)) (told : Told) (done : ℕ → ℕ) (h : History) → IsWalked casts bound told done h
+    → WasPosted h
+was_posted casts bound told done h walked =
+    let left = walked_left casts bound told done h walked in
+    subst WasPosted (sym left.left) (after_all_keeps WasPosted was_posted_step (opening casts) left.events
+    (λ post has. let place = place_in [] post has in let bad : None ≡ Some post = place.1 in cc))
+
+-- ---- letters
+
+pub letter_at : (letter : Letter) (letters : List Letter) (i : ℕ) → slice_get letters i ≡ Some letter → has_letter letter letters ≡ true
+letter_at letter [] i at = cc
+letter_at letter (x ∷ letters) zero at = let one : x ≡ letter = cc in
+    first (is_letter letter x) (has_letter letter letters) (ap (is_letter letter) one ∙ same_letter letter)
+  where
+    first : (y z : Bool) → y ≡ true → (y || z) ≡ true
+    first true z e = refl
+    first false z e = cc
+letter_at letter (x ∷ letters) (suc i) at = or_second (is_letter letter x) (has_letter letter letters) (letter_at letter letters i at)
+
+-- a letter that may be delivered has arrived
+pub has_arrived : (h : History) (i : ℕ) (letter : Letter) → IsBrought h → slice_get h.mail i ≡ Some letter → refusal_of h (event.Deliver i) ≡ None
+    → has_letter letter h.arrived ≡ true
+has_arrived h i letter brought at may = brought letter (letter_at letter h.mail i at)
+    (not-true (is_ended (letter_actor letter) h)
+    (needs-none (not (is_ended (letter_actor letter) h)) ActorEnded None (ap (λ (o : Option Letter). deliver_refusal o h) (sym at) ∙ may)).0)
+
+-- ---- nothing to do
+
+-- whoever may ask for a kill is named by the cast
+ask_named : (h : History) (c a : ℕ) → refusal_of h (event.AskKill c a) ≡ None → names c (cast_of a h) ≡ true
+ask_named h c a may = copies_named c a h
+    (some (copies_of c a h) (needs-none (is_caller c h) NoCaller (option_map Handle (handle_refusal (copies_of c a h))) may).1)
+  where
+    some : (o : Option ℕ) → option_map Handle (handle_refusal o) ≡ None → is_some o ≡ true
+    some None e = cc
+    some (Some n) e = refl
+
+pub stuck : (casts : List ActorSpec) (bound : ℕ → Option (List Step)) (told : Told) → SomeEnd casts bound told → (done : ℕ → ℕ) (h : History)
+    → IsEager casts bound told done h → KillsAreAsked bound told h
+    → ((c : ℕ) (call : Submission) → bound c ≡ None → slice_get (told.calls c) (length (calls_of c h)) ≡ Some call
+    → refusal_of h (event.Submit c call.actor call.method call.args) ≡ None → ⊥)
+    → ((c : ℕ) (steps : List Step) (step : Step) → bound c ≡ Some steps → slice_get steps (done c) ≡ Some step → MayTake c step h → ⊥)
+    → ((c a : ℕ) (steps : List Step) → bound c ≡ Some steps → slice_get steps (done c) ≡ Some (Kill a) → is_dead a h ≡ true → ⊥)
+    → ((a : ℕ) (item : RunItem) → IsNextRun told a h item → refusal_of h (event.Send item.caller item.future) ≡ None → ⊥)
+    → ((a : ℕ) (item : RunItem) → IsNextRun told a h item → next_item a item.caller h ≡ Some item → refusal_of h (event.Run a item.caller) ≡ None → ⊥)
+    → ((a : ℕ) → told.dead a ≡ true → length (runs_of a h) ≡ length (told.runs a) → refusal_of h (event.TakeKill a) ≡ None → ⊥)
+    → ((c a : ℕ) → MayHear told c a h → (Contains h.collected (DeathPost c a) → ⊥) → refusal_of h (event.Tell a c) ≡ None → ⊥)
+    → IsThrough bound told done h
+stuck casts bound told s done h e kills calls steps without sends runs takes tells = go (goes_on casts bound told s.0 done h s.1 e.walked)
+  where
+    none : MayGoOn bound told done h → ⊥
+    none (Calls c call free next may) = calls c call free next may
+    none (Asks c a free dead yet may) = let bad : true ≡ false = sym (kills c a free dead (ask_named h c a may)) ∙ yet in cc
+    none (Steps c all step is next may) = steps c all step is next may
+    none (DoesWithout c a all is next dead) = without c a all is next dead
+    none (Sends a item next unsent may) = sends a item next may
+    none (Delivers a i item next yet at may) = let bad : true ≡ false = sym (has_arrived h i _ e.brought at may) ∙ yet in cc
+    none (Runs a item next is may) = runs a item next is may
+    none (Collects j c a place item at there reply kept) =
+        let bad : true ≡ false = sym (e.replied j c a place item at there reply) ∙ ap (λ (o : Option Answer). is_some o) kept in cc
+    none (TakesKill a dead last may) = takes a dead (ap (λ (items : List RunItem). length items) last) may
+    none (Tells c a hears untold may) = tells c a hears (λ has. untold (was_posted casts bound told done h e.walked (DeathPost c a) has)) may
+    none (Hears j c a hears unheard at) = unheard (e.heard j c a at)
+
+    go : IsThrough bound told done h ⊎ MayGoOn bound told done h → IsThrough bound told done h
+    go (inl through) = through
+    go (inr thing) = absurd (none thing)
+
+pub at_rest : (casts : List ActorSpec) (bound : ℕ → Option (List Step)) (told : Told) → SomeEnd casts bound told → (done : ℕ → ℕ) (h : History)
+    → IsEager casts bound told done h → IsThrough bound told done h → IsAtRest told h
+at_rest casts bound told s done h e through = record {
+  leaves = through.leaves;
+  brought = e.brought;
+  only = λ a retired.
+      let bad : true ≡ false = sym retired ∙ ap (contains a) (going_of casts bound told s done h e.walked).walk.live in
+      cc;
+}

@@ -1,0 +1,6 @@
+use Rattle.act_walks.specs.Walking.{Moves, NoActs, parts_of}
+use Rattle.act_walks.proofs.acting.act_all.Given as goal
+
+-- the callers so far went on as far as they could
+abbrev pub invariant-loop-before : goal.invariant-loop-before
+invariant-loop-before g l = Moves l.end (NoActs l.end l.before) (parts_of g.K.Actor.state l.fn.walk) (parts_of g.K.Actor.state l.walk) l.moved

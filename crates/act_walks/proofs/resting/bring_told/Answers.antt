@@ -1,0 +1,26 @@
+use Rattle.std.proofs.Common.{refl, sym, subst}
+use Rattle.act_rules.specs.declared.event.Event.TheVariants.{Deliver}
+use Rattle.act_rules.specs.declared.outcome.Did.{Did}
+use Rattle.act_rules.specs.History.{History}
+use Rattle.act_world.specs.View.{world_view}
+use Rattle.act_plan_plays.specs.Parts.{IsBehind, after_mail}
+use Rattle.act_walks.proofs.Rested.{only_none, only_tried, no_mail}
+use Rattle.act_walks.proofs.resting.bring_told.Goals as goal
+
+pub returns-in_ok-_outcome-clause-only : goal.returns-in_ok-_outcome-clause-only
+returns-in_ok-_outcome-clause-only g c =
+    only_tried c.in_ok-_outcome._outcome (Deliver c.in-Mail.i) c.args.world.now c.try_event.new.world c.args.events.now c.try_event.new.events refl
+    c.in_ok-_outcome.ensures.kept c.in_ok-_outcome.ensures.refused
+
+pub returns-in_ok-_outcome-clause-behind : goal.returns-in_ok-_outcome-clause-behind
+returns-in_ok-_outcome-clause-behind g c = λ casts h behind.
+    subst (λ (d : Did). IsBehind casts (after_mail d h) (world_view g.K.Actor.state c.try_event.new.world) c.try_event.new.events.items)
+    (sym c.in-Mail.is) (c.in_ok-_outcome.ensures.behind casts h behind).1
+
+pub returns-in_default : goal.returns-in_default
+returns-in_default g c = record {
+  only = only_none c.args.events.now.items;
+  behind = λ casts h behind.
+      subst (λ (k : History). IsBehind casts k (world_view g.K.Actor.state c.args.world.now) c.args.events.now.items)
+      (sym (no_mail h c.args.told c.in_default.not-Mail)) behind;
+}

@@ -1,0 +1,8 @@
+use Rattle.act_world.specs.View.{world_view}
+use Rattle.act_walks.specs.Fits.{Fits}
+use Rattle.act_walks.specs.Rested.{RestsOn}
+use Rattle.act_walks.proofs.resting.retire_all.Given as goal
+
+-- it still rests
+abbrev pub invariant-loop : goal.invariant-loop
+invariant-loop g l = RestsOn (Fits l.end) (world_view g.K.Actor.state l.fn.world) (world_view g.K.Actor.state l.world) l.fn.events.items l.events.items

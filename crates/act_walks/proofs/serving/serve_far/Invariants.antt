@@ -1,0 +1,10 @@
+use Rattle.act_early.proofs.Common.{◌≡◌, false}
+use Rattle.act_walks.specs.Walking.{GoesOn, parts_of}
+use Rattle.act_walks.proofs.serving.serve_far.Given as goal
+
+-- the walk went on, or is as it was
+abbrev pub invariant-loop : goal.invariant-loop
+invariant-loop g l = record {
+  goes : GoesOn l.end (parts_of g.K.Actor.state l.fn.walk) (parts_of g.K.Actor.state l.walk);
+  same : l.moved ≡ false → parts_of g.K.Actor.state l.walk ≡ parts_of g.K.Actor.state l.fn.walk;
+}

@@ -1,0 +1,15 @@
+use Rattle.act_early.proofs.Common.{◌≡◌, Some, length, arith, sym, ap, ◌∙◌, List, ℕ}
+use Rattle.act_walks.specs.Walking.{parts_of}
+use Rattle.act_walks.specs.Fits.{actor_in}
+use Rattle.act_walks.proofs.Shown.{read_at}
+use Rattle.act_walks.proofs.Runs.{kill_moves, actor_dead, actor_runs}
+use Rattle.act_walks.proofs.serving.take_kill.Goals as goal
+
+pub returns : goal.returns
+returns g c =
+    let there : actor_in c.args.end.now c.args.a ≡ Some c.in-Some.actor.now =
+    read_at c.deref.result.now c.args.end.now.actors.items c.number.result c.args.a c.in-Some.actor.now c.deref.ensures.value c.number.ensures.value c.in-Some.ensures.lookup.0 c.in-Some.ensures.lookup.1 in
+    let long : c.len.result ≡ length c.in-Some.actor.now.runs.items = omega (arith, c.len.ensures) in
+    kill_moves c.args.end.now c.args.a c.count_runs.result (parts_of g.K.Actor.state c.args.walk.now) (parts_of g.K.Actor.state c.try_do.new.walk) c.in_ok-moved.moved
+    (actor_dead c.args.end.now c.args.a (Some c.in-Some.actor.now) there ∙ c.if-not-actor.false) c.count_runs.ensures
+    (c.if-count_runs-len.false ∙ long ∙ ap (λ (l : List (ℕ × ℕ)). length l) (sym (actor_runs c.args.end.now c.args.a c.in-Some.actor.now there))) c.in_ok-moved.ensures

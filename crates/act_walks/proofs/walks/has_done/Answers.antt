@@ -1,0 +1,8 @@
+use Rattle.act_early.proofs.Common.{◌≡◌, length, arith}
+use Rattle.act_walks.proofs.Wholly.{has_done_all}
+use Rattle.act_walks.proofs.walks.has_done.Goals as goal
+
+pub returns : goal.returns
+returns c =
+    let long : c.len.result ≡ length c.in-Some.steps.items = omega (arith, c.len.ensures) in
+    has_done_all c.args.done.now c.steps_done.result c.len.result c.args.number c.in-Some.steps c.args.caller.now c.in-Some.is long c.steps_done.ensures
