@@ -7,7 +7,13 @@ pub use Rattle.act_console.specs.Parts.{world_report}
 pub use Rattle.act_console.specs.Plans.{script_of, steps_of_caller}
 pub use Rattle.act_executor.specs.PlanPlays.{DoesPlanIn, DoesStepIn, step_of}
 pub use Rattle.act_histories.specs.Checked.{Checked, IsBeforeVerdict, IsVerdict, IsVerdictOf, WroteVerdict}
-pub use Rattle.act_histories.specs.Lines.{AreTold, AreToldAsTheyStand, IsToldAs, Make, is_open, told_line}
+pub use Rattle.act_summaries.specs.Lines.{AreTold, IsToldAs, Make, told_line}
+pub use Rattle.act_histories.specs.Fits.{AllFitSteps, FitsSteps, StartsWith, binding, own_step}
+pub use Rattle.act_walks.specs.Fits.{bound_of, caller_in, calls_in, runs_in, steps_in, submission_of_call}
+pub use Rattle.act_walks.specs.declared.told.ToldCaller.{ToldCaller}
+pub use Rattle.act_walks.specs.declared.told.ToldEnd.{ToldEnd}
+pub use Rattle.act_histories.specs.Placed.{AllDecided, IsCallIn, IsDecided, IsPlacedAt, MayHaveDied, RunsArePlaced, StandsThere}
+pub use Rattle.act_walks.specs.declared.told.ToldCall.{ToldCall}
 pub use Rattle.act_histories.specs.Order.{HasDone, HasDoneTo, HaveDone, IsPast, Tells}
 pub use Rattle.act_histories.specs.Play.{BeginsWith, DoesSteps, EndsSo, HasCalls, IsNext, IsPlayScript, IsPlayText, awaits, call_of, calls_of_steps, is_await}
 pub use Rattle.act_histories.specs.declared.check.Verdict.{Verdict}
@@ -15,8 +21,8 @@ pub use Rattle.act_histories.specs.declared.fault.CheckFault.{CheckFault}
 pub use Rattle.act_owner.specs.Owner.{call_at, numbered_call}
 pub use Rattle.act_owner.specs.declared.owner.Call.{Call}
 pub use Rattle.act_rules.proofs.Steps.{outcomes-append}
-pub use Rattle.act_rules.specs.Grammar.{Script, spelled}
-pub use Rattle.act_rules.specs.History.{ActorSpec, opening}
+pub use Rattle.act_rules.specs.Grammar.{Script, is_skipped, lines_in, spelled}
+pub use Rattle.act_rules.specs.History.{ActorSpec, calls_of, opening}
 pub use Rattle.act_rules.specs.Laws.{history}
 pub use Rattle.act_rules.specs.Report.{summary}
 pub use Rattle.act_rules.specs.Rules.{Outcome, outcome_of, outcomes}
@@ -30,11 +36,13 @@ pub use Rattle.act_rules.specs.declared.script.Step.{Step}
 pub use Rattle.act_types.specs.declared.call.Arg.{Arg}
 pub use Rattle.act_types.specs.declared.call.Method.{Method}
 pub use Rattle.act_types.specs.declared.limits.TheConstants.{MAX_SCRIPT_BYTES}
+pub use Rattle.act_world.proofs.Headline.{calls_are}
+pub use Rattle.act_world.proofs.Lawful.{world_lawful}
 pub use Rattle.act_world.proofs.Lists.{get_set-other}
 pub use Rattle.act_world.specs.IsReachedBy.{HasRoom, IsReachedBy}
 pub use Rattle.act_world.specs.View.{WorldView, world_view}
 pub use Rattle.std.proofs.Common.{All, Bool, Bor, Err, IsOk, IsTrue, List, None, Ok, Option, Result, Some, [], ap, append_assoc, arith, false, filter, get_or}
-pub use Rattle.std.proofs.Common.{if◌then◌else◌, inl, inr, leb, length, map, option_map, refl, rules, slice_get, slice_set, string_bytes, subst, suc, sym, take}
+pub use Rattle.std.proofs.Common.{if◌then◌else◌, inl, inr, leb, length, map, not, option_map, refl, rules, slice_get, slice_set, string_bytes, subst, suc, sym, take}
 pub use Rattle.std.proofs.Common.{tests, true, zero, ℕ, ◌&&◌, ◌++◌, ◌+◌, ◌-◌, ◌<◌, ◌==◌, ◌||◌, ◌∙◌, ◌∷◌, ◌≡◌, ◌≤◌, ◌⊎◌}
 pub use Rattle.std.proofs.Math.Bool.{or-false}
 pub use Rattle.std.proofs.lemmas.Bool.{eq-eqb, eqb-true, leb-false, leb-true}
@@ -42,7 +50,7 @@ pub use Rattle.std.proofs.lemmas.Grind.{flat_map-append}
 pub use Rattle.std.proofs.lemmas.Iterator.Consumers.{YieldsList-end}
 pub use Rattle.std.proofs.lemmas.Iterator.Splits.{YieldsList-from_slice_split}
 pub use Rattle.std.proofs.lemmas.List.{append-nil, map-append, take_all, take_more}
-pub use Rattle.std.proofs.lemmas.List.Elements.{All-append, All-cons, All-head, All-more, All-nil, All-tail, filter-append}
+pub use Rattle.std.proofs.lemmas.List.Elements.{All-append, All-cons, All-more, All-nil, filter-append}
 pub use Rattle.std.proofs.lemmas.List.Folds.{list_any-append}
 pub use Rattle.std.proofs.lemmas.Option.{get_or_from_slice_get, slice_get-get_or, slice_get_cases}
 pub use Rattle.std.proofs.lemmas.Result.{IfOk-weaker}

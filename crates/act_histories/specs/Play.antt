@@ -17,7 +17,7 @@ use Rattle.act_rules.specs.Grammar.{Script, spelled}
 use Rattle.act_rules.specs.Scripts.{actor_spec_of}
 use Rattle.act_console.specs.Plans.{steps_of_caller}
 use Rattle.act_executor.specs.PlanPlays.{DoesPlanIn}
-use Rattle.act_histories.specs.Lines.{AreTold}
+use Rattle.act_summaries.specs.Lines.{AreTold}
 
 -- the call that a step submits, where it is one of the caller
 abbrev pub call_of : ℕ → ℕ × Step × ℕ → List Submission

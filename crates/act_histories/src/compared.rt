@@ -1,6 +1,6 @@
 //! A play that was found, played in a world, and compared with what is told.
 
-ghost use Rattle.std.specs.Prelude.{◌≡◌, ◌≢◌, ◌↔◌, ◌≤◌, ◌<◌, ◌++◌, ℕ, true, List, [], length, map, take, IfOk, IfSome, IsOk, IsTrue, All, Option, Some};
+ghost use Rattle.std.specs.Prelude.{◌≡◌, ◌≢◌, ◌↔◌, ◌≤◌, ◌<◌, ◌++◌, ℕ, true, List, [], length, map, take, IfOk, IfSome, IsOk, IsTrue, All, Option, Some, None};
 ghost use Rattle.act_rules.specs.declared.event.Event.{Event as Happening};
 ghost use Rattle.act_rules.specs.History.{ActorSpec, opening};
 ghost use Rattle.act_rules.specs.Laws.{history};
@@ -8,7 +8,7 @@ ghost use Rattle.act_rules.specs.Report.{summary};
 ghost use Rattle.act_rules.specs.Rules.{outcomes};
 ghost use Rattle.act_world.specs.IsReachedBy.{IsReachedBy, HasRoom};
 ghost use Rattle.act_world.specs.View.{world_view};
-ghost use Rattle.act_histories.specs.Lines.{AreTold};
+ghost use Rattle.act_summaries.specs.Lines.{AreTold};
 ghost use Rattle.act_histories.specs.Play.{EndsSo, HasCalls, awaits, DoesSteps, BeginsWith, IsNext, call_of, calls_of_steps};
 
 use crate::in_order::play_in_order;
@@ -25,6 +25,7 @@ use std::alloc::Global;
 /// Whether the caller's call of this future goes to the actor, with this method and these arguments.
 fn has_call(owner: &Owner, k: u32, actor: ActorId, method: &Method, args: &[Arg]) -> bool
     ensures next { IsTrue result → IsNext k actor method.now args.now owner.now.calls }
+    ensures exact { IsNext k actor method.now args.now owner.now.calls → IsTrue result }
     ensures few { IsTrue result → k < MAX_CALLS }
 {
     if k >= owner.count() {
@@ -42,8 +43,11 @@ fn has_call(owner: &Owner, k: u32, actor: ActorId, method: &Method, args: &[Arg]
 /// How many of the caller's calls the steps told so far after this one, where it submits the next.
 fn told_after(owner: &Owner, c: CallerId, told: u32, caller: CallerId, step: &Step) -> Option<u32>
     requires { told ≤ length owner.now.calls }
-    ensures { (line : ℕ) → IfSome result (λ next.
+    ensures begins { (line : ℕ) → IfSome result (λ next.
         BeginsWith next (take told owner.now.calls ++ call_of c (caller, step.now, line)) owner.now.calls) }
+    ensures exact { (line next : ℕ) →
+        BeginsWith next (take told owner.now.calls ++ call_of c (caller, step.now, line)) owner.now.calls →
+        result ≢ None }
 {
     if caller != c {
         return Some(told);
@@ -62,7 +66,9 @@ fn told_after(owner: &Owner, c: CallerId, told: u32, caller: CallerId, step: &St
 
 /// Whether the caller's calls are those that its steps submit, if any do.
 fn has_calls(owner: &Owner, c: CallerId, steps: &[(CallerId, Step, u32)]) -> bool
-    ensures { IsTrue result → calls_of_steps c steps.now ≢ [] → owner.now.calls ≡ calls_of_steps c steps.now }
+    ensures has { IsTrue result → calls_of_steps c steps.now ≢ [] → owner.now.calls ≡ calls_of_steps c steps.now }
+    ensures exact { (calls_of_steps c steps.now ≢ [] → owner.now.calls ≡ calls_of_steps c steps.now) →
+        IsTrue result }
 {
     let mut told = 0;
     for step in steps {
@@ -76,14 +82,16 @@ fn has_calls(owner: &Owner, c: CallerId, steps: &[(CallerId, Step, u32)]) -> boo
 
 /// Whether the step submits nothing of this caller's.
 fn is_silent(c: CallerId, caller: CallerId, step: &Step) -> bool
-    ensures { (line : ℕ) → IsTrue result → call_of c (caller, step.now, line) ≡ [] }
+    ensures silent { (line : ℕ) → IsTrue result → call_of c (caller, step.now, line) ≡ [] }
+    ensures exact { (line : ℕ) → call_of c (caller, step.now, line) ≡ [] → IsTrue result }
 {
     caller != c || !matches!(step, Step::Submit(..))
 }
 
 /// Whether no step submits a call of this caller.
-fn has_none(c: CallerId, steps: &[(CallerId, Step, u32)]) -> bool
-    ensures { IsTrue result → calls_of_steps c steps.now ≡ [] }
+pub(crate) fn has_none(c: CallerId, steps: &[(CallerId, Step, u32)]) -> bool
+    ensures none { IsTrue result → calls_of_steps c steps.now ≡ [] }
+    ensures exact { calls_of_steps c steps.now ≡ [] → IsTrue result }
 {
     for step in steps {
         if !is_silent(c, step.0, &step.1) {
@@ -95,8 +103,11 @@ fn has_none(c: CallerId, steps: &[(CallerId, Step, u32)]) -> bool
 
 /// Whether the calls of the caller are those that its steps submit, if any do.
 fn has_calls_of<K: Actor>(world: &World<K>, c: CallerId, steps: &[(CallerId, Step, u32)]) -> bool
-    ensures { IsTrue result → (casts : List ActorSpec) (events : List Happening) →
+    ensures has { IsTrue result → (casts : List ActorSpec) (events : List Happening) →
         IsReachedBy casts events (world_view K.state world.now) → HasCalls c steps.now (history casts events) }
+    ensures exact { (casts : List ActorSpec) (events : List Happening) →
+        IsReachedBy casts events (world_view K.state world.now) → HasCalls c steps.now (history casts events) →
+        IsTrue result }
 {
     match world.owner(c) {
         None => has_none(c, steps),
@@ -107,8 +118,11 @@ fn has_calls_of<K: Actor>(world: &World<K>, c: CallerId, steps: &[(CallerId, Ste
 /// Whether the calls of the caller of this number are those that its steps submit, if any do.
 fn has_calls_at<K: Actor>(world: &World<K>, number: u8, steps: &[(CallerId, Step, u32)]) -> bool
     requires { (1 ≤ number) × (number ≤ MAX_CALLERS) }
-    ensures { IsTrue result → (casts : List ActorSpec) (events : List Happening) →
+    ensures has { IsTrue result → (casts : List ActorSpec) (events : List Happening) →
         IsReachedBy casts events (world_view K.state world.now) → HasCalls number steps.now (history casts events) }
+    ensures exact { (casts : List ActorSpec) (events : List Happening) →
+        IsReachedBy casts events (world_view K.state world.now) → HasCalls number steps.now (history casts events) →
+        IsTrue result }
 {
     let c = CallerId::new(number).unwrap();
     has_calls_of(world, c, steps)
@@ -116,9 +130,12 @@ fn has_calls_at<K: Actor>(world: &World<K>, number: u8, steps: &[(CallerId, Step
 
 /// Whether the calls of each caller are those that its steps submit, if any do.
 fn has_all_calls<K: Actor>(world: &World<K>, steps: &[(CallerId, Step, u32)]) -> bool
-    ensures { IsTrue result → (casts : List ActorSpec) (events : List Happening) →
+    ensures have { IsTrue result → (casts : List ActorSpec) (events : List Happening) →
         IsReachedBy casts events (world_view K.state world.now) →
         (c : ℕ) → 1 ≤ c → c ≤ MAX_CALLERS → HasCalls c steps.now (history casts events) }
+    ensures exact { (casts : List ActorSpec) (events : List Happening) →
+        IsReachedBy casts events (world_view K.state world.now) →
+        ((c : ℕ) → 1 ≤ c → c ≤ MAX_CALLERS → HasCalls c steps.now (history casts events)) → IsTrue result }
 {
     for before in 0..MAX_CALLERS {
         if !has_calls_at(world, before + 1, steps) {
@@ -153,15 +170,16 @@ fn play_in<K: Actor>(
 
 /// Whether the bytes are the same.
 fn same_bytes(one: &[u8], other: &[u8]) -> bool
-    ensures { IsTrue result → one.now ≡ other.now }
+    ensures { IsTrue result ↔ (one.now ≡ other.now) }
 {
     one == other
 }
 
 /// Whether the world shows the lines of the history.
 fn shows<K: Actor>(alloc: Global, world: &World<K>, rest: &[u8]) -> Result<bool, NoMemory>
-    ensures { IfOk result (λ is. IsTrue is → (casts : List ActorSpec) (events : List Happening) →
-        IsReachedBy casts events (world_view K.state world.now) → AreTold rest.now (summary (history casts events))) }
+    ensures { IfOk result (λ is. (casts : List ActorSpec) (events : List Happening) →
+        IsReachedBy casts events (world_view K.state world.now) →
+        IsTrue is ↔ AreTold rest.now (summary (history casts events))) }
 {
     let mut text = String::new(alloc);
     play_report(alloc, world, &[], &mut text)?;

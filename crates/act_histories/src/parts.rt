@@ -1,7 +1,8 @@
 //! The two parts of a history: the lines of its script, and those of what was left.
 
-ghost use Rattle.std.specs.Prelude.{◌≡◌, ◌≢◌, ◌≤◌, ◌++◌, ℕ, List, All, length, IsTrue, IfOk, OnOk};
-ghost use Rattle.act_histories.specs.Lines.{told_line, is_open, IsFilledIn, IsToldAs, AreTold};
+ghost use Rattle.std.specs.Prelude.{◌≡◌, ◌≢◌, ◌≤◌, ◌++◌, ◌∷◌, ◌⊎◌, ◌==◌, ℕ, List, [], All, length, position, IsTrue, IfOk, OnOk};
+ghost use Rattle.act_rules.specs.Grammar.{is_skipped};
+ghost use Rattle.act_summaries.specs.Lines.{told_line, is_open, IsFilledIn, IsToldAs, AreTold};
 
 use act_types::NoMemory;
 use std::alloc::{AllocError, Global};
@@ -65,7 +66,8 @@ fn is_open(line: &[u8]) -> bool
 
 /// Whether the bytes are of one line.
 fn is_of_one_line(bytes: &[u8]) -> bool
-    ensures { IsTrue result → All (λ b. b ≢ 10) bytes.now }
+    ensures plain { IsTrue result → All (λ b. b ≢ 10) bytes.now }
+    ensures exact { All (λ b. b ≢ 10) bytes.now → IsTrue result }
 {
     for byte in bytes {
         if *byte == b'\n' {
@@ -77,7 +79,8 @@ fn is_of_one_line(bytes: &[u8]) -> bool
 
 /// Whether a line that leaves its end open is this one, with its mark filled in.
 pub(crate) fn is_filled_in(line: &[u8], shown: &[u8]) -> bool
-    ensures { IsTrue result → IsFilledIn line.now shown.now }
+    ensures filled { IsTrue result → IsFilledIn line.now shown.now }
+    ensures exact { IsFilledIn line.now shown.now → IsTrue result }
 {
     if !is_open(line) {
         return false;
@@ -90,9 +93,30 @@ pub(crate) fn is_filled_in(line: &[u8], shown: &[u8]) -> bool
     is_of_one_line(what)
 }
 
+/// Where the first line ends, if anything ends it.
+fn end_of_line(bytes: &[u8]) -> Option<usize>
+    ensures { result ≡ position (λ b. b == 10) bytes.now }
+{
+    bytes.iter().position(|byte| *byte == b'\n')
+}
+
+/// The first line, and what stands below it.
+pub(crate) fn split_line(bytes: &[u8]) -> (&[u8], &[u8])
+    ensures of_one_line { All (λ b. b ≢ 10) result.0.now }
+    ensures whole { (bytes.now ≡ result.0.now ++ 10 ∷ result.1.now) ⊎
+        ((bytes.now ≡ result.0.now) × (result.1.now ≡ [])) }
+{
+    match end_of_line(bytes) {
+        Some(at) => (&bytes[..at], &bytes[at + 1..]),
+        None => (bytes, &[]),
+    }
+}
+
 /// Adds a line that isn't skipped, filled in as the one that is shown, if it can be.
 fn push_filled_in(text: &mut Vec<u8>, line: &[u8], shown: &[u8]) -> Result<(), AllocError>
-    ensures { OnOk result ((told : List ℕ) × IsToldAs line.now told × (text.new.items ≡ text.old.items ++ told_line told)) }
+    ensures made { OnOk result ((told : List ℕ) × IsToldAs line.now told ×
+        (text.new.items ≡ text.old.items ++ told_line told)) }
+    ensures exact { OnOk result (IsToldAs line.now shown.now → text.new.items ≡ text.old.items ++ told_line shown.now) }
 {
     if is_filled_in(line, shown) {
         push_told(text, shown)
@@ -102,20 +126,39 @@ fn push_filled_in(text: &mut Vec<u8>, line: &[u8], shown: &[u8]) -> Result<(), A
 }
 
 /// Whether a line of the second part is skipped.
-fn is_skipped(line: &[u8]) -> bool {
+pub(crate) fn is_skipped(line: &[u8]) -> bool
+    ensures { result ≡ is_skipped line.now }
+{
     matches!(line, [] | [b'#', ..])
 }
 
+/// Adds a line, unless it is skipped, filled in as the first of those that are shown, if it can be.
+/// What is shown below that is left.
+fn push_beside<'a>(text: &mut Vec<u8>, line: &[u8], shown: &'a [u8]) -> Result<&'a [u8], AllocError>
+    ensures made { OnOk result ((told : List ℕ) × IsToldAs line.now told ×
+        (text.new.items ≡ text.old.items ++ told_line told)) }
+    ensures exact { IfOk result (λ left. (told more : List ℕ) → All (λ b. b ≢ 10) line.now → IsToldAs line.now told →
+        shown.now ≡ told_line told ++ more →
+        (text.new.items ≡ text.old.items ++ told_line told) × (left.now ≡ more)) }
+{
+    if is_skipped(line) {
+        return Ok(shown);
+    }
+    let (first, left) = split_line(shown);
+    push_filled_in(text, line, first)?;
+    Ok(left)
+}
+
 /// The lines of the second part, without those that are skipped, and with what they leave open filled
-/// in from these.
+/// in from these. Where these are what the lines tell, the text is the same.
 pub(crate) fn second_part(alloc: Global, rest: &[u8], shown: &[u8]) -> Result<Vec<u8>, NoMemory>
-    ensures { IfOk result (λ text. AreTold rest.now text.items) }
+    ensures told { IfOk result (λ text. AreTold rest.now text.items) }
+    ensures exact { IfOk result (λ text. AreTold rest.now shown.now → text.items ≡ shown.now) }
 {
     let mut text = Vec::new(alloc);
-    let mut lines = shown.split(|byte| *byte == b'\n');
+    let mut left = shown;
     for line in rest.split(|byte| *byte == b'\n') {
-        let beside = if is_skipped(line) { None } else { lines.next() };
-        push_filled_in(&mut text, line, beside.unwrap_or(b""))?;
+        left = push_beside(&mut text, line, left)?;
     }
     Ok(text)
 }

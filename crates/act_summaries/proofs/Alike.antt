@@ -18,8 +18,8 @@ use Rattle.act_rules.proofs.Kept.{kept_by, kept_at_is}
 use Rattle.act_rules.proofs.Order.{numbers, numbered as keyed}
 use Rattle.act_rules.proofs.Unique.{held_submission, rank}
 use Rattle.act_rules.proofs.Sound.{answers_are, consistent}
-use Rattle.act_histories.specs.Lines.{AreTold}
-use Rattle.act_summaries.specs.Summaries.{AreReadOneWay, PlaysAreReadOneWay, open_line, KeepsDeath}
+use Rattle.act_summaries.specs.Lines.{AreTold}
+use Rattle.act_summaries.specs.Summaries.{AreReadOneWay, open_line, KeepsDeath}
 use Rattle.act_summaries.proofs.Bytes.{tails, spaced, IsWord, IsPlain, Lacks, AreWords, word_plain, word_lacks, plain_lacks, Each-append, Each-weaker}
 use Rattle.act_summaries.proofs.Marks.{TellsRest, peel, head_same}
 use Rattle.act_summaries.proofs.Reading.{IsToldTwice, told_twice}
@@ -27,7 +27,6 @@ use Rattle.act_summaries.proofs.Texts.{numbered, kept_word, future_as, item_as, 
 use Rattle.act_summaries.proofs.Words.{IsGoodArg, IsGoodState, answer_word, method_word, args_words, state_plain, plain_from, spaced_plain, dead_alike}
 use Rattle.act_summaries.proofs.Replies.{at_good}
 use Rattle.act_summaries.proofs.Facts.{Facts, facts, IsGoodCall, IsCallerNumber, call_numbers, cast_good, calls_good, items_good, opened_good, kept_good, died_or_not}
-use Rattle.act_summaries.proofs.Spelled.{spelled_good}
 use Rattle.act_summaries.proofs.Decoding.{IsGoodKept, AreKeptAlike, futures_alike, IsGoodItem, IsSameItem, items_alike}
 
 -- ---- what the facts say of items and answers
@@ -441,9 +440,3 @@ read_one_way roles events others said first second bytes one two =
       answers = λ c k. kept_alike casts h g f t (lines_in bytes) told c k;
       deaths = λ c k. deaths_differ casts h g f t (lines_in bytes) told c k;
     }
-
-pub read_plays : PlaysAreReadOneWay
-read_plays script rest one other short small play another =
-    let mine = spelled_good one (record { roles = script.roles; events = play.events; steps = [] }) (play.written short) in
-    let theirs = spelled_good other (record { roles = script.roles; events = another.events; steps = [] }) (another.written small) in
-    read_one_way script.roles play.events another.events mine.roles mine.events theirs.events rest play.ends.shown another.ends.shown

@@ -133,6 +133,10 @@ cut b (c ∷ u) (d ∷ v) x y nu nv e =
     let rest = cut b u v x y nu.1 nv.1 tail in
     ((let same : u ≡ v = rest.0 in cc), rest.1)
 
+-- a line begins with one word, and has one rest behind it
+pub begins_once : (u v x y line : List ℕ) → Lacks 32 u → Lacks 32 v → line ≡ u ++ 32 ∷ x → line ≡ v ++ 32 ∷ y → (u ≡ v) × (x ≡ y)
+begins_once u v x y line nu nv p q = cut 32 u v x y nu nv (sym p ∙ q)
+
 pub lacks_not : (b : ℕ) (front rest : List ℕ) → Lacks b (front ++ b ∷ rest) → ⊥
 lacks_not b [] rest lacks = lacks.0 refl
 lacks_not b (x ∷ front) rest lacks = lacks_not b front rest lacks.1

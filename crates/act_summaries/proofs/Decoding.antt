@@ -1,5 +1,5 @@
 -- What two texts of one line say alike: a future's line, and an item's.
-use Rattle.std.proofs.Common.{◌≡◌, ◌≢◌, ℕ, zero, suc, ◌+◌, ◌<◌, ◌≤◌, ◌⊎◌, inl, inr, true, List, [], ◌∷◌, ◌++◌, codes, length, decimal}
+use Rattle.std.proofs.Common.{◌≡◌, ◌≢◌, ℕ, zero, suc, ◌+◌, ◌<◌, ◌^◌, ◌≤◌, ◌⊎◌, inl, inr, true, List, [], ◌∷◌, ◌++◌, codes, length, decimal}
 use Rattle.std.proofs.Common.{refl, sym, ap, ◌∙◌, subst, arith, append_assoc, map, Option, Some, None, is_some, Result, Ok, pos, negsuc, Contains}
 use Rattle.std.specs.List.{AllByRecursion, AllZip}
 use Rattle.std.proofs.lemmas.List.{append-nil}
@@ -19,6 +19,7 @@ use Rattle.act_rules.specs.Laws.{is_sayable, is_sayable_method}
 use Rattle.act_rules.specs.Words.{method_at, value_at}
 use Rattle.act_rules.specs.Report.{future_text}
 use Rattle.act_rules.proofs.ReadingBack.{method_reads_back, value_reads_back}
+use Rattle.act_summaries.specs.Stems.{IsReadable}
 use Rattle.act_summaries.specs.Summaries.{open_line}
 use Rattle.act_summaries.proofs.Bytes.{differ, tails, apart, spaced, IsWord, AreWords, AreDigits, Lacks, word_lacks, Each-weaker, cut, decimal_digits, decimal_lacks}
 use Rattle.act_summaries.proofs.Marks.{Mark, Equals, Live, Retired, word_of, end_of, TellsRest, peel, head_same, told_both, unmarked, told_same, words_same, AreLacking}
@@ -32,9 +33,9 @@ abbrev pub IsGoodKept : Option Answer → Type 0
 IsGoodKept None = Unit {0}
 IsGoodKept (Some answer) = IsGoodAnswer answer
 
-kept_words : (rest : List ℕ) (answer other : Answer) → IsGoodAnswer answer → TellsRest rest (61 ∷ 32 ∷ answer_text answer) (61 ∷ 32 ∷ answer_text other) →
-    (answer_text answer ≡ answer_text other) ⊎ (rest ≡ 61 ∷ 32 ∷ 42 ∷ [])
-kept_words rest answer other good (inl (inl same)) = inl (tails 32 32 (answer_text answer) (answer_text other) (tails 61 61 (32 ∷ answer_text answer) (32 ∷ answer_text other) (same.0 ∙ sym same.1)))
+pub kept_words : (rest : List ℕ) (answer : Answer) (other : List ℕ) → IsGoodAnswer answer → TellsRest rest (61 ∷ 32 ∷ answer_text answer) (61 ∷ 32 ∷ other) →
+    (answer_text answer ≡ other) ⊎ (rest ≡ 61 ∷ 32 ∷ 42 ∷ [])
+kept_words rest answer other good (inl (inl same)) = inl (tails 32 32 (answer_text answer) other (tails 61 61 (32 ∷ answer_text answer) (32 ∷ other) (same.0 ∙ sym same.1)))
 kept_words rest answer other good (inl (inr opened)) =
     absurd (unmarked (61 ∷ []) (answer_text answer ∷ []) opened.front opened.mark opened.left (differ 61 32 refl, tt)
     (word_lacks 32 (answer_text answer) (omega arith) (answer_word answer good), tt) (answer_no_mark answer good, tt)
@@ -54,14 +55,14 @@ kept_same rest None None good tells = (refl, inl refl)
 kept_same rest None (Some answer) good tells = absurd (let bad = head_same rest 63 61 [] (32 ∷ answer_text answer) tells in omega (arith, bad))
 kept_same rest (Some answer) None good tells = absurd (let bad = head_same rest 61 63 (32 ∷ answer_text answer) [] tells in omega (arith, bad))
 kept_same rest (Some answer) (Some other) good tells =
-    (refl, elim (kept_words rest answer other good tells) [ inl same ↦ inl (ap (λ (l : List ℕ). 61 ∷ 32 ∷ l) same) | inr opened ↦ inr opened ])
+    (refl, elim (kept_words rest answer (answer_text other) good tells) [ inl same ↦ inl (ap (λ (l : List ℕ). 61 ∷ 32 ∷ l) same) | inr opened ↦ inr opened ])
 
 -- what both lines of a future say: whether an answer is kept, and which, unless it is left open
 pub record AreKeptAlike (lines : List (List ℕ)) (c k : ℕ) (o p : Option Answer) : Type 0 where
   pub kept : is_some o ≡ is_some p
   pub answer : (kept_word o ≡ kept_word p) ⊎ ((a : ℕ) × Contains lines (open_line c k a))
 
-open_is : (c k a : ℕ) → open_line c k a ≡ future_name c k ++ 32 ∷ (actor_text a ++ 32 ∷ 61 ∷ 32 ∷ 42 ∷ [])
+pub open_is : (c k a : ℕ) → open_line c k a ≡ future_name c k ++ 32 ∷ (actor_text a ++ 32 ∷ 61 ∷ 32 ∷ 42 ∷ [])
 open_is c k a =
     append_assoc (future_text c k ++ space) (actor_text a) (codes " = *")
     ∙ append_assoc (future_text c k) space (actor_text a ++ codes " = *")
@@ -142,7 +143,7 @@ pub record IsSameItem (x y : RunItem) : Type 0 where
 said_same : {A : Type 0} (x y : A) (r : Result A Wrong) → r ≡ Ok x → r ≡ Ok y → x ≡ y
 said_same x y r p q = let both = sym p ∙ q in cc
 
-method_same : (m n : Method) → is_sayable_method m ≡ true → is_sayable_method n ≡ true → method_text m ≡ method_text n → m ≡ n
+pub method_same : (m n : Method) → is_sayable_method m ≡ true → is_sayable_method n ≡ true → method_text m ≡ method_text n → m ≡ n
 method_same m n p q e = said_same m n (method_at (method_text m)) (method_reads_back m p) (ap method_at e ∙ method_reads_back n q)
 
 value_same : (v w : Value) → is_sayable v ≡ true → is_sayable w ≡ true → value_text v ≡ value_text w → v ≡ w
@@ -155,13 +156,17 @@ value_good (value.Text text) k e = apart 34 33 (text ++ 34 ∷ []) (decimal k) r
 value_good (value.Int (pos n)) k e = let bad : AreDigits (33 ∷ decimal k) = subst AreDigits e (decimal_digits n) in omega (arith, bad.0.0)
 value_good (value.Int (negsuc n)) k e = apart 45 33 (decimal (suc n)) (decimal k) refl e
 
-arg_same : (x y : Settled) → IsGoodArg x → IsGoodArg y → settled_text x ≡ settled_text y → x ≡ y
+pub readable : (arg : Settled) → IsGoodArg arg → IsReadable arg
+readable (Good v) h = h
+readable (Bad k) h = omega (arith, h)
+
+arg_same : (x y : Settled) → IsReadable x → IsReadable y → settled_text x ≡ settled_text y → x ≡ y
 arg_same (Good v) (Good w) p q e = ap (λ (u : Value). Good u) (value_same v w p q e)
 arg_same (Good v) (Bad k) p q e = absurd (value_good v k e)
 arg_same (Bad k) (Good w) p q e = absurd (value_good w k (sym e))
-arg_same (Bad j) (Bad k) p q e = ap (λ (n : ℕ). Bad n) (decimal_injective j k (omega (arith, p)) (omega (arith, q)) (tails 33 33 (decimal j) (decimal k) e))
+arg_same (Bad j) (Bad k) p q e = ap (λ (n : ℕ). Bad n) (decimal_injective j k p q (tails 33 33 (decimal j) (decimal k) e))
 
-args_same : (xs ys : List Settled) → AllByRecursion IsGoodArg xs → AllByRecursion IsGoodArg ys → map settled_text xs ≡ map settled_text ys → xs ≡ ys
+pub args_same : (xs ys : List Settled) → AllByRecursion IsReadable xs → AllByRecursion IsReadable ys → map settled_text xs ≡ map settled_text ys → xs ≡ ys
 args_same [] [] p q e = refl
 args_same [] (y ∷ ys) p q e = cc
 args_same (x ∷ xs) [] p q e = cc
@@ -170,16 +175,16 @@ args_same (x ∷ xs) (y ∷ ys) p q e =
     let tail : map settled_text xs ≡ map settled_text ys = cc in
     (λ i. arg_same x y p.0 q.0 head i ∷ args_same xs ys p.1 q.1 tail i)
 
-words_lack : (words : List (List ℕ)) → AreWords words → AreLacking words
+pub words_lack : (words : List (List ℕ)) → AreWords words → AreLacking words
 words_lack words all = Each-weaker IsWord (Lacks 32) words (λ word is. word_lacks 32 word (omega arith) is) all
 
-dotless : (c : ℕ) → Lacks 46 (caller_text c)
+pub dotless : (c : ℕ) → Lacks 46 (caller_text c)
 dotless c = (differ 99 46 refl, decimal_lacks c 46 (omega arith))
 
-future_is : (c d j k : ℕ) → c ≤ 16 → d ≤ 16 → j < 65536 → k < 65536 → future_name c j ≡ future_name d k → (c ≡ d) × (j ≡ k)
+pub future_is : (c d j k : ℕ) → c < 2 ^ 64 → d < 2 ^ 64 → j < 2 ^ 64 → k < 2 ^ 64 → future_name c j ≡ future_name d k → (c ≡ d) × (j ≡ k)
 future_is c d j k p q r s e =
     let both = cut 46 (caller_text c) (caller_text d) (decimal j) (decimal k) (dotless c) (dotless d) e in
-    (decimal_injective c d (omega (arith, p)) (omega (arith, q)) (tails 99 99 (decimal c) (decimal d) both.0), decimal_injective j k (omega (arith, r)) (omega (arith, s)) both.1)
+    (decimal_injective c d p q (tails 99 99 (decimal c) (decimal d) both.0), decimal_injective j k r s both.1)
 
 module _ (lines : List (List ℕ)) (a : ℕ) where
   item_alike : (place : ℕ) (x y : RunItem) → IsGoodItem x → IsGoodItem y → IsToldTwice lines (item_as a place x) (item_as a place y) → IsSameItem x y
@@ -198,12 +203,12 @@ module _ (lines : List (List ℕ)) (a : ℕ) where
       told_same second.rest (method_text x.method) (map settled_text x.args) ys lack (words_lack (map settled_text x.args) (args_words x.args p.args)) (method_no_mark x.method p.method) (args_no_marks x.args) second.tells in
       let words = words_same (method_text x.method) (method_text y.method) (map settled_text x.args) (map settled_text y.args) lack lacks
       (words_lack (map settled_text x.args) (args_words x.args p.args)) (words_lack (map settled_text y.args) (args_words y.args q.args)) same in
-      let call = future_is x.caller y.caller x.future y.future p.caller q.caller p.future q.future second.same in
+      let call = future_is x.caller y.caller x.future y.future (omega (arith, p.caller)) (omega (arith, q.caller)) (omega (arith, p.future)) (omega (arith, q.future)) second.same in
       record {
         caller = call.0;
         future = call.1;
         method = method_same x.method y.method p.method q.method words.0;
-        args = args_same x.args y.args p.args q.args words.1;
+        args = args_same x.args y.args (Each-weaker IsGoodArg IsReadable x.args readable p.args) (Each-weaker IsGoodArg IsReadable y.args readable q.args) words.1;
       }
 
   -- all items of a run list

@@ -1,6 +1,7 @@
 pub mod Bytes
 pub mod Marks
 pub mod Reading
+pub mod Owned
 pub mod Texts
 pub mod Words
 pub mod Replies
@@ -9,3 +10,10 @@ pub mod Facts
 pub mod Spelled
 pub mod Decoding
 pub mod Alike
+pub mod Agreed
+pub mod AgreedLines
+pub mod Fitting
+pub mod Whole
+pub mod Near
+pub mod Filling
+pub mod AsTheyStand

@@ -9,7 +9,7 @@ use Rattle.std.proofs.lemmas.Bool.{eqb-true, eq-eqb, and_parts}
 use Rattle.std.proofs.Math.Seq.{take-append_seam}
 use Rattle.act_rules.specs.Grammar.{is_skipped, lines_in}
 use Rattle.act_rules.specs.Report.{line}
-use Rattle.act_histories.specs.Lines.{AreTold, IsToldAs, is_open, ends_in, told_line}
+use Rattle.act_summaries.specs.Lines.{AreTold, IsToldAs, is_open, ends_in, told_line}
 use Rattle.act_summaries.proofs.Bytes.{Lacks, Each-append, cut}
 use Rattle.act_summaries.proofs.Marks.{Mark, Equals, Live, Retired, word_of, end_of, TellsBoth}
 
@@ -54,7 +54,7 @@ take_front xs x =
     rw short (take-append_seam xs (x ∷ []))
 
 -- the front of an open line, and what is filled in behind it
-filled_in : (text front : List ℕ) (mark : Mark) (what : List ℕ) → text ≡ front ++ 32 ∷ (word_of mark ++ 32 ∷ end_of mark ∷ []) →
+pub filled_in : (text front : List ℕ) (mark : Mark) (what : List ℕ) → text ≡ front ++ 32 ∷ (word_of mark ++ 32 ∷ end_of mark ∷ []) →
     take (length text - 1) text ++ what ≡ front ++ 32 ∷ (word_of mark ++ 32 ∷ what)
 filled_in text front mark what is =
     let kept : List ℕ = front ++ 32 ∷ (word_of mark ++ 32 ∷ []) in
@@ -66,7 +66,7 @@ filled_in text front mark what is =
     ∙ ap (λ (l : List ℕ). front ++ 32 ∷ l) (append_assoc (word_of mark) (32 ∷ []) what)
 
 -- what an open line tells has something in the place of the mark
-told_at : (text told front : List ℕ) (mark : Mark) → text ≡ front ++ 32 ∷ (word_of mark ++ 32 ∷ end_of mark ∷ []) → IsToldAs text told →
+pub told_at : (text told front : List ℕ) (mark : Mark) → text ≡ front ++ 32 ∷ (word_of mark ++ 32 ∷ end_of mark ∷ []) → IsToldAs text told →
     (what : List ℕ) × (told ≡ front ++ 32 ∷ (word_of mark ++ 32 ∷ what))
 told_at text told front mark is (inl same) = (end_of mark ∷ [], same ∙ is)
 told_at text told front mark is (inr filled) = (filled.what, filled.filled ∙ filled_in text front mark filled.what is)
@@ -78,7 +78,7 @@ open_tells text x y e p q =
     let right = told_at text y o.front o.mark o.is q in
     inr (record { front = o.front; mark = o.mark; left = left.0; right = right.0; line_is = o.is; left_is = left.1; right_is = right.1 })
 
-tells_both : (text x y : List ℕ) → IsToldAs text x → IsToldAs text y → TellsBoth text x y
+pub tells_both : (text x y : List ℕ) → IsToldAs text x → IsToldAs text y → TellsBoth text x y
 tells_both text x y (inl p) (inl q) = inl (p, q)
 tells_both text x y (inl p) (inr q) = open_tells text x y q.marked (inl p) (inr q)
 tells_both text x y (inr p) q = open_tells text x y p.marked (inr p) q
@@ -94,7 +94,7 @@ onto_lacks : (x : ℕ) (parts : List (List ℕ)) → x ≢ 10 → AllByRecursion
 onto_lacks x [] differs h = ((differs, tt), tt)
 onto_lacks x (part ∷ parts) differs h = ((differs, h.0), h.1)
 
-lines_lack : (bytes : List ℕ) → AllByRecursion (Lacks 10) (lines_in bytes)
+pub lines_lack : (bytes : List ℕ) → AllByRecursion (Lacks 10) (lines_in bytes)
 lines_lack [] = (tt, tt)
 lines_lack (x ∷ bytes) = go (x == 10) refl (lines_lack bytes)
   where
@@ -115,7 +115,7 @@ told_lacks text told lack (inr filled) =
 abbrev pub shown : List (List ℕ) → List (List ℕ)
 shown texts = filter (λ text. not (is_skipped text)) texts
 
-shown_is : (texts : List (List ℕ)) → flat_map told_line texts ≡ flat_map line (shown texts)
+pub shown_is : (texts : List (List ℕ)) → flat_map told_line texts ≡ flat_map line (shown texts)
 shown_is [] = refl
 shown_is (text ∷ texts) = go (is_skipped text) (shown_is texts)
   where
@@ -133,7 +133,7 @@ shown_lack (text ∷ texts) h = go (is_skipped text) (shown_lack texts h.1)
     go false rest = (h.0, rest)
 
 -- one line is skipped as both texts that it tells
-skipped_alike : (text x y : List ℕ) → TellsBoth text x y → is_skipped x ≡ is_skipped y
+pub skipped_alike : (text x y : List ℕ) → TellsBoth text x y → is_skipped x ≡ is_skipped y
 skipped_alike text x y (inl same) = ap is_skipped (same.0 ∙ sym same.1)
 skipped_alike text x y (inr opened) = ap is_skipped opened.left_is ∙ go opened.front ∙ sym (ap is_skipped opened.right_is)
   where
@@ -206,12 +206,12 @@ told_lack : (ps : List Pair) → AllByRecursion (Lacks 10) (map (λ (p : Pair). 
 told_lack [] h t = tt
 told_lack (p ∷ ps) h t = (told_lacks p.0 p.1 h.0 t.0, told_lack ps h.1 t.1)
 
-flat_map-pairs : (ps : List Pair) → flat_map (λ (p : Pair). told_line p.1) ps ≡ flat_map told_line (map (λ (p : Pair). p.1) ps)
+pub flat_map-pairs : (ps : List Pair) → flat_map (λ (p : Pair). told_line p.1) ps ≡ flat_map told_line (map (λ (p : Pair). p.1) ps)
 flat_map-pairs [] = refl
 flat_map-pairs (p ∷ ps) = ap (λ (l : List ℕ). told_line p.1 ++ l) (flat_map-pairs ps)
 
 -- the texts that the lines tell are those of the pairs that are not skipped
-told_texts : (bytes : List ℕ) (xs : List (List ℕ)) → AllByRecursion (Lacks 10) xs → (make : AreTold bytes (flat_map line xs)) →
+pub told_texts : (bytes : List ℕ) (xs : List (List ℕ)) → AllByRecursion (Lacks 10) xs → (make : AreTold bytes (flat_map line xs)) →
     shown (map (λ (p : Pair). p.1) make.pairs) ≡ xs
 told_texts bytes xs lack make =
     let told = recursion_from_All (λ (p : Pair). IsToldAs p.0 p.1) make.pairs make.told in

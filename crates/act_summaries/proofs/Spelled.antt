@@ -16,7 +16,9 @@ use Rattle.act_types.specs.declared.call.Value.TheVariants as value
 use Rattle.act_rules.specs.declared.event.Event.TheVariants as event
 use Rattle.act_rules.specs.declared.script.Line.{Line}
 use Rattle.act_rules.specs.declared.script.Line.TheVariants.{Role as RoleLine, Event as EventLine, Step as StepLine}
-use Rattle.act_rules.specs.declared.script.Mode.TheVariants.{Play}
+use Rattle.act_rules.specs.declared.script.Mode.{Mode}
+use Rattle.act_rules.specs.declared.script.Mode.TheVariants.{Play, Threads}
+use Rattle.act_rules.specs.declared.script.Step.TheVariants as step
 use Rattle.act_rules.specs.declared.script.Role.{Role}
 use Rattle.act_rules.specs.declared.script.Wrong.{Wrong}
 use Rattle.act_rules.specs.declared.script.Wrong.TheVariants.{BadLine}
@@ -24,7 +26,7 @@ use Rattle.act_rules.specs.Kinds.{is_in_range}
 use Rattle.act_rules.specs.Laws.{is_number, is_caller_number, is_actor_number, is_sayable, is_sayable_arg, is_sayable_method}
 use Rattle.act_rules.specs.Words.{Word, ◌>>=◌, or_bad_line, named_by, kind_text, all_kinds, all_methods, method_at, is_numeral, number_at, limit_at, is_integer, fits_int, int_value}
 use Rattle.act_rules.specs.Words.{int_at, marked_at, closed_at, caller_at, actor_at, text_at, value_at, arg_at}
-use Rattle.act_rules.specs.Grammar.{each_at, args_at, one_at, two_at, some_callers_at, limited_at, naming_at, role_at, submit_at, Form, play_forms, form_at, plain_at}
+use Rattle.act_rules.specs.Grammar.{each_at, args_at, one_at, two_at, some_callers_at, limited_at, naming_at, role_at, submit_at, Form, forms_of, play_forms, thread_forms, form_at, plain_at}
 use Rattle.act_rules.specs.Grammar.{is_skipped, words_in, line_at, Script, no_lines, role_fault, unless, add_line, added_unless_skipped, line_added, in_line, spelled_from, lines_in}
 use Rattle.act_rules.specs.Grammar.{spelled_by, spelled}
 use Rattle.act_rules.proofs.Numbers.{chosen}
@@ -183,6 +185,19 @@ submit_good (u ∷ v ∷ w ∷ words) line h =
     given IsGoodLine (EventLine (event.Submit c.0 a.0 m.0 xs.0)) line _ refl xs.2
     (and_from (is_sayable_method m.0) (list_all is_sayable_arg xs.0) (method_good w m.0 m.1) (each_good arg_at is_sayable_arg arg_good words xs.0 xs.1))
 
+-- a step says nothing that could be unsayable here
+step_good : (words : List Word) (line : Line) → submit_at (λ c a m args. StepLine c (step.Submit a m args)) words ≡ Ok line → IsGoodLine line
+unfolding submit_at
+step_good [] line h = absurd (cc)
+step_good (u ∷ []) line h = absurd (cc)
+step_good (u ∷ v ∷ []) line h = absurd (cc)
+step_good (u ∷ v ∷ w ∷ words) line h =
+    let c = parts (caller_at u) _ line h in
+    let a = parts (actor_at v) _ line c.2 in
+    let m = parts (method_at w) _ line a.2 in
+    let xs = parts (args_at words) _ line m.2 in
+    given IsGoodLine (StepLine c.0 (step.Submit a.0 m.0 xs.0)) line _ refl xs.2 tt
+
 abbrev AreCallers : List ℕ → Type 0
 AreCallers callers = list_all is_caller_number callers ≡ true
 
@@ -263,24 +278,51 @@ forms_good = (
   ),
 )
 
-form_good : (words : List Word) (line : Line) → form_at play_forms words ≡ Ok line → IsGoodLine line
+steps_good : AllByRecursion IsGoodForm thread_forms
+unfolding thread_forms
+steps_good = (
+  role_form_good,
+  (
+    step_good,
+    (
+      two_good (λ c a. StepLine c (step.Copy a)) caller_at actor_at (λ c a. tt),
+      (
+        two_good (λ c a. StepLine c (step.Release a)) caller_at actor_at (λ c a. tt),
+        (
+          two_good (λ c a. StepLine c (step.Kill a)) caller_at actor_at (λ c a. tt),
+          (
+            two_good (λ c k. StepLine c (step.Await k)) caller_at number_at (λ c k. tt),
+            tt,
+          ),
+        ),
+      ),
+    ),
+  ),
+)
+
+all_good : (mode : Mode) → AllByRecursion IsGoodForm (forms_of mode)
+all_good Play = forms_good
+all_good Threads = steps_good
+
+form_good : (mode : Mode) (words : List Word) (line : Line) → form_at (forms_of mode) words ≡ Ok line → IsGoodLine line
 unfolding form_at
-form_good [] line h = absurd (cc)
-form_good (head ∷ words) line h =
-    let form = parts (or_bad_line (find (λ (f : Form). bytes_eq head f.0) play_forms)) _ line h in
-    (found IsGoodForm (λ (f : Form). bytes_eq head f.0) play_forms form.0 forms_good (some_of (find (λ (f : Form). bytes_eq head f.0) play_forms) form.0 form.1)).0 words line form.2
+form_good mode [] line h = absurd (cc)
+form_good mode (head ∷ words) line h =
+    let form = parts (or_bad_line (find (λ (f : Form). bytes_eq head f.0) (forms_of mode))) _ line h in
+    (found IsGoodForm (λ (f : Form). bytes_eq head f.0) (forms_of mode) form.0 (all_good mode)
+    (some_of (find (λ (f : Form). bytes_eq head f.0) (forms_of mode)) form.0 form.1)).0 words line form.2
 
 abbrev IsGoodSaid : Option Line → Type 0
 IsGoodSaid None = Unit {0}
 IsGoodSaid (Some line) = IsGoodLine line
 
-line_good : (text : List ℕ) (said : Option Line) → line_at play_forms text ≡ Ok said → IsGoodSaid said
+line_good : (mode : Mode) (text : List ℕ) (said : Option Line) → line_at (forms_of mode) text ≡ Ok said → IsGoodSaid said
 unfolding line_at
-line_good text said h =
+line_good mode text said h =
     let plain = parts (plain_at text) _ said h in
     either_way IsGoodSaid (is_skipped plain.0) _ _ said plain.2
     (λ e. given IsGoodSaid None said _ refl e tt)
-    (λ e. let line = parts (form_at play_forms (words_in plain.0)) _ said e in given IsGoodSaid (Some line.0) said _ refl line.2 (form_good (words_in plain.0) line.0 line.1))
+    (λ e. let line = parts (form_at (forms_of mode) (words_in plain.0)) _ said e in given IsGoodSaid (Some line.0) said _ refl line.2 (form_good mode (words_in plain.0) line.0 line.1))
 
 -- ---- scripts
 
@@ -312,18 +354,18 @@ in_line_is : {A : Type 0} (n : ℕ) (r : Result A Wrong) (x : A) → in_line n r
 in_line_is n (Ok y) x e = let same : y ≡ x = cc in ap (λ (z : _). Ok z) same
 in_line_is n (Err wrong) x e = cc
 
-lines_good : (lines : List (List ℕ)) (n : ℕ) (script last : Script) → IsGoodScript script → spelled_from play_forms n script lines ≡ Ok last → IsGoodScript last
-lines_good [] n script last s h = given IsGoodScript script last _ refl h s
-lines_good (text ∷ lines) n script last s h =
-    let next = parts (in_line n (line_added play_forms script n text)) _ last h in
-    let added = in_line_is n (line_added play_forms script n text) next.0 next.1 in
-    let said = parts (line_at play_forms text) _ next.0 added in
-    lines_good lines (n + 1) next.0 last (said_good script n said.0 next.0 s (line_good text said.0 said.1) said.2) next.2
+lines_good : (mode : Mode) (lines : List (List ℕ)) (n : ℕ) (script last : Script) → IsGoodScript script → spelled_from (forms_of mode) n script lines ≡ Ok last → IsGoodScript last
+lines_good mode [] n script last s h = given IsGoodScript script last _ refl h s
+lines_good mode (text ∷ lines) n script last s h =
+    let next = parts (in_line n (line_added (forms_of mode) script n text)) _ last h in
+    let added = in_line_is n (line_added (forms_of mode) script n text) next.0 next.1 in
+    let said = parts (line_at (forms_of mode) text) _ next.0 added in
+    lines_good mode lines (n + 1) next.0 last (said_good script n said.0 next.0 s (line_good mode text said.0 said.1) said.2) next.2
 
 -- what bytes spell is sayable
-pub spelled_good : (bytes : List ℕ) (script : Script) → spelled Play bytes ≡ Ok script → IsGoodScript script
+pub spelled_good : (mode : Mode) (bytes : List ℕ) (script : Script) → spelled mode bytes ≡ Ok script → IsGoodScript script
 unfolding spelled_by
-spelled_good bytes script h =
+spelled_good mode bytes script h =
     either_way IsGoodScript (nat_lt 1048576 (length bytes)) _ _ script h
     (λ e. absurd (cc))
-    (λ e. lines_good (lines_in bytes) 1 no_lines script (record { roles = refl; events = refl }) e)
+    (λ e. lines_good mode (lines_in bytes) 1 no_lines script (record { roles = refl; events = refl }) e)

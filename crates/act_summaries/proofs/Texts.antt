@@ -1,12 +1,10 @@
 -- The lines of a summary, and whose they are.
-use Rattle.std.proofs.Common.{◌≡◌, ◌≢◌, ℕ, zero, suc, ◌+◌, ◌<◌, ◌≤◌, ◌==◌, Bool, true, false, cond, List, [], ◌∷◌, ◌++◌, codes, decimal}
-use Rattle.std.proofs.Common.{refl, sym, ap, ◌∙◌, subst, arith, append_assoc, map, filter, Option, Some, None, bytes_eq, inl, inr}
+use Rattle.std.proofs.Common.{◌≡◌, ◌≢◌, ℕ, ◌+◌, ◌<◌, ◌≤◌, Bool, true, false, cond, List, [], ◌∷◌, ◌++◌, codes, decimal}
+use Rattle.std.proofs.Common.{refl, sym, ap, ◌∙◌, arith, append_assoc, map, filter, Option, Some, None, bytes_eq, inl, inr}
 use Rattle.std.specs.List.{AllByRecursion, AllZip, flat_map}
-use Rattle.std.specs.Cmp.Lexicographic.{bytes_decides}
 use Rattle.std.proofs.lemmas.List.{append-nil}
 use Rattle.std.proofs.lemmas.List.Elements.{filter-append}
 use Rattle.std.proofs.lemmas.Grind.{flat_map-append}
-use Rattle.std.proofs.lemmas.Bool.{eqb-true, eq-eqb}
 use Rattle.std.proofs.lemmas.Fmt.{decimal_injective}
 use Rattle.act_types.specs.Texts.{space, with_spaces, caller_text, actor_text, method_text, settled_text, answer_text}
 use Rattle.act_rules.specs.declared.history.RunItem.{RunItem}
@@ -17,6 +15,7 @@ use Rattle.act_rules.specs.History.{History, calls_of, runs_of, kept_of}
 use Rattle.act_rules.specs.Report.{line, numbered_lines, one_to, future_text, kept_text, future_line, future_lines, item_line, actor_lines, stage_of, summary}
 use Rattle.act_summaries.proofs.Bytes.{differ, tails, apart, spaced, spaced_is, Lacks, IsWord, word_lacks, decimal_word, decimal_lacks, Each-append, before, before_cut, before_all, before_same}
 use Rattle.act_summaries.proofs.Marks.{TellsBoth}
+use Rattle.act_summaries.proofs.Owned.{belongs, others, one_of}
 use Rattle.act_summaries.proofs.Reading.{IsToldTwice}
 
 -- ---- texts
@@ -44,7 +43,7 @@ place_text a place = actor_text a ++ 46 ∷ decimal place
 pub name_is : (c k : ℕ) → future_text c k ≡ future_name c k
 name_is c k = append_assoc (caller_text c) (codes ".") (decimal k)
 
-place_is : (a place : ℕ) → actor_text a ++ codes "." ++ decimal place ≡ place_text a place
+pub place_is : (a place : ℕ) → actor_text a ++ codes "." ++ decimal place ≡ place_text a place
 place_is a place = append_assoc (actor_text a) (codes ".") (decimal place)
 
 -- what a caller keeps, behind the space in front of it
@@ -124,10 +123,10 @@ caller_word c = (omega arith, decimal_word c)
 pub actor_word : (a : ℕ) → IsWord (actor_text a)
 actor_word a = (omega arith, decimal_word a)
 
-caller_dots : (c : ℕ) → Lacks 46 (caller_text c)
+pub caller_dots : (c : ℕ) → Lacks 46 (caller_text c)
 caller_dots c = (differ 99 46 refl, decimal_lacks c 46 (omega arith))
 
-actor_dots : (a : ℕ) → Lacks 46 (actor_text a)
+pub actor_dots : (a : ℕ) → Lacks 46 (actor_text a)
 actor_dots a = (differ 97 46 refl, decimal_lacks a 46 (omega arith))
 
 pub future_word : (c k : ℕ) → IsWord (future_name c k)
@@ -179,88 +178,36 @@ actors_of h a = go (stage_of a h)
 -- ---- the lines of one name
 
 abbrev pub is_of : List ℕ → List ℕ → Bool
-is_of name text = bytes_eq (owner text) name
+is_of name text = belongs owner name text
 
-differs_so : (xs ys : List ℕ) → xs ≢ ys → bytes_eq xs ys ≡ false
-differs_so xs ys ne = go (bytes_eq xs ys) refl
-  where
-    go : (b : Bool) → bytes_eq xs ys ≡ b → b ≡ false
-    go true e = absurd (ne ((bytes_decides xs ys).0 e))
-    go false e = refl
-
-all_of : (name : List ℕ) (texts : List (List ℕ)) → AreOf name texts → filter (is_of name) texts ≡ texts
-all_of name [] own = refl
-all_of name (text ∷ texts) own =
-    ap (λ (b : Bool). cond b (text ∷ filter (is_of name) texts) (filter (is_of name) texts)) ((bytes_decides (owner text) name).1 own.0)
-    ∙ ap (λ (l : List (List ℕ)). text ∷ l) (all_of name texts own.1)
-
-none_of : (name other : List ℕ) (texts : List (List ℕ)) → AreOf other texts → other ≢ name → filter (is_of name) texts ≡ []
-none_of name other [] own ne = refl
-none_of name other (text ∷ texts) own ne =
-    ap (λ (b : Bool). cond b (text ∷ filter (is_of name) texts) (filter (is_of name) texts)) (differs_so (owner text) name (λ same. ne (sym own.0 ∙ same)))
-    ∙ none_of name other texts own.1 ne
-
-module _ (named : ℕ → List ℕ) (texts : ℕ → List (List ℕ)) (own : (n : ℕ) → AreOf (named n) (texts n)) where
-  -- no line of others
-  pub others : (name : List ℕ) (n : ℕ) → ((k : ℕ) → k ≤ n → named k ≢ name) → filter (is_of name) (flat_map texts (one_to n)) ≡ []
-  others name zero ne = refl
-  others name (suc n) ne =
-      ap (filter (is_of name)) (flat_map-append texts (one_to n) (suc n ∷ []))
-      ∙ filter-append (is_of name) (flat_map texts (one_to n)) (texts (suc n) ++ [])
-      ∙ (λ i. others name n (λ k few. ne k (omega (arith, few))) i ++ (ap (filter (is_of name)) (append-nil (texts (suc n))) ∙ none_of name (named (suc n)) (texts (suc n)) (own (suc n)) (ne (suc n) (omega arith))) i)
-
-  module _ (differ : (m n : ℕ) → m ≤ 16 → n ≤ 16 → named m ≡ named n → m ≡ n) where
-    -- all lines of one
-    pub one_of : (m n : ℕ) → 1 ≤ m → m ≤ n → n ≤ 16 → filter (is_of (named m)) (flat_map texts (one_to n)) ≡ texts m
-    one_of m zero some few small = absurd (omega (arith, some, few))
-    one_of m (suc n) some few small =
-        ap (filter (is_of (named m))) (flat_map-append texts (one_to n) (suc n ∷ []))
-        ∙ filter-append (is_of (named m)) (flat_map texts (one_to n)) (texts (suc n) ++ [])
-        ∙ ap (λ (l : List (List ℕ)). filter (is_of (named m)) (flat_map texts (one_to n)) ++ filter (is_of (named m)) l) (append-nil (texts (suc n)))
-        ∙ go (m == suc n) refl (λ below. one_of m n some below (omega (arith, small)))
-      where
-        go : (b : Bool) → (m == suc n) ≡ b → (m ≤ n → filter (is_of (named m)) (flat_map texts (one_to n)) ≡ texts m) →
-            filter (is_of (named m)) (flat_map texts (one_to n)) ++ filter (is_of (named m)) (texts (suc n)) ≡ texts m
-        go true e rest =
-            let same : m ≡ suc n = eqb-true m (suc n) e in
-            let mine : AreOf (named m) (texts (suc n)) = subst (λ (k : ℕ). AreOf (named k) (texts (suc n))) (sym same) (own (suc n)) in
-            (λ i. others (named m) n (λ k below is. let bad = differ k m (omega (arith, below, small)) (omega (arith, few, small)) is in absurd (omega (arith, bad, same, below))) i
-            ++ all_of (named m) (texts (suc n)) mine i)
-            ∙ ap texts (sym same)
-        go false e rest =
-            let ne : m ≢ suc n = λ same. let bad : true ≡ false = sym (eq-eqb m (suc n) same) ∙ e in cc in
-            let below : m ≤ n = omega (arith, ne, few) in
-            (λ i. rest below i ++ none_of (named m) (named (suc n)) (texts (suc n)) (own (suc n)) (λ is. ne (differ m (suc n) (omega (arith, few, small)) small (sym is))) i)
-            ∙ append-nil (texts m)
-
-callers_differ : (m n : ℕ) → m ≤ 16 → n ≤ 16 → caller_text m ≡ caller_text n → m ≡ n
+pub callers_differ : (m n : ℕ) → m ≤ 16 → n ≤ 16 → caller_text m ≡ caller_text n → m ≡ n
 callers_differ m n p q e = let digits : decimal m ≡ decimal n = tails 99 99 (decimal m) (decimal n) e in decimal_injective m n (omega (arith, p)) (omega (arith, q)) digits
 
-actors_differ : (m n : ℕ) → m ≤ 16 → n ≤ 16 → actor_text m ≡ actor_text n → m ≡ n
+pub actors_differ : (m n : ℕ) → m ≤ 16 → n ≤ 16 → actor_text m ≡ actor_text n → m ≡ n
 actors_differ m n p q e = let digits : decimal m ≡ decimal n = tails 97 97 (decimal m) (decimal n) e in decimal_injective m n (omega (arith, p)) (omega (arith, q)) digits
 
-kinds_differ : (c a : ℕ) → caller_text c ≢ actor_text a
+pub kinds_differ : (c a : ℕ) → caller_text c ≢ actor_text a
 kinds_differ c a e = apart 99 97 (decimal c) (decimal a) refl e
 
 -- the lines of a caller are those of its futures
 pub of_caller : (h : History) (c : ℕ) → 1 ≤ c → c ≤ 16 → filter (is_of (caller_text c)) (lines_of h) ≡ futures h c
 of_caller h c some few =
     filter-append (is_of (caller_text c)) (flat_map (futures h) (one_to 16)) (flat_map (actors h) (one_to 8))
-    ∙ (λ i. one_of caller_text (futures h) (futures_of h) callers_differ c 16 some few (omega arith) i
-    ++ others actor_text (actors h) (actors_of h) (caller_text c) 8 (λ k below e. kinds_differ c k (sym e)) i)
+    ∙ (λ i. one_of owner caller_text (futures h) (futures_of h) callers_differ c 16 some few (omega arith) i
+    ++ others owner actor_text (actors h) (actors_of h) (caller_text c) 8 (λ k below e. kinds_differ c k (sym e)) i)
     ∙ append-nil (futures h c)
 
 -- those of an actor say how it stands, and what it ran
 pub of_actor : (h : History) (a : ℕ) → 1 ≤ a → a ≤ 8 → filter (is_of (actor_text a)) (lines_of h) ≡ actors h a
 of_actor h a some few =
     filter-append (is_of (actor_text a)) (flat_map (futures h) (one_to 16)) (flat_map (actors h) (one_to 8))
-    ∙ (λ i. others caller_text (futures h) (futures_of h) (actor_text a) 16 (λ k below. kinds_differ k a) i
-    ++ one_of actor_text (actors h) (actors_of h) actors_differ a 8 some few (omega arith) i)
+    ∙ (λ i. others owner caller_text (futures h) (futures_of h) (actor_text a) 16 (λ k below. kinds_differ k a) i
+    ++ one_of owner actor_text (actors h) (actors_of h) actors_differ a 8 some few (omega arith) i)
 
 -- ---- both
 
 -- both texts that a line tells are of one name
-owner_same : (text x y : List ℕ) → TellsBoth text x y → owner x ≡ owner y
+pub owner_same : (text x y : List ℕ) → TellsBoth text x y → owner x ≡ owner y
 owner_same text x y (inl same) = ap owner (same.0 ∙ sym same.1)
 owner_same text x y (inr opened) = ap owner opened.left_is ∙ ap (before 46) (before_same 32 opened.front _ _) ∙ sym (ap owner opened.right_is)
 

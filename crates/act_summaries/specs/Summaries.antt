@@ -1,7 +1,6 @@
 -- What the same lines tell of two histories.
-use Rattle.std.specs.Prelude.{ℕ, ◌≡◌, ◌⊎◌, ◌++◌, ◌&&◌, Bool, true, List, map, Contains, is_some, IsTrue, codes, Option, Some, Err, ◌≤◌, length}
+use Rattle.std.specs.Prelude.{ℕ, ◌≡◌, ◌⊎◌, ◌++◌, ◌&&◌, Bool, true, List, map, Contains, is_some, IsTrue, codes, Option, Some, Err}
 use Rattle.std.specs.List.{list_all}
-use Rattle.act_types.specs.declared.limits.TheConstants.{MAX_SCRIPT_BYTES}
 use Rattle.act_types.specs.Texts.{space, actor_text}
 use Rattle.act_types.specs.declared.call.Fault.TheVariants.{ActorDied}
 use Rattle.act_rules.specs.declared.event.Event.{Event}
@@ -11,11 +10,10 @@ use Rattle.act_rules.specs.RunList.{Answer}
 use Rattle.act_rules.specs.Submissions.{kept_at}
 use Rattle.act_rules.specs.History.{History, calls_of, runs_of, kept_of, is_dead, is_retired}
 use Rattle.act_rules.specs.Laws.{history, is_actor_number, is_caller_number, is_sayable_method, is_sayable_arg}
-use Rattle.act_rules.specs.Grammar.{Script, lines_in}
+use Rattle.act_rules.specs.Grammar.{lines_in}
 use Rattle.act_rules.specs.Report.{future_text, summary}
 use Rattle.act_rules.specs.Scripts.{actor_spec_of}
-use Rattle.act_histories.specs.Lines.{AreTold}
-use Rattle.act_histories.specs.Play.{IsPlayText}
+use Rattle.act_summaries.specs.Lines.{AreTold}
 
 -- a role that a script can write
 abbrev pub is_sayable_role : Role → Bool
@@ -72,10 +70,11 @@ AreReadOneWay = (roles : List Role) (events others : List Event) →
     IsTrue (list_all is_sayable_event events) → IsTrue (list_all is_sayable_event others) →
     EndsAreAlike roles events others
 
--- and so do two plays of one history that a script can hold
-abbrev pub PlaysAreReadOneWay : Type 0
-PlaysAreReadOneWay = (script : Script) (rest one other : List ℕ) →
-    length one ≤ MAX_SCRIPT_BYTES → length other ≤ MAX_SCRIPT_BYTES →
-    (play : IsPlayText script rest one) (another : IsPlayText script rest other) →
-    let casts = map actor_spec_of script.roles in
-    EndAlike rest (history casts play.events) (history casts another.events)
+-- where they end alike, lines that tell one of them tell the other
+abbrev pub AreToldAlike : Type 0
+AreToldAlike = (roles : List Role) (events others : List Event) (bytes : List ℕ) →
+    IsTrue (list_all is_sayable_role roles) →
+    IsTrue (list_all is_sayable_event events) → IsTrue (list_all is_sayable_event others) →
+    let h = history (map actor_spec_of roles) events in
+    let g = history (map actor_spec_of roles) others in
+    EndAlike bytes h g → AreTold bytes (summary g) → AreTold bytes (summary h)

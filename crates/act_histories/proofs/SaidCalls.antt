@@ -1,0 +1,158 @@
+-- What some events leave, as the data says it: other events leave what the data says, to the letter.
+use Rattle.act_early.proofs.Common.{◌≡◌, ◌≢◌, ℕ, zero, suc, ◌+◌, ◌<◌, ◌≤◌, ◌==◌, ◌&&◌, Bool, true, false, cond, List, [], ◌∷◌, ◌++◌, length, map, Option, Some, None, inl, inr, ◌⊎◌}
+use Rattle.act_early.proofs.Common.{refl, ap, sym, ◌∙◌, subst, arith, slice_get, is_some, slice_get_within, Event, RunItem, Submission, Step, Answer, kept_at}
+use Rattle.act_early.proofs.Common.{ActorSpec, History, opening, history, calls_of, runs_of, kept_of, opening_of, is_dead, is_reply, option_map, IsOk, All}
+use Rattle.act_rules.specs.Rules.{outcomes}
+use Rattle.act_told_ends.specs.Told.{Told, EndsAsTold, told_of, Leaves}
+use Rattle.act_told_ends.specs.Untold.{arg_as_run, IsAsRun, Ran, StandFor, MayStandFor, with_calls}
+use Rattle.act_told_ends.specs.LeftOpen.{MayBeReply, MayStandForKept, with_kept}
+use Rattle.act_walks.specs.declared.told.Left.{Left}
+use Rattle.act_walks.specs.declared.told.Left.TheVariants as left
+use Rattle.act_walks.specs.declared.told.ToldCall.{ToldCall}
+use Rattle.act_walks.specs.declared.told.ToldCaller.{ToldCaller}
+use Rattle.act_walks.specs.declared.told.ToldEnd.{ToldEnd}
+use Rattle.act_walks.specs.Fits.{caller_in, calls_in, bound_of, steps_in, runs_in, is_dead_in, call_of_item, submission_of_call, FitsLeft, left_of, Fits}
+use Rattle.act_rules.proofs.Unique.{map-slice_get}
+use Rattle.act_rules.proofs.Kept.{length-answers_from}
+use Rattle.act_rules.proofs.KindFaults.{answer_alive}
+use Rattle.act_rules.proofs.Sound.{consistent, deaths_are, IsSound}
+use Rattle.std.proofs.lemmas.Option.{slice_get-map}
+use Rattle.act_histories.specs.Play.{calls_of_steps, HasCalls, awaits}
+use Rattle.act_console.specs.Plans.{steps_of_caller}
+use Rattle.act_histories.specs.Fits.{AllFitSteps, FitsSteps, binding}
+use Rattle.act_histories.specs.Placed.{IsCallIn, IsPlacedAt, RunsArePlaced, StandsThere, MayHaveDied, IsDecided, AllDecided}
+use Rattle.act_histories.specs.LeftBy.{IsLeftBy, TellsLeft}
+
+-- ---- the calls
+
+-- the calls that the data tells
+abbrev pub data_calls : ToldEnd → ℕ → List Submission
+data_calls end c = map submission_of_call (calls_in end c)
+
+pub of_caller : (end : ToldEnd) (c : ℕ) (caller : ToldCaller) → caller_in end c ≡ Some caller → calls_in end c ≡ caller.calls.items
+of_caller end c caller e = rw e refl
+
+pub bound_is : (end : ToldEnd) (c : ℕ) (caller : ToldCaller) → caller_in end c ≡ Some caller → bound_of end c ≡ steps_in caller
+bound_is end c caller e = rw e refl
+
+-- a call of the data, and what is submitted by it
+pub call_there : (end : ToldEnd) (c k : ℕ) (sub : Submission) → slice_get (data_calls end c) k ≡ Some sub
+    → (call : ToldCall) × IsCallIn end c k call × (submission_of_call call ≡ sub)
+call_there end c k sub e = map-slice_get submission_of_call (calls_in end c) k sub e
+
+-- the items that are told are the runs
+pub item_there : (end : ToldEnd) (h : History) (a p c k : ℕ) → IsLeftBy end h → slice_get (runs_in end a) p ≡ Some (c, k)
+    → (item : RunItem) × (slice_get (runs_of a h) p ≡ Some item) × (call_of_item item ≡ (c, k))
+item_there end h a p c k fits e =
+    map-slice_get call_of_item (runs_of a h) p (c, k) (ap (λ (l : List (ℕ × ℕ)). slice_get l p) (sym (fits.runs a)) ∙ e)
+
+none_left : (xs : List ToldCall) → map (λ (call : ToldCall). call.actor) xs ≡ [] → xs ≡ []
+none_left [] e = refl
+none_left (x ∷ xs) e = cc
+
+no_calls : (xs : List Submission) → map (λ (call : Submission). call.actor) xs ≡ [] → xs ≡ []
+no_calls [] e = refl
+no_calls (x ∷ xs) e = cc
+
+-- what the data says of a caller's calls is the history's, or may stand for it
+module _ (end : ToldEnd) (steps : List (ℕ × Step × ℕ)) (h : History) (fits : IsLeftBy end h) (lines : AllFitSteps end steps)
+    (placed : RunsArePlaced end) (decided : AllDecided end) (numbered : (c : ℕ) → (1 ≤ c) × (c ≤ 16) ⊎ (calls_of c h ≡ []))
+    (has : (c : ℕ) → 1 ≤ c → c ≤ 16 → HasCalls c steps h) where
+  -- a caller that is told no line
+  pub none_there : (c : ℕ) → calls_of c h ≡ [] → data_calls end c ≡ calls_of c h
+  none_there c none =
+      ap (map submission_of_call) (none_left (calls_in end c) (fits.calls c ∙ ap (map (λ (call : Submission). call.actor)) none)) ∙ sym none
+
+  -- one whose calls a script tells
+  pub told_there : (c : ℕ) → 1 ≤ c → c ≤ 16 → data_calls end c ≡ calls_of_steps c steps → data_calls end c ≡ calls_of c h
+  told_there c some few e = go (calls_of_steps c steps) refl
+    where
+      go : (l : List Submission) → calls_of_steps c steps ≡ l → data_calls end c ≡ calls_of c h
+      go [] is = none_there c (no_calls (calls_of c h) (sym (fits.calls c) ∙ actors_of (calls_in end c) ∙ ap (map (λ (call : Submission). call.actor)) (e ∙ is)))
+        where
+          actors_of : (xs : List ToldCall) → map (λ (call : ToldCall). call.actor) xs ≡ map (λ (call : Submission). call.actor) (map submission_of_call xs)
+          actors_of [] = refl
+          actors_of (x ∷ xs) = ap (λ (l : List ℕ). x.actor ∷ l) (actors_of xs)
+      go (sub ∷ subs) is = e ∙ sym (has c some few (λ none. let bad : [] ≡ sub ∷ subs = sym none ∙ is in cc))
+
+  -- the call that stands for the caller's call k, if the caller has one
+  abbrev Standing : ℕ → Type 0
+  Standing c = StandFor (told_of h) c (data_calls end c)
+
+  same_actors : (c : ℕ) → map (λ (call : Submission). call.actor) (data_calls end c) ≡ map (λ (call : Submission). call.actor) (calls_of c h)
+  same_actors c = subs (calls_in end c) ∙ fits.calls c
+    where
+      subs : (xs : List ToldCall) → map (λ (call : Submission). call.actor) (map submission_of_call xs) ≡ map (λ (call : ToldCall). call.actor) xs
+      subs [] = refl
+      subs (x ∷ xs) = ap (λ (l : List ℕ). x.actor ∷ l) (subs xs)
+
+  -- one that no line tells is as it ran
+  as_ran : (c a p : ℕ) (caller : ToldCaller) (call : ToldCall) (item : RunItem) → caller_in end c ≡ Some caller → caller.has_lines ≡ false
+      → slice_get (runs_of a h) p ≡ Some item → item.caller ≡ c → slice_get caller.calls.items item.future ≡ Some call → IsAsRun (submission_of_call call) item
+  as_ran c a p caller call item there untold ran of at =
+      let same = fits.as_ran a p item caller call ran (ap (caller_in end) of ∙ there) untold at in
+      record { method = same.0; args = same.1 }
+
+  stands : (c : ℕ) (caller : ToldCaller) → caller_in end c ≡ Some caller → caller.has_lines ≡ false → Standing c
+  stands c caller there untold = record { actors = same_actors c; each = each; ran = ran }
+    where
+      own : calls_in end c ≡ caller.calls.items
+      own = of_caller end c caller there
+
+      each : (k : ℕ) (sub : Submission) → slice_get (data_calls end c) k ≡ Some sub → Ran (told_of h) c k sub ⊎ (sub.args ≡ [])
+      each k sub at = go call.0.place refl
+        where
+          call : (call : ToldCall) × IsCallIn end c k call × (submission_of_call call ≡ sub)
+          call = call_there end c k sub at
+
+          mine : slice_get caller.calls.items k ≡ Some call.0
+          mine = ap (λ (l : List ToldCall). slice_get l k) (sym own) ∙ call.1
+
+          is : StandsThere end c k call.0 × IsDecided end caller call.0
+          is = decided c k caller call.0 there mine
+
+          go : (o : Option (ℕ × ℕ)) → call.0.place ≡ o → Ran (told_of h) c k sub ⊎ (sub.args ≡ [])
+          go None none = inr (ap (λ (s : Submission). s.args) (sym call.2) ∙ is.1.untold untold none)
+          go (Some (a, p)) some =
+              let ran = item_there end h a p c k fits (is.0 a p some) in
+              let of : ran.0.caller ≡ c = ap (λ (r : ℕ × ℕ). r.0) ran.2 in
+              let future : ran.0.future ≡ k = ap (λ (r : ℕ × ℕ). r.1) ran.2 in
+              inl (record {
+                actor = a;
+                place = p;
+                item = ran.0;
+                at = ran.1;
+                caller = of;
+                future = future;
+                is = subst (λ (s : Submission). IsAsRun s ran.0) call.2
+                    (as_ran c a p caller call.0 ran.0 there untold ran.1 of (ap (slice_get caller.calls.items) future ∙ mine));
+              })
+
+      ran : (a place : ℕ) (item : RunItem) (sub : Submission) → slice_get (runs_of a h) place ≡ Some item → item.caller ≡ c
+          → slice_get (data_calls end c) item.future ≡ Some sub → IsAsRun sub item
+      ran a place item sub at of there_sub =
+          let call = call_there end c item.future sub there_sub in
+          subst (λ (s : Submission). IsAsRun s item) call.2
+          (as_ran c a place caller call.0 item there untold at of (ap (λ (l : List ToldCall). slice_get l item.future) (sym own) ∙ call.1))
+
+  -- one that awaits nothing isn't bound
+  unbound : (c : ℕ) (caller : ToldCaller) → caller_in end c ≡ Some caller → FitsSteps c steps caller → caller.has_lines ≡ false → bound_of end c ≡ None
+  unbound c caller there fit untold = bound_is end c caller there ∙ fit.bound ∙ go (awaits c steps) refl
+    where
+      go : (b : Bool) → awaits c steps ≡ b → cond b (Some (steps_of_caller c steps)) None ≡ None
+      go false e = refl
+      go true e = let bad : true ≡ false = sym (fit.lined e) ∙ untold in cc
+
+  pub calls_may_stand : MayStandFor (bound_of end) (told_of h) (data_calls end)
+  calls_may_stand c = go (numbered c)
+    where
+      go : (1 ≤ c) × (c ≤ 16) ⊎ (calls_of c h ≡ []) → (data_calls end c ≡ calls_of c h) ⊎ ((bound_of end c ≡ None) × Standing c)
+      go (inr none) = inl (none_there c none)
+      go (inl (some, few)) = by (line.0.has_lines) refl
+        where
+          line : (caller : ToldCaller) × (caller_in end c ≡ Some caller) × FitsSteps c steps caller
+          line = lines c some few
+
+          by : (b : Bool) → line.0.has_lines ≡ b → (data_calls end c ≡ calls_of c h) ⊎ ((bound_of end c ≡ None) × Standing c)
+          by true e = inl (told_there c some few (ap (map submission_of_call) (of_caller end c line.0 line.1) ∙ line.2.told e))
+          by false e = inr (unbound c line.0 line.1 line.2 e, stands c line.0 line.1 e)

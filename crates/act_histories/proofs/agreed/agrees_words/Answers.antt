@@ -1,0 +1,15 @@
+use Rattle.act_histories.proofs.Common.{List, ℕ, ◌++◌, ◌∙◌, sym, ap, append_assoc, map, subst, All, Arg}
+use Rattle.act_types.specs.Texts.{method_text, settled_text, with_spaces}
+use Rattle.act_summaries.specs.Stems.{IsReadable}
+use Rattle.act_histories.specs.Agreed.{settled_so}
+use Rattle.act_histories.proofs.Agreeing.{each_read}
+use Rattle.act_histories.proofs.agreed.agrees_words.Goals as goal
+
+pub returns : goal.returns
+returns c = λ front holds.
+    let call = c.args.call.now in (
+      ap (λ (l : List ℕ). front ++ l) (c.are_words.ensures.0 holds ∙ c.as_bytes.ensures.value ∙ c.in_ok-told.ensures)
+          ∙ sym (append_assoc front (method_text call.method) (with_spaces (map settled_text (map settled_so call.args)))),
+      c.is_sayable_method.ensures c.if-not-is_sayable_method.false,
+      each_read call.args (subst (All (λ (arg : Arg). IsReadable (settled_so arg))) c.as_slice.ensures (c.are_readable.ensures c.if-not-are_readable.false)),
+    )
