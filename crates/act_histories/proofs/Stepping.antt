@@ -27,12 +27,3 @@ steps_go_on c steps i at next s own within is one so_far = record {
   within = one.within;
   same = one.same ∙ ap (λ (front : List Step). front ++ own_step c s) so_far.same ∙ sym (steps_more c steps i s within is);
 }
-
--- ---- the callers, one after the other
-
-pub one_further : (P : ℕ → Type 0) (n : ℕ) → ((c : ℕ) → 1 ≤ c → c ≤ n → P c) → P (n + 1) → (c : ℕ) → 1 ≤ c → c ≤ n + 1 → P c
-one_further P n all last c from upto = go (leb c n) refl
-  where
-    go : (b : Bool) → leb c n ≡ b → P c
-    go true below = all c from (leb-true c n below)
-    go false above = let past = leb-false c n above in let is : n + 1 ≡ c = omega arith in subst P is last

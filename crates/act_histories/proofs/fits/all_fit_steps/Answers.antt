@@ -1,5 +1,5 @@
 use Rattle.act_histories.proofs.Common.{◌≡◌, ℕ, Some, arith, caller_in, ToldCaller, FitsSteps}
-use Rattle.act_histories.proofs.Stepping.{one_further}
+use Rattle.act_histories.proofs.Places.{one_further}
 use Rattle.act_histories.proofs.fits.all_fit_steps.Goals as goal
 
 pub loop-before-preserved : goal.loop-before-preserved
