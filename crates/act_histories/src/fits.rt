@@ -85,8 +85,8 @@ fn same_step(one: &Step, other: &Step) -> bool
     }
 }
 
-fn is_submit(step: &Step, a: ActorId, method: &Method, args: &[Arg]) -> bool
-    ensures { IsTrue result → step.now ≡ lines.Submit a method.now args.now }
+pub(crate) fn is_submit(step: &Step, a: ActorId, method: &Method, args: &[Arg]) -> bool
+    ensures same { IsTrue result → step.now ≡ lines.Submit a method.now args.now }
 {
     match step {
         Step::Submit(actor, own, given) => {
@@ -96,8 +96,8 @@ fn is_submit(step: &Step, a: ActorId, method: &Method, args: &[Arg]) -> bool
     }
 }
 
-fn is_copy(step: &Step, a: ActorId) -> bool
-    ensures { IsTrue result → step.now ≡ lines.Copy a }
+pub(crate) fn is_copy(step: &Step, a: ActorId) -> bool
+    ensures same { IsTrue result → step.now ≡ lines.Copy a }
 {
     match step {
         Step::Copy(actor) => *actor == a,
@@ -105,8 +105,8 @@ fn is_copy(step: &Step, a: ActorId) -> bool
     }
 }
 
-fn is_release(step: &Step, a: ActorId) -> bool
-    ensures { IsTrue result → step.now ≡ lines.Release a }
+pub(crate) fn is_release(step: &Step, a: ActorId) -> bool
+    ensures same { IsTrue result → step.now ≡ lines.Release a }
 {
     match step {
         Step::Release(actor) => *actor == a,
@@ -114,8 +114,8 @@ fn is_release(step: &Step, a: ActorId) -> bool
     }
 }
 
-fn is_kill(step: &Step, a: ActorId) -> bool
-    ensures { IsTrue result → step.now ≡ lines.Kill a }
+pub(crate) fn is_kill(step: &Step, a: ActorId) -> bool
+    ensures same { IsTrue result → step.now ≡ lines.Kill a }
 {
     match step {
         Step::Kill(actor) => *actor == a,

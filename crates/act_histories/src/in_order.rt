@@ -14,10 +14,10 @@ ghost use Rattle.act_executor.specs.PlanPlays.{step_of, DoesStepIn};
 ghost use Rattle.act_histories.specs.Play.{is_await, awaits, DoesSteps};
 ghost use Rattle.act_histories.specs.Order.{HasDone, HaveDone, Tells, IsPast};
 
-use act_compare::{same_args, same_method};
+use crate::fits::{is_copy, is_kill, is_release, is_submit};
 use act_kinds::Actor;
 use act_rules::{Event, Outcome, Step};
-use act_types::{ActorId, Arg, CALLER_NUMBERS, CallerId, FutureId, MAX_CALLERS, Method, NoMemory};
+use act_types::{CALLER_NUMBERS, CallerId, FutureId, MAX_CALLERS, NoMemory};
 use act_world::{World, is_memory};
 
 /// Whether the step awaits an answer.
@@ -58,44 +58,6 @@ fn caller_of(event: &Event) -> Option<CallerId>
         Event::TakeKill(_) => None,
         Event::Tell(_, _) => None,
         Event::Retire(_) => None,
-    }
-}
-
-fn is_submit(step: &Step, a: ActorId, method: &Method, args: &[Arg]) -> bool
-    ensures { IsTrue result → step.now ≡ lines.Submit a method.now args.now }
-{
-    match step {
-        Step::Submit(actor, own, given) => {
-            *actor == a && same_method(own, method) && same_args(given.as_slice(), args)
-        }
-        _ => false,
-    }
-}
-
-fn is_copy(step: &Step, a: ActorId) -> bool
-    ensures { IsTrue result → step.now ≡ lines.Copy a }
-{
-    match step {
-        Step::Copy(actor) => *actor == a,
-        _ => false,
-    }
-}
-
-fn is_release(step: &Step, a: ActorId) -> bool
-    ensures { IsTrue result → step.now ≡ lines.Release a }
-{
-    match step {
-        Step::Release(actor) => *actor == a,
-        _ => false,
-    }
-}
-
-fn is_kill(step: &Step, a: ActorId) -> bool
-    ensures { IsTrue result → step.now ≡ lines.Kill a }
-{
-    match step {
-        Step::Kill(actor) => *actor == a,
-        _ => false,
     }
 }
 
