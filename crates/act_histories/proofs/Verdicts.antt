@@ -1,36 +1,40 @@
 -- What was read, played and written of a history.
-use Rattle.act_histories.proofs.Common.{◌≡◌, ℕ, ◌+◌, ◌<◌, List, [], ◌++◌, length, map, Option, Some, None, Result, Ok, Err, refl, sym, ap, ◌∙◌, subst, arith}
-use Rattle.act_histories.proofs.Common.{string_bytes, Keeps, MAX_SCRIPT_BYTES, Event, Role, Step, Play, Threads, ActorSpec, Script, spelled, actor_spec_of}
-use Rattle.act_histories.proofs.Common.{IsWholeInput, script_of, CheckFault, Verdict, EndsSo, IsPlayScript, IsPlayText, IsVerdict, IsVerdictOf, IsBeforeVerdict}
-use Rattle.act_histories.proofs.Common.{WroteVerdict, Checked}
+use Rattle.std.proofs.Common.{◌≡◌, ℕ, ◌+◌, ◌≤◌, true, List, ◌++◌, length, map, Option, Some, None, Result, Ok, Err, IfOk, refl, string_bytes}
+use Rattle.std.specs.Io.KnownBytes.{Keeps}
+use Rattle.act_types.specs.declared.limits.TheConstants.{MAX_SCRIPT_BYTES}
+use Rattle.act_rules.specs.declared.event.Event.{Event}
+use Rattle.act_rules.specs.declared.script.Mode.TheVariants.{Play, Threads}
+use Rattle.act_rules.specs.declared.script.Role.{Role}
+use Rattle.act_rules.specs.declared.script.Step.{Step}
+use Rattle.act_rules.specs.Grammar.{Script, spelled}
+use Rattle.act_rules.specs.Scripts.{actor_spec_of}
+use Rattle.act_console.specs.Input.{IsWholeInput}
+use Rattle.act_console.specs.Plans.{script_of}
+use Rattle.act_decisions.specs.Play.{EndsSo, IsPlayText, play_of}
+use Rattle.act_histories.specs.Checked.{Checked, IsVerdict, IsVerdictOf, IsBeforeVerdict, WroteVerdict}
+use Rattle.act_histories.specs.Cut.{told_part}
+use Rattle.act_histories.specs.declared.check.Verdict.{Verdict}
+use Rattle.act_histories.specs.declared.fault.CheckFault.{CheckFault}
 use Rattle.act_histories.specs.declared.fault.CheckFault.TheVariants as faults
 use Rattle.act_histories.specs.declared.check.Verdict.TheVariants as verdicts
 
 -- ---- a play
 
--- events with the same roles
-pub is_script : (roles casts : List Role) (steps : List (ℕ × Step × ℕ)) (events : List Event) (rest : List ℕ) → roles ≡ casts → EndsSo (map actor_spec_of casts) steps events rest
-    → IsPlayScript (script_of roles steps) rest (record { roles = casts; events = events; steps = [] })
-is_script roles casts steps events rest same ends = record {
-  ends = subst (λ (roles : List Role). EndsSo (map actor_spec_of roles) steps events rest) (sym same) ends;
-  same = λ i. record { roles = sym same i; events = events; steps = [] };
-}
-
--- a text that spells a play
-pub is_text : (script play : Script) (rest text : List ℕ) → spelled Play text ≡ Ok play → IsPlayScript script rest play → IsPlayText script rest text
-is_text script play rest text read is = record { events = play.events; ends = is.ends; written = λ _. read ∙ ap Ok is.same }
-
--- a text that is too long to be read
-pub is_long : (script : Script) (events : List Event) (rest text : List ℕ) → MAX_SCRIPT_BYTES < length text → EndsSo (map actor_spec_of script.roles) script.steps events rest → IsPlayText script rest text
-is_long script events rest text long ends = record { events = events; ends = ends; written = λ short. absurd (omega arith) }
+-- a text that is read as a play of these roles and events, unless it is too long to be read
+pub is_play_text : (roles : List Role) (steps : List (ℕ × Step × ℕ)) (events : List Event) (rest text : List ℕ) → EndsSo (map actor_spec_of roles) steps events rest
+    → (length text ≤ MAX_SCRIPT_BYTES → spelled Play text ≡ Ok (play_of roles events)) → IsPlayText (script_of roles steps) rest text
+is_play_text roles steps events rest text ends written = record { events = events; ends = ends; written = written }
 
 -- ---- a verdict
 
--- the verdict of the first lines and the other ones is that of all
-pub of_parts : (bytes front rest : List ℕ) (script : Script) (verdict : Verdict) → bytes ≡ front ++ rest → spelled Threads front ≡ Ok script → IsVerdictOf script rest verdict → IsVerdict bytes verdict
-of_parts bytes front rest script (verdicts.Play text) parts read is = record { front = front; rest = rest; parts = parts; script = script; read = read; play = is }
-of_parts bytes front rest script (verdicts.Refused text) parts read is = tt
-of_parts bytes front rest script (verdicts.Mistake text) parts read is = tt
+-- the verdict of the script and the other lines is that of all
+pub of_parts : (bytes front rest : List ℕ) (script : Script) (verdict : Verdict) → bytes ≡ front ++ rest → rest ≡ told_part true bytes → spelled Threads front ≡ Ok script
+    → IsVerdictOf script rest verdict → IsVerdict bytes verdict
+of_parts bytes front rest script (verdicts.Play text) parts told read is =
+    record { script = script; rest = rest; read = record { front = front; parts = parts; told = told; read = read }; play = is }
+of_parts bytes front rest script (verdicts.Refused text) parts told read is =
+    record { script = script; rest = rest; read = record { front = front; parts = parts; told = told; read = read }; nowhere = is }
+of_parts bytes front rest script (verdicts.Mistake text) parts told read is = tt
 
 -- ---- what was written
 
@@ -43,7 +47,7 @@ module _ (had left old new : Option (List ℕ)) (bytes : List ℕ) (whole : IsWh
   written (verdicts.Play text) (Err faults.Memory) is wrote = absurd wrote
   written (verdicts.Play text) (Err faults.Reading) is wrote = absurd wrote
   written (verdicts.Refused text) (Ok done) is wrote = absurd wrote
-  written (verdicts.Refused text) (Err faults.Refused) is wrote = (string_bytes text, wrote)
+  written (verdicts.Refused text) (Err faults.Refused) is wrote = (bytes, whole, is, string_bytes text, wrote)
   written (verdicts.Refused text) (Err faults.Writing) is wrote = (string_bytes text, wrote)
   written (verdicts.Refused text) (Err faults.Mistake) is wrote = absurd wrote
   written (verdicts.Refused text) (Err faults.Memory) is wrote = absurd wrote
@@ -67,8 +71,9 @@ unwritten had left old faults.Mistake is = absurd is
 unwritten had left old faults.Refused is = absurd is
 unwritten had left old faults.Writing is = absurd is
 
--- ---- what ends so
+-- ---- a result of which four things are said
 
--- what is said of casts is said of others that are the same
-pub ends_same : (casts same_casts : List ActorSpec) (steps : List (ℕ × Step × ℕ)) (events : List Event) (rest : List ℕ) → casts ≡ same_casts → EndsSo casts steps events rest → EndsSo same_casts steps events rest
-ends_same casts same_casts steps events rest same ends = subst (λ (casts : List ActorSpec). EndsSo casts steps events rest) same ends
+pub all_four : {T F : Type 0} (result : Result T F) (A B C D : T → Type 0) → IfOk result A → IfOk result B → IfOk result C → IfOk result D
+    → IfOk result (λ x. A x × B x × C x × D x)
+all_four (Ok x) A B C D a b c d = (a, b, c, d)
+all_four (Err fault) A B C D a b c d = tt

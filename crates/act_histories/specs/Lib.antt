@@ -1,11 +1,2 @@
-pub mod Play
-pub mod Order
+pub mod Cut
 pub mod Checked
-pub mod OneWay
-pub mod Agreed
-pub mod Fits
-pub mod Placed
-pub mod Misplaced
-pub mod Within
-pub mod LeftBy
-pub mod Read

@@ -1,41 +1,41 @@
 //! A check of a history, from bytes to bytes.
 
-ghost use Rattle.std.specs.Prelude.{◌≡◌, ◌≤◌, ◌<◌, ◌+◌, ◌^◌, ℕ, List, [], None, length, map, IfOk, IfErr, OnOk, OnErr, string_bytes};
+ghost use Rattle.std.specs.Prelude.{◌≡◌, ◌<◌, ◌≤◌, ◌+◌, ◌^◌, ℕ, List, Ok, length, map, IfOk, IfErr, IsTrue, OnOk, OnErr, string_bytes};
+ghost use Rattle.std.specs.List.{list_all};
 ghost use Rattle.std.specs.Io.KnownBytes.{Appends};
 ghost use Rattle.act_rules.specs.declared.script.Mode.TheVariants.{Play, Threads};
-ghost use Rattle.act_rules.specs.Grammar.{Script as Spelled};
+ghost use Rattle.act_rules.specs.declared.script.Step.{Step as Line};
+ghost use Rattle.act_rules.specs.Grammar.{Script as Spelled, spelled};
 ghost use Rattle.act_rules.specs.Scripts.{actor_spec_of};
-ghost use Rattle.act_rules.specs.History.{ActorSpec};
 ghost use Rattle.act_scripts.specs.Roles.{AreFitting};
 ghost use Rattle.act_scripts.specs.Spelled.{mode_of, count_of, spelled_script};
-ghost use Rattle.act_world.specs.IsReachedBy.{IsReachedBy, HasRoom};
-ghost use Rattle.act_world.specs.View.{world_view};
+ghost use Rattle.act_summaries.specs.Summaries.{is_sayable_role};
 ghost use Rattle.act_console.specs.Input.{IsWholeInput};
 ghost use Rattle.act_console.specs.Output.{AppendsPrefix};
 ghost use Rattle.act_console.specs.Plans.{script_of};
 ghost use Rattle.act_console.specs.Stock.{IsReady};
-ghost use Rattle.act_histories.specs.Play.{EndsSo, IsPlayScript, IsPlayText};
+ghost use Rattle.act_decisions.specs.Decided.{IsWalkAfter};
+ghost use Rattle.act_decisions.specs.Play.{EndsSo, play_of};
 ghost use Rattle.act_histories.specs.Checked.{IsVerdict, IsVerdictOf, IsBeforeVerdict, WroteVerdict, Checked};
 
-use crate::blocked::why_blocked;
-use crate::compared::ends_so;
+use crate::copied::copied_roles;
+use crate::cut::{Cut, cut_of};
 use crate::fault::CheckFault;
-use crate::faults::all_faults;
 use crate::history::{History, Lines};
 use crate::mistake::{Mistake, Wrongly};
-use crate::parts::{Cut, cut_of};
 use crate::printed::play_text;
 use crate::reading::read_history;
-use crate::reason::{Blame, Reasons, push_blames};
-use crate::rebuilt::{Rebuilt, rebuild};
-use crate::rules::first_blame;
-use crate::values::difference;
-use act_compare::same_roles;
+use crate::reason::Reasons;
+use crate::refusing::{line_of_step, why_refused};
+use crate::told_end::told_end;
+use act_compare::{same_events, same_roles};
 use act_console::{ConsoleFault, Stock, casts_of, read_whole, write_whole};
+use act_decisions::{Decision, decide};
 use act_kinds::{Actor, Boxed};
-use act_rules::{Event, Mode, Outcome, Role, Wrong};
+use act_rules::{Event, Mode, Role, Wrong};
 use act_scripts::{Items, Script, ScriptFault, read_script};
-use act_types::{ListOf, MAX_SCRIPT_BYTES, NoMemory};
+use act_types::{MAX_SCRIPT_BYTES, NoMemory};
+use act_walks::{ToldEnd, WalkFault, Walked, walk};
 use act_world::World;
 use std::alloc::{AllocError, Global};
 use std::io::{Read, Write};
@@ -51,9 +51,6 @@ pub(crate) enum Verdict {
     Mistake(String),
 }
 
-/// More events than a world takes.
-const MAX_EVENTS: usize = 4_294_967_296;
-
 fn mistake_of(alloc: Global, line: u32, wrong: Wrongly) -> Result<Verdict, AllocError>
     ensures of_bytes { (bytes : List ℕ) → IfOk result (IsVerdict bytes) }
     ensures of_script { (script : Spelled) (rest : List ℕ) → IfOk result (IsVerdictOf script rest) }
@@ -62,190 +59,119 @@ fn mistake_of(alloc: Global, line: u32, wrong: Wrongly) -> Result<Verdict, Alloc
     Ok(Verdict::Mistake(text))
 }
 
-/// The lines of what is blamed.
-fn blames_text(alloc: Global, blames: &[Blame]) -> Result<String, AllocError> {
-    let mut text = String::new(alloc);
-    push_blames(&mut text, blames)?;
-    Ok(text)
-}
-
-/// The lines of what no play leaves, whatever the order of its events: none where there is nothing.
-fn faults_text(alloc: Global, history: &History, reasons: Reasons) -> Result<String, NoMemory> {
-    match reasons {
-        Reasons::All => all_faults(alloc, history),
-        Reasons::First => match first_blame(alloc, history)? {
-            None => Ok(String::new(alloc)),
-            Some(blame) => Ok(blames_text(alloc, &[blame])?),
-        },
-    }
-}
-
-/// Why events are no play of the history, once they were played in a world that was just opened.
-/// What is told of each event is added.
-fn why_not_in<K: Actor>(
-    alloc: Global,
-    world: &mut World<K>,
-    told: &mut Vec<Outcome>,
-    events: &[Event],
-    history: &History,
-    lines: Lines<'_>,
-) -> Result<Option<String>, NoMemory>
-    requires room { HasRoom (length events.now) world.old.network }
-    requires none { told.old.items ≡ [] }
-    ensures { IfOk result (λ why. why ≡ None → (casts : List ActorSpec) →
-        IsReachedBy casts [] (world_view K.state world.old) →
-        EndsSo casts lines.entry.steps.now events.now lines.entry.rest.now) }
+/// Whether a script that was read has these roles and events.
+fn is_script(script: &Script, roles: &[Role], events: &[Event]) -> bool
+    ensures { IsTrue result → spelled_script script.now ≡ play_of roles.now events.now }
 {
-    if ends_so(alloc, world, events, lines.steps, lines.rest, told)? {
-        return Ok(None);
-    }
-    let why = difference(alloc, world, history, events, told, lines)?;
-    Ok(Some(why))
-}
-
-/// Why events are no play of the history, once they were played with kinds of the stock.
-fn why_not_events(
-    alloc: Global,
-    stock: Stock,
-    roles: ListOf<Role>,
-    events: &[Event],
-    history: &History,
-    lines: Lines<'_>,
-) -> Result<Option<String>, NoMemory>
-    requires ready { IsReady ⟦<Boxed as Actor>⟧.state stock }
-    requires roles { AreFitting (map actor_spec_of roles) }
-    requires few { length events.now < 2 ^ 32 }
-    ensures { IfOk result (λ why. why ≡ None →
-        EndsSo (map actor_spec_of roles) lines.entry.steps.now events.now lines.entry.rest.now) }
-{
-    let casts = casts_of(alloc, stock, roles)?;
-    let mut world = World::open(alloc, casts)?;
-    let mut told = Vec::new(alloc);
-    let why = why_not_in(alloc, &mut world, &mut told, events, history, lines);
-    drop(told);
-    drop(world);
-    why
-}
-
-/// Why a play that was read again is none of the history.
-fn why_not_script(
-    alloc: Global,
-    stock: Stock,
-    roles: &[Role],
-    script: Script,
-    history: &History,
-    lines: Lines<'_>,
-) -> Result<Option<String>, NoMemory>
-    requires ready { IsReady ⟦<Boxed as Actor>⟧.state stock }
-    requires mode { mode_of script.items ≡ Play }
-    requires roles { AreFitting (map actor_spec_of script.casts) }
-    requires few { count_of script.items < 2 ^ 32 }
-    ensures { IfOk result (λ why. why ≡ None →
-        IsPlayScript (script_of roles.now lines.entry.steps.now) lines.entry.rest.now (spelled_script script)) }
-{
-    let Script { casts, items } = script;
-    let Items::Events(events) = items else {
-        unreachable!()
-    };
-    if !same_roles(roles, casts.as_slice()) {
-        drop(casts);
-        drop(events);
-        let why = String::from_str(alloc, "line 0: the play that was found has other roles\n")?;
-        return Ok(Some(why));
-    }
-    let why = why_not_events(alloc, stock, casts, events.as_slice(), history, lines);
-    drop(events);
-    why
-}
-
-/// Why the text of a play is none of the history, once it was read again.
-fn why_not_text(
-    alloc: Global,
-    stock: Stock,
-    roles: &[Role],
-    text: &str,
-    history: &History,
-    lines: Lines<'_>,
-) -> Result<Option<String>, NoMemory>
-    requires ready { IsReady ⟦<Boxed as Actor>⟧.state stock }
-    ensures { IfOk result (λ why. why ≡ None →
-        IsPlayText (script_of roles.now lines.entry.steps.now) lines.entry.rest.now text.now) }
-{
-    match read_script(alloc, text.as_bytes(), Mode::Play) {
-        Ok(script) => why_not_script(alloc, stock, roles, script, history, lines),
-        Err(ScriptFault::NoMemory) => Err(NoMemory),
-        Err(ScriptFault::Line(line, wrong)) => {
-            let why = format!(in alloc;
-                "line 0: the play that was found has a line {line}: {wrong}\n"
-            )?;
-            Ok(Some(why))
+    match &script.items {
+        Items::Events(read) => {
+            same_roles(script.casts.as_slice(), roles) && same_events(read.as_slice(), events)
         }
+        Items::Steps(_) => false,
     }
 }
 
-/// Why a play is none of the history. One that is longer than a script may be isn't read again.
-fn why_not(
-    alloc: Global,
-    stock: Stock,
-    roles: ListOf<Role>,
-    events: &[Event],
-    text: &str,
-    history: &History,
-    lines: Lines<'_>,
-) -> Result<Option<String>, NoMemory>
-    requires ready { IsReady ⟦<Boxed as Actor>⟧.state stock }
-    requires roles { AreFitting (map actor_spec_of roles) }
-    ensures { IfOk result (λ why. why ≡ None →
-        IsPlayText (script_of roles lines.entry.steps.now) lines.entry.rest.now text.now) }
+/// Whether a text is read as a play of these roles and events, unless it is too long to be read.
+fn reads_so(alloc: Global, text: &str, roles: &[Role], events: &[Event]) -> Result<bool, NoMemory>
+    ensures { IfOk result (λ is. IsTrue is → length text.now ≤ MAX_SCRIPT_BYTES →
+        spelled Play text.now ≡ Ok (play_of roles.now events.now)) }
 {
-    if text.len() <= MAX_SCRIPT_BYTES {
-        return why_not_text(alloc, stock, roles.as_slice(), text, history, lines);
+    if text.len() > MAX_SCRIPT_BYTES {
+        return Ok(true);
     }
-    if events.len() >= MAX_EVENTS {
-        let why = String::from_str(alloc, "line 0: the play that was found is too long\n")?;
-        return Ok(Some(why));
+    match read_script(alloc, text.as_bytes(), Mode::Play) {
+        Ok(script) => Ok(is_script(&script, roles, events)),
+        Err(ScriptFault::NoMemory) => Err(NoMemory),
+        Err(ScriptFault::Line(_, _)) => Ok(false),
     }
-    why_not_events(alloc, stock, roles, events, history, lines)
 }
 
-/// The verdict of events that were found.
-fn verdict_of_events(
+/// The verdict of events that end so: the play's text, once it was read again.
+fn verdict_of_play(alloc: Global, roles: &[Role], events: &[Event]) -> Result<Verdict, NoMemory>
+    ensures { IfOk result (λ verdict. (steps : List (ℕ × Line × ℕ)) (rest : List ℕ) →
+        EndsSo (map actor_spec_of roles.now) steps events.now rest →
+        IsVerdictOf (script_of roles.now steps) rest verdict) }
+{
+    let text = play_text(alloc, roles, events)?;
+    if reads_so(alloc, &text, roles, events)? {
+        return Ok(Verdict::Play(text));
+    }
+    drop(text);
+    Ok(mistake_of(alloc, 0, Wrongly::OtherPlay)?)
+}
+
+/// The verdict of a history, by what a walk decides of it.
+fn verdict_of_walk(
+    alloc: Global,
+    reasons: Reasons,
+    roles: &[Role],
+    history: &History,
+    end: &ToldEnd,
+    walked: &Walked,
+    lines: Lines<'_>,
+) -> Result<Verdict, NoMemory>
+    requires roles { AreFitting (map actor_spec_of roles.now) }
+    requires sayable { IsTrue (list_all is_sayable_role roles.now) }
+    requires few { length lines.steps.now < 2 ^ 32 }
+    requires walk { IsWalkAfter ⟦<Boxed as Actor>⟧.state end.now (map actor_spec_of roles.now) walked.now }
+    ensures { IfOk result (IsVerdictOf (script_of roles.now lines.entry.steps.now) lines.entry.rest.now) }
+{
+    match decide(alloc, walked, roles, lines.steps, lines.rest, end)? {
+        Decision::Ends => verdict_of_play(alloc, roles, &walked.events),
+        Decision::Nowhere => {
+            let why = why_refused(alloc, history, reasons, walked, lines)?;
+            Ok(Verdict::Refused(why))
+        }
+        Decision::BadStep(c, place) => {
+            let line = line_of_step(lines.steps, c, place);
+            Ok(mistake_of(alloc, line, Wrongly::Script(Wrong::BadPlan))?)
+        }
+        Decision::Open => Ok(mistake_of(alloc, 0, Wrongly::Undecided)?),
+    }
+}
+
+/// A walk after what was read, in a world with kinds of the stock.
+fn walk_after(
     alloc: Global,
     stock: Stock,
-    roles: ListOf<Role>,
-    events: &[Event],
+    roles: &[Role],
+    end: &ToldEnd,
+) -> Result<Walked, WalkFault>
+    requires ready { IsReady ⟦<Boxed as Actor>⟧.state stock }
+    requires roles { AreFitting (map actor_spec_of roles.now) }
+    ensures { IfOk result (IsWalkAfter ⟦<Boxed as Actor>⟧.state end.now (map actor_spec_of roles.now)) }
+{
+    let copies = copied_roles(alloc, roles)?;
+    let casts = casts_of(alloc, stock, copies)?;
+    let world = World::open(alloc, casts)?;
+    walk(alloc, world, end)
+}
+
+/// The verdict of a history, by what is told of its end.
+fn verdict_of_end(
+    alloc: Global,
+    stock: Stock,
+    reasons: Reasons,
+    roles: &[Role],
     history: &History,
+    end: &ToldEnd,
     lines: Lines<'_>,
 ) -> Result<Verdict, NoMemory>
     requires ready { IsReady ⟦<Boxed as Actor>⟧.state stock }
-    requires roles { AreFitting (map actor_spec_of roles) }
-    ensures { IfOk result (IsVerdictOf (script_of roles lines.entry.steps.now) lines.entry.rest.now) }
+    requires roles { AreFitting (map actor_spec_of roles.now) }
+    requires sayable { IsTrue (list_all is_sayable_role roles.now) }
+    requires few { length lines.steps.now < 2 ^ 32 }
+    ensures { IfOk result (IsVerdictOf (script_of roles.now lines.entry.steps.now) lines.entry.rest.now) }
 {
-    let text = play_text(alloc, roles.as_slice(), events)?;
-    match why_not(alloc, stock, roles, events, &text, history, lines)? {
-        None => Ok(Verdict::Play(text)),
-        Some(why) => Ok(Verdict::Refused(why)),
+    match walk_after(alloc, stock, roles, end) {
+        Ok(walked) => {
+            let verdict = verdict_of_walk(alloc, reasons, roles, history, end, &walked, lines);
+            drop(walked);
+            verdict
+        }
+        Err(WalkFault::Stuck) => Ok(mistake_of(alloc, 0, Wrongly::Undecided)?),
+        Err(WalkFault::NoMemory) => Err(NoMemory),
     }
-}
-
-/// The verdict of a play that was made as far as it could be.
-fn verdict_of_rebuilt(
-    alloc: Global,
-    stock: Stock,
-    roles: ListOf<Role>,
-    rebuilt: &Rebuilt,
-    history: &History,
-    lines: Lines<'_>,
-) -> Result<Verdict, NoMemory>
-    requires ready { IsReady ⟦<Boxed as Actor>⟧.state stock }
-    requires roles { AreFitting (map actor_spec_of roles) }
-    ensures { IfOk result (IsVerdictOf (script_of roles lines.entry.steps.now) lines.entry.rest.now) }
-{
-    let blames = why_blocked(alloc, history, &rebuilt.progress)?;
-    if !blames.is_empty() {
-        return Ok(Verdict::Refused(blames_text(alloc, &blames)?));
-    }
-    verdict_of_events(alloc, stock, roles, &rebuilt.events, history, lines)
 }
 
 /// The verdict of a history, which was read.
@@ -253,21 +179,19 @@ fn verdict_of_history(
     alloc: Global,
     stock: Stock,
     reasons: Reasons,
-    roles: ListOf<Role>,
+    roles: &[Role],
     history: &History,
     lines: Lines<'_>,
 ) -> Result<Verdict, NoMemory>
     requires ready { IsReady ⟦<Boxed as Actor>⟧.state stock }
-    requires roles { AreFitting (map actor_spec_of roles) }
-    ensures { IfOk result (IsVerdictOf (script_of roles lines.entry.steps.now) lines.entry.rest.now) }
+    requires roles { AreFitting (map actor_spec_of roles.now) }
+    requires sayable { IsTrue (list_all is_sayable_role roles.now) }
+    requires few { length lines.steps.now < 2 ^ 32 }
+    ensures { IfOk result (IsVerdictOf (script_of roles.now lines.entry.steps.now) lines.entry.rest.now) }
 {
-    let faults = faults_text(alloc, history, reasons)?;
-    if !faults.is_empty() {
-        return Ok(Verdict::Refused(faults));
-    }
-    let rebuilt = rebuild(alloc, history)?;
-    let verdict = verdict_of_rebuilt(alloc, stock, roles, &rebuilt, history, lines);
-    drop(rebuilt);
+    let end = told_end(alloc, history, lines.steps)?;
+    let verdict = verdict_of_end(alloc, stock, reasons, roles, history, &end, lines);
+    drop(end);
     verdict
 }
 
@@ -283,6 +207,8 @@ fn verdict_of_script(
     requires ready { IsReady ⟦<Boxed as Actor>⟧.state stock }
     requires mode { mode_of script.items ≡ Threads }
     requires roles { AreFitting (map actor_spec_of script.casts) }
+    requires sayable { IsTrue (list_all is_sayable_role script.casts) }
+    requires few { count_of script.items < 2 ^ 32 }
     ensures { IfOk result (IsVerdictOf (spelled_script script) rest.now) }
 {
     let Script {
@@ -299,7 +225,14 @@ fn verdict_of_script(
     };
     match read_history(alloc, roles.as_slice(), lines) {
         Ok(history) => {
-            let verdict = verdict_of_history(alloc, stock, reasons, roles, &history, lines);
+            let verdict = verdict_of_history(
+                alloc,
+                stock,
+                reasons,
+                roles.as_slice(),
+                &history,
+                lines,
+            );
             drop(history);
             verdict
         }

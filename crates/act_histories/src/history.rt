@@ -201,9 +201,14 @@ impl History {
         self.caller(c)?.call(k)
     }
 
+    /// The call at a place of an actor's run list.
+    pub(crate) fn ran_at(&self, a: ActorId, place: u32) -> Option<&Ran> {
+        self.actor(a)?.log.get(place as usize)
+    }
+
     /// A place of an actor's run list, with its line.
     pub(crate) fn told_at(&self, a: ActorId, place: u32) -> Option<ToldPlace> {
-        let ran = self.actor(a)?.log.get(place as usize)?;
+        let ran = self.ran_at(a, place)?;
         Some(ToldPlace {
             at: PlaceName { actor: a, place },
             line: ran.line,

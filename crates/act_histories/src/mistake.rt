@@ -18,6 +18,10 @@ pub(crate) enum Wrongly {
     NotSubmitted,
     NoFuture,
     NoEnd,
+    /// A walk after what was read decides nothing.
+    Undecided,
+    /// The play that was found is read as another one.
+    OtherPlay,
 }
 
 impl fmt::Display for Wrongly {
@@ -38,6 +42,10 @@ impl fmt::Display for Wrongly {
             ),
             Wrongly::NoFuture => f.write_str("NoFuture: no line tells the future of this call"),
             Wrongly::NoEnd => f.write_str("NoEnd: an actor has a role, and no line tells its end"),
+            Wrongly::Undecided => f.write_str("Undecided: whether a play ends so isn't known"),
+            Wrongly::OtherPlay => {
+                f.write_str("OtherPlay: the play that was found isn't read as it was written")
+            }
         }
     }
 }

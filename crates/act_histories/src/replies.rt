@@ -81,7 +81,7 @@ impl Replies {
     }
 
     /// What the actor answers at a place, unless that is behind its end.
-    fn at(&self, a: ActorId, place: u32) -> Option<&Answer> {
+    pub(crate) fn at(&self, a: ActorId, place: u32) -> Option<&Answer> {
         self.of_actors.get(a.number() as usize)?.get(place as usize)
     }
 

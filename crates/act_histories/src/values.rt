@@ -1,15 +1,14 @@
 //! What a world shows after a play that was found, beside what a history tells.
 
 use crate::differs::{push_other_answer, push_other_args};
-use crate::history::{Call, History, Lines};
-use crate::parts::is_filled_in;
-use crate::printed::push_event;
+use crate::history::{Call, History, Lines, slot_of};
 use crate::reason::ToldPlace;
 use act_compare::{same_answer, same_settled_args};
 use act_console::play_report;
+use act_decisions::is_filled_in;
 use act_kinds::Actor;
-use act_rules::{Did, Event, Outcome, RunItem};
-use act_types::{ActorId, CallerId, FutureId, NoMemory};
+use act_rules::{Event, RunItem};
+use act_types::{ACTOR_NUMBERS, ActorId, CallerId, FutureId, NoMemory};
 use act_world::{Stage, World};
 use std::alloc::{AllocError, Global};
 use std::str;
@@ -34,16 +33,10 @@ fn compare_run<K: Actor>(
     let Some(stage) = world.stage(a) else {
         return Ok(());
     };
-    let Some(actor) = history.actor(a) else {
-        return Ok(());
-    };
     let Some(told) = history.told_at(a, place) else {
         return Ok(());
     };
-    match (
-        log_of(&stage).get(place as usize),
-        actor.log.get(place as usize),
-    ) {
+    match (log_of(&stage).get(place as usize), history.ran_at(a, place)) {
         (Some(by_rules), Some(ran)) => {
             let by_rules = by_rules.args.as_slice();
             let args = ran.item.args.as_slice();
@@ -90,26 +83,25 @@ fn compare_answer<K: Actor>(
     push_other_answer(text, &at, kept, told, call.line)
 }
 
-/// Adds what differs after an event, if anything does.
-fn compare_event<K: Actor>(
+/// Compares the next call that the actor ran, and what its caller keeps of it, with what is told.
+/// `ran` has how many calls each actor ran before.
+fn compare_next<K: Actor>(
     text: &mut String,
     world: &World<K>,
     history: &History,
-    event: &Event,
-    told: &Outcome,
+    a: ActorId,
+    ran: &mut [u32; ACTOR_NUMBERS],
 ) -> Result<(), AllocError> {
-    match told {
-        Err(refusal) => {
-            text.push_str("line 0: ")?;
-            push_event(text, event)?;
-            writeln!(text, " is refused: {refusal}")
-        }
-        Ok(Did::Ran(place, _)) => match event {
-            Event::Run(a, _) => compare_run(text, world, history, *a, *place),
-            _ => Ok(()),
-        },
-        Ok(Did::Kept(c, k)) => compare_answer(text, world, history, *c, *k),
-        Ok(_) => Ok(()),
+    let slot = slot_of(a);
+    let place = ran[slot];
+    ran[slot] = place.wrapping_add(1);
+    compare_run(text, world, history, a, place)?;
+    if !text.is_empty() {
+        return Ok(());
+    }
+    match history.ran_at(a, place) {
+        None => Ok(()),
+        Some(ran) => compare_answer(text, world, history, ran.item.caller, ran.item.future),
     }
 }
 
@@ -119,11 +111,11 @@ fn compare_events<K: Actor>(
     world: &World<K>,
     history: &History,
     events: &[Event],
-    told: &[Outcome],
 ) -> Result<(), AllocError> {
-    for (place, outcome) in told.iter().enumerate() {
-        if let Some(event) = events.get(place) {
-            compare_event(text, world, history, event, outcome)?;
+    let mut ran = [0; ACTOR_NUMBERS];
+    for event in events {
+        if let Event::Run(a, _) = event {
+            compare_next(text, world, history, *a, &mut ran)?;
         }
         if !text.is_empty() {
             return Ok(());
@@ -174,22 +166,21 @@ fn compare_end<K: Actor>(
     Ok(())
 }
 
-/// What differs first between what is told and what the world shows that played the events.
+/// What differs first between what is told and what the world shows that played these events.
 pub(crate) fn difference<K: Actor>(
     alloc: Global,
     world: &World<K>,
     history: &History,
     events: &[Event],
-    told: &[Outcome],
     lines: Lines<'_>,
 ) -> Result<String, NoMemory> {
     let mut text = String::new(alloc);
-    compare_events(&mut text, world, history, events, told)?;
+    compare_events(&mut text, world, history, events)?;
     if text.is_empty() {
         compare_end(alloc, &mut text, world, lines)?;
     }
     if text.is_empty() {
-        text.push_str("line 0: the play that was found does other steps, or ends otherwise\n")?;
+        text.push_str("line 0: no play does these steps and ends so\n")?;
     }
     Ok(text)
 }

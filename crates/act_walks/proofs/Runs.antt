@@ -5,6 +5,7 @@ use Rattle.act_early.proofs.Common.{refusal_of, add_event, run_needs}
 use Rattle.act_plan_plays.proofs.Common.{IsBehind, Packet, SlotView, Runs, Died, Ended, Vacant, WorldView, IsStage, stage_of_slot, has_next_in_slot, Refines, next_is, item_is, item_of, or_second}
 use Rattle.act_plan_plays.proofs.Common.{after_post, shows_next, did, did_run, Did, option_map_or, length-map}
 use Rattle.std.proofs.lemmas.Option.{slice_get-map}
+use Rattle.std.specs.Prelude.{map}
 use Rattle.act_plan_plays.proofs.Seen.{cast_some}
 use Rattle.act_rules.specs.declared.event.Event.TheVariants as event
 use Rattle.act_rules.specs.declared.outcome.Did.TheVariants as did_so
@@ -14,8 +15,9 @@ use Rattle.act_walks.specs.declared.told.Left.{Left}
 use Rattle.act_walks.specs.declared.told.Left.TheVariants.{Open, Reply, Death}
 use Rattle.act_walks.specs.declared.told.ToldActor.{ToldActor}
 use Rattle.act_walks.specs.declared.told.ToldEnd.{ToldEnd}
+use Rattle.act_walks.specs.declared.told.ToldRun.{ToldRun}
 use Rattle.act_walks.specs.Eager.{IsEager}
-use Rattle.act_walks.specs.Fits.{Fits, FitsLeft, bound_of, left_of, actor_in, runs_in, is_dead_in, call_of_item}
+use Rattle.act_walks.specs.Fits.{Fits, FitsLeft, bound_of, left_of, actor_in, rans_in, call_of_run, runs_in, is_dead_in, call_of_item}
 use Rattle.act_walks.specs.Walking.{Parts, done_in, Stands, IsEndOf, IsWalking, GoesOn, Moves, NoRuns, NoKill, Does, DoesPost, IsRefused, Tries, RunsNext}
 use Rattle.act_walks.proofs.Eager.{sent, killed}
 use Rattle.act_walks.proofs.EagerRuns.{ran_kept, ran_lost}
@@ -250,5 +252,9 @@ kill_moves end a n old new false dead count long not = moves_refused end (NoKill
 pub actor_dead : (end : ToldEnd) (a : ℕ) (o : Option ToldActor) → actor_in end a ≡ o → is_dead_in end a ≡ option_map_or (λ (actor : ToldActor). actor.is_dead) o false
 actor_dead end a o there = ap (λ (o : Option ToldActor). option_map_or (λ (actor : ToldActor). actor.is_dead) o false) there
 
-pub actor_runs : (end : ToldEnd) (a : ℕ) (actor : ToldActor) → actor_in end a ≡ Some actor → runs_in end a ≡ actor.runs.items
-actor_runs end a actor there = ap (λ (o : Option ToldActor). option_map_or (λ (one : ToldActor). one.runs.items) o []) there
+pub actor_rans : (end : ToldEnd) (a : ℕ) (actor : ToldActor) → actor_in end a ≡ Some actor → rans_in end a ≡ actor.runs.items
+actor_rans end a actor there = ap (λ (o : Option ToldActor). option_map_or (λ (one : ToldActor). one.runs.items) o []) there
+
+-- their callers and futures
+pub actor_runs : (end : ToldEnd) (a : ℕ) (actor : ToldActor) → actor_in end a ≡ Some actor → runs_in end a ≡ map call_of_run actor.runs.items
+actor_runs end a actor there = ap (map call_of_run) (actor_rans end a actor there)

@@ -17,6 +17,7 @@ use Rattle.act_walks.specs.declared.told.ToldActor.{ToldActor}
 use Rattle.act_walks.specs.declared.told.ToldCall.{ToldCall}
 use Rattle.act_walks.specs.declared.told.ToldCaller.{ToldCaller}
 use Rattle.act_walks.specs.declared.told.ToldEnd.{ToldEnd}
+use Rattle.act_walks.specs.declared.told.ToldRun.{ToldRun}
 
 -- ---- what the data says
 
@@ -47,8 +48,15 @@ actor_in end a = slice_get end.actors.items a
 abbrev pub callers_of : ToldEnd → ℕ → List ℕ
 callers_of end a = option_map_or (λ actor. actor.callers.items) (actor_in end a) []
 
+abbrev pub rans_in : ToldEnd → ℕ → List ToldRun
+rans_in end a = option_map_or (λ actor. actor.runs.items) (actor_in end a) []
+
+-- the callers and the futures of these calls
+abbrev pub call_of_run : ToldRun → ℕ × ℕ
+call_of_run run = (run.caller, run.future)
+
 abbrev pub runs_in : ToldEnd → ℕ → List (ℕ × ℕ)
-runs_in end a = option_map_or (λ actor. actor.runs.items) (actor_in end a) []
+runs_in end a = map call_of_run (rans_in end a)
 
 abbrev pub is_dead_in : ToldEnd → ℕ → Bool
 is_dead_in end a = option_map_or (λ actor. actor.is_dead) (actor_in end a) false

@@ -16,5 +16,5 @@ mod walks;
 
 pub use fault::WalkFault;
 pub use played::Walked;
-pub use told::{Left, ToldActor, ToldCall, ToldCaller, ToldEnd};
+pub use told::{Left, ToldActor, ToldCall, ToldCaller, ToldEnd, ToldRun};
 pub use walks::walk;

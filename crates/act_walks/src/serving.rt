@@ -39,7 +39,7 @@ fn next_run<K: Actor>(world: &World<K>, end: &ToldEnd, a: ActorId) -> Option<(Ca
 {
     let actor = end.actors.get(a.number() as usize)?;
     let next = actor.runs.get(count_runs(world, a))?;
-    Some(*next)
+    Some((next.caller, next.future))
 }
 
 /// The actor runs the call that has come, and its reply is collected where it is told.

@@ -1,7 +1,7 @@
 //! What is told of a play's end.
 
 use act_rules::Step;
-use act_types::{ActorId, Arg, CallerId, FutureId, ListOf, Method};
+use act_types::{ActorId, Arg, CallerId, FutureId, ListOf, Method, Settled, SmallList};
 
 /// What is told of a call's answer.
 #[derive(Clone, Copy, Debug, PartialEq, Eq)]
@@ -25,6 +25,8 @@ pub struct ToldCall {
     pub is_open: bool,
     /// Where it ran, if it did: its actor, and the place in the run list.
     pub place: Option<(ActorId, u32)>,
+    /// Where a call ran that took its failure, if it gave a value and its death is told.
+    pub failed: Option<(ActorId, u32)>,
 }
 
 /// What is told of a caller.
@@ -38,13 +40,23 @@ pub struct ToldCaller {
     pub has_lines: bool,
 }
 
+/// A call that an actor is told to have run.
+#[derive(Debug, Drop)]
+pub struct ToldRun {
+    pub caller: CallerId,
+    pub future: FutureId,
+    pub method: Method,
+    /// The arguments that it ran with.
+    pub args: SmallList<Settled>,
+}
+
 /// What is told of an actor.
 #[derive(Debug, Drop)]
 pub struct ToldActor {
     /// The callers that its cast names.
     pub callers: Vec<CallerId>,
     /// The calls that it ran, in their order.
-    pub runs: Vec<(CallerId, FutureId)>,
+    pub runs: Vec<ToldRun>,
     pub is_dead: bool,
     pub is_retired: bool,
 }

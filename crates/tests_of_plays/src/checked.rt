@@ -24,8 +24,8 @@ const TWO_CALLS: Row = Row {
 /// No line submits the calls, and the second one never ran.
 const A_DEATH: Row = Row {
     history: "actor a1 counter c1\n# what was left\nc1.0 a1 = 5\nc1.1 a1 = ActorDied\n\na1 dead\na1.0 c1.0 add 5",
-    output: "actor a1 counter c1\nsubmit c1 a1 add 5\nsubmit c1 a1 get\nsend c1 0\ndeliver 0\nrun a1 c1\ncollect 0\n\
-        kill c1 a1\ntake a1\ntell a1 c1\ncollect 1\n",
+    output: "actor a1 counter c1\nkill c1 a1\nsubmit c1 a1 add 5\nsubmit c1 a1 get\nsend c1 0\ndeliver 0\nrun a1 c1\n\
+        collect 0\ntake a1\ntell a1 c1\ncollect 1\n",
     answer: Ok(()),
 };
 
@@ -144,10 +144,28 @@ const EACH_FAULT: Row = Row {
 const LEFT_OPEN: Row = Row {
     history: "actor a1 counter c1\nactor a2 list c1\nc1.0 a1 = *\nc1.1 a1 = *\nc1.2 a2 = 1\na1 dead\n\
         a1.0 c1.0 add 5\na2 live ?\na2.0 c1.2 push 5\n",
-    output: "actor a1 counter c1\nactor a2 list c1\nsubmit c1 a1 add 5\nsubmit c1 a1 get\nsubmit c1 a2 push 5\n\
-        send c1 0\ndeliver 0\nrun a1 c1\ncollect 0\nkill c1 a1\ntake a1\ntell a1 c1\ncollect 1\nsend c1 2\n\
-        deliver 1\nrun a2 c1\ncollect 2\n",
+    output: "actor a1 counter c1\nactor a2 list c1\nkill c1 a1\nsubmit c1 a1 add 5\nsubmit c1 a1 get\n\
+        submit c1 a2 push 5\nsend c1 0\ndeliver 0\nrun a1 c1\ncollect 0\ntake a1\nsend c1 2\ndeliver 1\n\
+        run a2 c1\ncollect 1\ntell a1 c1\ncollect 2\n",
     answer: Ok(()),
+};
+
+/// A later call took the failure of c1.0, whose reply would be 5. So c1 heard of the death of a1.
+const A_FAILURE_THAT_IS_A_DEATH: Row = Row {
+    history: "actor a1 counter c1\nactor a2 counter c1\nc1.0 a1 = *\nc1.1 a2 = *\na1 dead\na1.0 c1.0 add 5\n\
+        a2 live counter 0\na2.0 c1.1 add !0\n",
+    output: "actor a1 counter c1\nactor a2 counter c1\nkill c1 a1\nsubmit c1 a1 add 5\nsubmit c1 a2 add @0\n\
+        send c1 0\ndeliver 0\nrun a1 c1\ntake a1\ntell a1 c1\ncollect 1\nsend c1 1\ndeliver 1\nrun a2 c1\n\
+        collect 2\n",
+    answer: Ok(()),
+};
+
+/// Here a1 lives, so no death can have been the answer.
+const A_FAILURE_OF_A_LIVE_ACTOR: Row = Row {
+    history: "actor a1 counter c1\nactor a2 counter c1\nc1.0 a1 = *\nc1.1 a2 = *\na1 live counter 5\n\
+        a1.0 c1.0 add 5\na2 live counter 0\na2.0 c1.1 add !0\n",
+    output: "line 8: the arguments at a2.0 are 5 by the rules, and the history tells !0\n",
+    answer: Err(CheckFault::Refused),
 };
 
 const LEFT_OPEN_AND_NOT_RUN: Row = Row {
@@ -168,6 +186,14 @@ const ANOTHER_ANSWER: Row = Row {
     history: "actor a1 counter c1\nc1.0 a1 = 1\nc1.1 a1 = 9\na1 live counter 3\na1.0 c1.0 add 1\na1.1 c1.1 add 2\n",
     output: "line 6: the answer at a1.1 is 3 by the rules, and the history tells 9 (line 3)\n",
     answer: Err(CheckFault::Refused),
+};
+
+/// The caller awaits an answer, so it does all its steps, and it lets its handle go before the kill.
+const A_STEP_THAT_EVERY_PLAY_REFUSES: Row = Row {
+    history: "actor a1 counter c1\nsubmit c1 a1 get\nawait c1 0\nrelease c1 a1\nkill c1 a1\nc1.0 a1 = 0\n\
+        a1 live counter 0\na1.0 c1.0 get\n",
+    output: "line 5: BadPlan\n",
+    answer: Err(CheckFault::Mistake),
 };
 
 const A_SECOND_SPELLING: Row = Row {
@@ -224,6 +250,7 @@ fn plays_are_found(rt: HostRuntime) -> Result<(), Fail> {
     assert_told(&rt, &A_DEATH);
     assert_told(&rt, &AN_AWAIT);
     assert_told(&rt, &LEFT_OPEN);
+    assert_told(&rt, &A_FAILURE_THAT_IS_A_DEATH);
     Ok(())
 }
 
@@ -251,6 +278,7 @@ fn all_faults_are_told_where_they_are_asked_for(rt: HostRuntime) -> Result<(), F
 fn what_is_left_open_is_judged_no_further(rt: HostRuntime) -> Result<(), Fail> {
     assert_told(&rt, &LEFT_OPEN_AND_NOT_RUN);
     assert_told(&rt, &LEFT_OPEN_AND_ANOTHER_ARGUMENT);
+    assert_told(&rt, &A_FAILURE_OF_A_LIVE_ACTOR);
     assert_all_told(&rt, &LEFT_OPEN_AND_ANOTHER_ARGUMENT, Reasons::All);
     Ok(())
 }
@@ -268,5 +296,6 @@ fn awaits_that_no_play_keeps_are_refused(rt: HostRuntime) -> Result<(), Fail> {
 fn mistakes_are_told(rt: HostRuntime) -> Result<(), Fail> {
     assert_told(&rt, &A_SECOND_SPELLING);
     assert_told(&rt, &AN_AWAIT_OF_A_LATER_CALL);
+    assert_told(&rt, &A_STEP_THAT_EVERY_PLAY_REFUSES);
     Ok(())
 }

@@ -1,4 +1,5 @@
-use Rattle.act_histories.proofs.Common.{ℕ, List, subst, IsVerdict}
+use Rattle.std.proofs.Common.{ℕ, List, subst}
+use Rattle.act_histories.specs.Checked.{IsVerdict}
 use Rattle.act_histories.proofs.Verdicts.{written}
 use Rattle.act_histories.proofs.check.check_history.Goals as goal
 

@@ -1,0 +1,116 @@
+-- What was read, looked up by number, beside the roles of a script.
+use Rattle.act_decisions.proofs.Common.{◌≡◌, ℕ, ◌+◌, ◌<◌, ◌≤◌, ◌==◌, ◌⊎◌, inl, inr, Bool, true, false, if◌then◌else◌, List, [], ◌∷◌, length, map, filter, get_or, Option, Some, None}
+use Rattle.act_decisions.proofs.Common.{leb, leb-true, leb-false, refl, sym, ap, ◌∙◌, subst, arith, option_map, slice_get, slice_get-get_or, ActorSpec, actor_spec_of, Role, ToldEnd}
+use Rattle.std.specs.Prelude.{◌≢◌, AllPairs, find, nat_lt}
+use Rattle.std.proofs.lemmas.Bool.{cases_lt, ltb-true}
+use Rattle.std.proofs.lemmas.List.Kept.{AllPairs-filter}
+use Rattle.act_rules.specs.History.{actors_naming, callers_in, contains}
+use Rattle.act_rules.specs.Scripts.{actors_of_roles}
+use Rattle.act_rules.proofs.Lists.{AllPairs-map, find-map}
+use Rattle.act_scripts.specs.Roles.{AreFitting}
+use Rattle.act_walks.specs.declared.told.ToldActor.{ToldActor}
+use Rattle.act_walks.specs.declared.told.ToldRun.{ToldRun}
+use Rattle.act_walks.specs.Fits.{callers_of, rans_in}
+use Rattle.std.specs.Option.{option_map_or}
+use Rattle.std.proofs.lemmas.Option.{same_Some, slice_get_past, slice_get_within}
+
+-- ---- places
+
+-- the item at a place
+pub item_at : {X : Type 0} (xs : List X) (n : ℕ) (x : X) → n < length xs → x ≡ get_or xs n x → slice_get xs n ≡ Some x
+item_at {X = X} xs n x within is = slice_get-get_or xs n x within ∙ ap (λ (y : X). Some y) (sym is)
+
+-- the item that is read there
+pub read_at : {X : Type 0} (read items : List X) (n : ℕ) (x : X) → read ≡ items → true ≡ nat_lt n (length read) → x ≡ get_or read n x
+    → slice_get items n ≡ Some x
+read_at {X = X} read items n x same within is =
+    ap (λ (l : List X). slice_get l n) (sym same) ∙ item_at read n x (ltb-true n (length read) (sym within)) is
+
+-- what holds below a place, and there
+pub below_more : (P : ℕ → Type 0) (n : ℕ) → ((i : ℕ) → i < n → P i) → P n → (i : ℕ) → i < n + 1 → P i
+below_more P n front here i below = go (cases_lt i n)
+  where
+    go : (i < n) ⊎ (n ≤ i) → P i
+    go (inl before) = front i before
+    go (inr at) = let same : n ≡ i = omega arith in subst P same here
+
+module _ {X : Type 0} (P : ℕ → X → Type 0) (xs : List X) where
+  -- what holds of the items so far, and of the next
+  pub item_more : (n : ℕ) (x : X) → n < length xs → x ≡ get_or xs n x → P n x → ((i : ℕ) → i < n → (y : X) → slice_get xs i ≡ Some y → P i y)
+      → (i : ℕ) → i < n + 1 → (y : X) → slice_get xs i ≡ Some y → P i y
+  item_more n x within is here front = below_more (λ j. (y : X) → slice_get xs j ≡ Some y → P j y) n front there
+    where
+      there : (y : X) → slice_get xs n ≡ Some y → P n y
+      there y at = subst (P n) (same_Some x y (sym (item_at xs n x within is) ∙ at)) here
+
+  -- of all of them
+  pub all_items : (n : ℕ) → length xs ≤ n → ((i : ℕ) → i < n → (y : X) → slice_get xs i ≡ Some y → P i y) → (i : ℕ) (y : X) → slice_get xs i ≡ Some y → P i y
+  all_items n whole front i y at = front i (let within = slice_get_within xs i y at in omega (arith, within, whole)) y at
+
+-- ---- the callers, one after the other
+
+pub one_further : (P : ℕ → Type 0) (n : ℕ) → ((c : ℕ) → 1 ≤ c → c ≤ n → P c) → P (n + 1) → (c : ℕ) → 1 ≤ c → c ≤ n + 1 → P c
+one_further P n all last c from upto = go (leb c n) refl
+  where
+    go : (b : Bool) → leb c n ≡ b → P c
+    go true below = all c from (leb-true c n below)
+    go false above = let past = leb-false c n above in let is : n + 1 ≡ c = omega arith in subst P is last
+
+-- ---- actors
+
+-- nothing is said of one past the end
+pub unsaid : (end : ToldEnd) (a : ℕ) → length end.actors.items ≤ a → callers_of end a ≡ []
+unsaid end a past = ap (λ (o : Option ToldActor). option_map_or (λ actor. actor.callers.items) o []) (slice_get_past end.actors.items a past)
+
+-- what is said of one
+pub callers_said : (end : ToldEnd) (a : ℕ) (actor : ToldActor) → slice_get end.actors.items a ≡ Some actor → callers_of end a ≡ actor.callers.items
+callers_said end a actor at = ap (λ (o : Option ToldActor). option_map_or (λ actor. actor.callers.items) o []) at
+
+pub runs_said : (end : ToldEnd) (a : ℕ) (actor : ToldActor) → slice_get end.actors.items a ≡ Some actor → rans_in end a ≡ actor.runs.items
+runs_said end a actor at = ap (λ (o : Option ToldActor). option_map_or (λ actor. actor.runs.items) o []) at
+
+-- where it holds of the runs of each actor, it holds of each run
+pub all_runs : (end : ToldEnd) (P : ℕ → ℕ → ToldRun → Type 0) (n : ℕ) → length end.actors.items ≤ n
+    → ((a : ℕ) → a < n → (p : ℕ) (run : ToldRun) → slice_get (rans_in end a) p ≡ Some run → P a p run)
+    → (a p : ℕ) (run : ToldRun) → slice_get (rans_in end a) p ≡ Some run → P a p run
+all_runs end P n whole front a p run at = go (cases_lt a n)
+  where
+    go : (a < n) ⊎ (n ≤ a) → P a p run
+    go (inl below) = front a below p run at
+    go (inr past) =
+        let far : length end.actors.items ≤ a = omega (arith, whole, past) in
+        let none : rans_in end a ≡ [] = ap (λ (o : Option ToldActor). option_map_or (λ actor. actor.runs.items) o []) (slice_get_past end.actors.items a far) in
+        let bad : ◌≡◌ {A = Option ToldRun} None (Some run) = sym (ap (λ (l : List ToldRun). slice_get l p) none) ∙ at in
+        absurd (cc)
+
+-- ---- roles
+
+-- the callers that the role of an actor names are those of its cast
+pub role_found : (roles : List Role) (a : ℕ) (found : Option Role) → found ≡ find (λ role. role.actor == a) roles
+    → callers_in (option_map actor_spec_of found) ≡ callers_in (find (λ cast. cast.actor == a) (map actor_spec_of roles))
+role_found roles a found is =
+    ap (λ (o : Option Role). callers_in (option_map actor_spec_of o)) is
+    ∙ ap callers_in (sym (find-map (λ (cast : ActorSpec). cast.actor == a) actor_spec_of roles))
+
+abbrev roles_of : ℕ → List Role → List Role
+roles_of c roles = filter (λ (r : Role). contains c r.callers) roles
+
+abbrev casts_of : ℕ → List Role → List ActorSpec
+casts_of c roles = filter (λ (cast : ActorSpec). contains c cast.callers) (map actor_spec_of roles)
+
+-- the roles that name a caller are its casts
+pub naming_same : (c : ℕ) (roles : List Role) → actors_of_roles c roles ≡ actors_naming c (map actor_spec_of roles)
+naming_same c [] = refl
+naming_same c (role ∷ roles) = go (contains c role.callers) (naming_same c roles)
+  where
+    go : (b : Bool) → actors_of_roles c roles ≡ actors_naming c (map actor_spec_of roles)
+        → map (λ (r : Role). r.actor) (if b then role ∷ roles_of c roles else roles_of c roles)
+        ≡ map (λ (cast : ActorSpec). cast.actor) (if b then actor_spec_of role ∷ casts_of c roles else casts_of c roles)
+    go true rest = ap (λ (actors : List ℕ). role.actor ∷ actors) rest
+    go false rest = rest
+
+-- the actors whose casts name a caller differ
+pub naming_differ : (c : ℕ) (casts : List ActorSpec) → AreFitting casts → AllPairs (λ (one other : ℕ). one ≢ other) (actors_naming c casts)
+naming_differ c casts fitting =
+    AllPairs-map (λ (one other : ℕ). one ≢ other) (λ (cast : ActorSpec). cast.actor) (filter (λ (cast : ActorSpec). contains c cast.callers) casts)
+    (AllPairs-filter (λ (one other : ActorSpec). one.actor ≢ other.actor) (λ (cast : ActorSpec). contains c cast.callers) casts fitting.actors)

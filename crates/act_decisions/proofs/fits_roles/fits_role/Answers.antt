@@ -1,0 +1,19 @@
+use Rattle.act_decisions.proofs.Common.{◌≤◌, List, length, sym, ◌∙◌, subst}
+use Rattle.std.specs.Prelude.{option_copied}
+use Rattle.act_walks.specs.declared.told.ToldActor.{ToldActor}
+use Rattle.act_decisions.proofs.Fitting.{callers_said, read_at, role_found, unsaid}
+use Rattle.act_decisions.proofs.fits_roles.fits_role.Goals as goal
+
+pub returns-in-None : goal.returns-in-None
+returns-in-None c = λ holds.
+    unsaid c.args.end.now c.args.a (subst (λ (actors : List ToldActor). length actors ≤ c.args.a) c.deref.ensures.value c.in-None.ensures.lookup.3)
+    ∙ c.are_callers_of.ensures holds
+    ∙ role_found c.args.roles.now c.args.a (option_copied c.role_at-role.result) c.role_at-role.ensures
+
+pub returns-in-Some : goal.returns-in-Some
+returns-in-Some c = λ holds.
+    callers_said c.args.end.now c.args.a c.in-Some.actor.now
+    (read_at c.deref.result.now c.args.end.now.actors.items c.args.a c.in-Some.actor.now c.deref.ensures.value
+    c.in-Some.ensures.lookup.0 c.in-Some.ensures.lookup.1)
+    ∙ sym c.deref-in-Some.ensures.value ∙ c.are_callers_of-in-Some.ensures holds
+    ∙ role_found c.args.roles.now c.args.a (option_copied c.role_at-role.result) c.role_at-role.ensures

@@ -1,0 +1,11 @@
+pub mod Play
+pub mod OneWay
+pub mod Agreed
+pub mod Fits
+pub mod Placed
+pub mod Misplaced
+pub mod Within
+pub mod LeftBy
+pub mod Read
+pub mod Answered
+pub mod Decided

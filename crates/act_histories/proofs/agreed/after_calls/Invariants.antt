@@ -1,8 +1,0 @@
-use Rattle.act_histories.proofs.Common.{map, take}
-use Rattle.act_summaries.specs.Stems.{OfCall, placed}
-use Rattle.act_histories.specs.Agreed.{call_told, AgreeUpTo}
-use Rattle.act_histories.proofs.agreed.after_calls.Given as goal
-
--- the lines so far are those of the calls so far
-abbrev pub invariant-loop-k : goal.invariant-loop-k
-invariant-loop-k l = AgreeUpTo (placed (OfCall l.c) 0 (map call_told (take l.k l.calls))) l.rest l.left

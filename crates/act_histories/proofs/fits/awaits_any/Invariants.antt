@@ -1,6 +1,0 @@
-use Rattle.act_histories.proofs.Common.{◌≡◌, false, take, awaits}
-use Rattle.act_histories.proofs.fits.awaits_any.Given as goal
-
--- no step so far awaits an answer
-abbrev pub invariant-loop-step : goal.invariant-loop-step
-invariant-loop-step l = awaits l.c (take l.step-index l.steps) ≡ false

@@ -1,5 +1,0 @@
-use Rattle.act_histories.proofs.OneWay.{read_plays}
-use Rattle.act_histories.proofs.laws.plays_are_read_one_way.Goals as goal
-
-pub returns : goal.returns
-returns _ = read_plays

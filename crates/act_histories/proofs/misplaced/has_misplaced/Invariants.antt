@@ -1,4 +1,0 @@
-use Rattle.act_histories.proofs.misplaced.has_misplaced.Given as goal
-
-abbrev pub invariant-loop-a : goal.invariant-loop-a
-invariant-loop-a l = Unit {0}

@@ -1,4 +1,0 @@
-use Rattle.act_histories.proofs.misplaced.has_misplaced_at.Given as goal
-
-abbrev pub invariant-loop-p : goal.invariant-loop-p
-invariant-loop-p l = Unit {0}
