@@ -332,6 +332,8 @@ line 11: c2.0 waits for c1.1 at a1, which ran before it
 """
 ONE = "actor a1 counter c1\n"
 TWO_CALLS = "c1.0 a1 = 1\nc1.1 a1 = 3\na1 live counter 3\n"
+# A call took the failure of another one, of which the answer is left open, and whose reply is a value.
+TOOK = ONE + "actor a2 counter c1\nc1.0 a1 = *\nc1.1 a2 = *\n{}\na1.0 c1.0 add 5\na2 live counter 0\na2.0 c1.1 add !0\n"
 WORKED = {
     "a circle": (CROSSED + CYCLIC, CIRCLE, REFUSED),
     "a circle by awaits": (AWAITED, AWAITED_CIRCLE, REFUSED),
@@ -356,6 +358,17 @@ WORKED = {
         ONE.replace("c1", "max 1 c1") + "c1.0 a1 ?\nc1.1 a1 = 3\na1 live counter 3\na1.0 c1.0 add 1\na1.1 c1.1 add 2\n",
         "line 3: c1.1 waits for the answer of c1.0, by the limit of a1\nline 2: c1.0 has no answer\n",
         REFUSED,
+    ),
+    "a failure that is a death": (TOOK.format("a1 dead"), None, PLAY),
+    "a failure that is none": (
+        TOOK.format("a1 live counter 5"),
+        "line 8: the arguments at a2.0 are 5 by the rules, and the history tells !0\n",
+        REFUSED,
+    ),
+    "a step that every play refuses": (
+        ONE + "submit c1 a1 get\nawait c1 0\nrelease c1 a1\nkill c1 a1\nc1.0 a1 = 0\na1 live counter 0\na1.0 c1.0 get\n",
+        "line 5: BadPlan\n",
+        MISTAKE,
     ),
     "a word that is none": (ONE + "c1.0 a1 = 05\n", "line 2: BadLine: no line of a history has this form\n", MISTAKE),
     "a line of events": (ONE + "send c1 0\n", "line 2: BadLine\n", MISTAKE),

@@ -8,6 +8,7 @@ import re
 
 import explain
 import explain_lines
+import explain_refusals
 import program
 import reading_of_rules as reading
 from explain_lines import Finding, Line, finding_in, named
@@ -300,10 +301,19 @@ def of_bad_await(history, number):
     return line.at(2, f"there is no call {caller}.{future} yet: {calls}")
 
 
+def of_bad_step(history, number):
+    """A step of a caller that awaits an answer, which every play refuses."""
+    line = history.line(number)
+    if line.words[0] == "await":
+        return of_bad_await(history, number)
+    refusal = explain_refusals.refusal_of_step(reading.read_script(history.front, reading.THREAD_FORMS), number)
+    return line.at(refusal.word, f"every play refuses this step ({refusal.name}): {refusal.why}")
+
+
 OF_MISTAKES = {
     "BadLine": of_bad_line, "NoRole": of_no_role, "OutOfOrder": of_out_of_order, "OtherActor": of_other_actor,
     "OtherKind": of_other_kind, "NotSubmitted": of_not_submitted, "NoFuture": of_no_future, "NoOutcome": of_no_future,
-    "NoCaller": of_no_caller, "BadPlan": of_bad_await,
+    "NoCaller": of_no_caller, "BadPlan": of_bad_step,
 }  # fmt: skip
 
 

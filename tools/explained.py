@@ -158,6 +158,8 @@ FRONT = ROLE + b"actor a2 list c1 c2\n"
 CALLED = FRONT + b"submit c1 a1 add 5\n"
 ANSWERED = CALLED + b"c1.0 a1 = 5\n"
 ENDED = ANSWERED + b"a1 live counter 5\n"
+RELEASED = CALLED + b"await c1 0\nrelease c1 a1\nsubmit c1 a1 get\nc1.0 a1 = 5\nc1.1 a1 = 5\na1 live counter 5\n\
+a1.0 c1.0 add 5\na1.1 c1.1 get\na2 live list\n"
 ORDER = b"history order\nactor a1 c1\n"
 ORDERED = ORDER + b"call c1 a1 add\n"
 
@@ -185,6 +187,7 @@ UNREAD = {
     "a caller twice in a role of a history": last_line(b"", b"actor a1 list c1 c1", "TwiceCaller", 18, ["c1 stands twice"], "actor a1 list c1"),
     "an await of no call in a history": last_line(CALLED, b"await c1 1", "BadPlan", 10, ["no call c1.1 yet", "one call"]),
     "a step of a caller without a role in a history": last_line(FRONT, b"submit c3 a1 get", "NoRole", 8, ["no actor line names c3", "c1 c2"]),
+    "a step of a history that every play refuses": Unread(RELEASED, 6, "BadPlan", 11, ["NoHandle", "c1", "a1"]),
     "an answer that is none": last_line(CALLED, b"c1.0 a1 = five", "BadLine", 11, ["'five'", "an answer", "text between two quotes"]),
     "an answer without its actor": last_line(CALLED, b"c1.0 = 5", "BadLine", 6, ["'='", "an actor (a1 to a8)", "c1.0 a1 = ANSWER"]),
     "an answer that is left out": last_line(CALLED, b"c1.0 a1 =", "BadLine", 11, ["ends where an answer"]),
