@@ -334,6 +334,13 @@ ONE = "actor a1 counter c1\n"
 TWO_CALLS = "c1.0 a1 = 1\nc1.1 a1 = 3\na1 live counter 3\n"
 # A call took the failure of another one, of which the answer is left open, and whose reply is a value.
 TOOK = ONE + "actor a2 counter c1\nc1.0 a1 = *\nc1.1 a2 = *\n{}\na1.0 c1.0 add 5\na2 live counter 0\na2.0 c1.1 add !0\n"
+# Such a failure, taken by a call that the same actor ran before its death. The first answer is left open, or is told.
+TAKEN = "actor a1 list c1\nc1.0 a1 = {}\nc1.1 a1 = Dependency(0)\na1 dead\na1.0 c1.0 push 5\na1.1 c1.1 push !0\n"
+TAKEN_CIRCLE = """line 6: c1.1 waits for the answer of c1.0
+line 2: c1.0 waits for the death of a1, which ran c1.1 before
+"""
+# The same of a call that is told behind the end of its actor.
+ENDED = "actor a1 list c1\nc1.0 a1 = unit\nc1.1 a1 = *\nc1.2 a1 = *\na1 dead\na1.0 c1.0 terminate\na1.1 c1.1 push 5\na1.2 c1.2 push !1\n"
 WORKED = {
     "a circle": (CROSSED + CYCLIC, CIRCLE, REFUSED),
     "a circle by awaits": (AWAITED, AWAITED_CIRCLE, REFUSED),
@@ -365,6 +372,9 @@ WORKED = {
         "line 8: the arguments at a2.0 are 5 by the rules, and the history tells !0\n",
         REFUSED,
     ),
+    "a failure before the death": (TAKEN.format("*"), TAKEN_CIRCLE, REFUSED),
+    "a failure behind the end": (ENDED, "line 7: a1.1 runs after a terminate\n", REFUSED),
+    "a told death before itself": (TAKEN.format("ActorDied"), TAKEN_CIRCLE, REFUSED),
     "a step that every play refuses": (
         ONE + "submit c1 a1 get\nawait c1 0\nrelease c1 a1\nkill c1 a1\nc1.0 a1 = 0\na1 live counter 0\na1.0 c1.0 get\n",
         "line 5: BadPlan\n",

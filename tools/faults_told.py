@@ -25,6 +25,8 @@ class Call:
     submitted: int = 0  # the line that submits it
     first: object = None  # its first run at its actor
     by_run: object = None  # what its actor answers there
+    by_kind: object = None  # the same, and behind the actor's end what its kind would
+    is_failed: bool = False  # whether a call that ran took its failure
 
     def name(self):
         return f"c{self.caller}.{self.future}"
@@ -96,26 +98,37 @@ class History:
                 counts[caller] += 1
 
     def add_runs(self):
-        """The first run of each call at its actor, which tells what it was where no line submits it."""
+        """The first run of each call at its actor, which tells what it was where no line submits it; and of which calls
+        a failure was taken."""
         for run in (run for runs in self.runs.values() for run in runs):
             call = self.calls.get((run.caller, run.future))
+            for argument in run.arguments:
+                if isinstance(argument, reading.Future) and (run.caller, argument.number) in self.calls:
+                    self.calls[run.caller, argument.number].is_failed = True
             if call and call.actor == run.actor and call.first is None:
                 call.first = run
                 if not call.submitted:
                     call.method, call.arguments = run.method, run.arguments
 
     def replay(self, runs, kind):
-        """What an actor answers, asked one call after another with the arguments as they ran, up to its end."""
+        """What an actor answers, asked one call after another with the arguments as they ran: up to its end, and what its
+        kind would behind it."""
+        has_ended = False
         for run in runs:
-            run.answer = reading.answer_of(kind, run.method, run.arguments)
+            answer = reading.answer_of(kind, run.method, run.arguments)
+            run.answer = None if has_ended else answer
             call = self.calls.get((run.caller, run.future))
             if call and call.first is run:
-                call.by_run = run.answer
-            if is_end(run):
-                break
+                call.by_run, call.by_kind = run.answer, answer
+            has_ended = has_ended or is_end(run)
 
     def has_died(self, call):
-        return call.kept == DIED or call.kept == UNJUDGED and call.first is None
+        return call.kept == DIED or call.kept == UNJUDGED and (call.first is None or self.is_lost(call))
+
+    def is_lost(self, call):
+        """Whether a failure of the call was taken at whose place a dead actor's kind answers a value: so that was no reply."""
+        has_value = call.by_kind is not None and not isinstance(call.by_kind, reading.Fault)
+        return self.ends[call.actor][1] == "dead" and call.is_failed and has_value
 
     # The faults, each as its line and what is said.
 

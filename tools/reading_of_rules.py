@@ -940,6 +940,7 @@ class Judge:
         self.lines = lines_of_report(report)
         self.place = 0
         self.ran = set()  # the calls that stand in a run list, by caller and future
+        self.failed = set()  # the calls of which the answer isn't judged, and a run took the failure
         self.ends = {}  # of each actor the text of its end
         self.is_history = of_plans == OF_AWAITS
 
@@ -1014,6 +1015,7 @@ class Judge:
             if kept is UNJUDGED and place < len(told):
                 is_future = told[place] == f"!{call.arguments[place].number}"
                 kept = call.arguments[place] if is_future else self.value_of(told[place])
+                self.failed |= {(call.caller, kept.number)} if is_future else set()
             yield kept
 
     def value_of(self, word):
@@ -1025,8 +1027,8 @@ class Judge:
     # Whether all that is as the rules say.
 
     def judge_unjudged(self):
-        """Answers that aren't judged are those of runs, once these are replayed, and else deaths; and each call ran with
-        the arguments that they settle."""
+        """Answers that aren't judged are those of runs or are lost, once these are replayed, and else deaths; and each
+        call ran with the arguments that they settle."""
         for caller in self.world.callers.values():
             for call in caller.calls:
                 if call.kept is UNJUDGED:
@@ -1044,7 +1046,7 @@ class Judge:
         for item in actor.ran:
             item.answer = answer_of(actor.kind, item.call.method, item.arguments)
             if item.call.kept is UNJUDGED:
-                item.call.kept = item.answer
+                item.call.kept = Fault("ActorDied") if self.is_lost(actor, item) else item.answer
             if fault_of(item.call) != "ActorDied" and spelled(item.call.kept) != spelled(item.answer):
                 told = f"{item.call.spelled_future()} = {spelled(item.call.kept)}"
                 raise NotAllowed(f"{told}, but at its place a{name} answers {spelled(item.answer)}")
@@ -1059,6 +1061,11 @@ class Judge:
             raise NotAllowed(f"a{name} retired before it ran all calls")
         elif any(item.ends_actor() for item in actor.ran):
             raise NotAllowed(f"a{name} retired after a terminate")
+
+    def is_lost(self, actor, item):
+        """Whether the failure of a call was taken that a dead actor answered with a value: so its death was kept."""
+        is_failed = (item.call.caller, item.call.future) in self.failed
+        return actor.stage == "dead" and is_failed and not isinstance(item.answer, Fault)
 
     def ends_of(self, state):
         """How the end of an actor may be told that isn't dead: in threads it retired, with its state."""

@@ -11,7 +11,7 @@ use std::alloc::Global;
 #[derive(Debug, Drop)]
 pub(crate) enum Kept {
     Nothing,
-    /// An answer that isn't judged: that of its run, or where it didn't run, of its actor's death.
+    /// An answer that isn't judged: that of its run, or of its actor's death.
     Something,
     Answer(Answer),
 }
@@ -29,6 +29,8 @@ pub(crate) struct Call {
     pub(crate) line: u32,
     /// The first place in its actor's run list that has it.
     pub(crate) place: Option<u32>,
+    /// Where a call ran that took its failure, though its reply is a value: so a death answered it.
+    pub(crate) failed: Option<(ActorId, u32)>,
 }
 
 /// A step of a caller that submits nothing.
@@ -143,11 +145,17 @@ impl Call {
         }
     }
 
+    /// Where it ran first, if it did.
+    pub(crate) fn first_place(&self) -> Option<(ActorId, u32)> {
+        let place = self.place?;
+        Some((self.actor, place))
+    }
+
     /// Whether a death answered it.
     pub(crate) fn has_died(&self) -> bool {
         match &self.kept {
             Kept::Nothing => false,
-            Kept::Something => self.place.is_none(),
+            Kept::Something => self.place.is_none() || self.failed.is_some(),
             Kept::Answer(Err(Fault::ActorDied)) => true,
             Kept::Answer(_) => false,
         }

@@ -7,6 +7,7 @@ mod check;
 mod copied;
 mod cut;
 mod differs;
+mod failed;
 mod fault;
 mod faults;
 mod history;

@@ -1,5 +1,6 @@
 //! A history, from the script and the lines of what was left.
 
+use crate::failed::note_failed;
 use crate::history::{Between, Call, Caller, Ending, History, Kept, Lines, Placed, Ran, Served};
 use crate::line::{Told, read_words};
 use crate::mistake::{Mistake, Wrongly};
@@ -64,6 +65,7 @@ fn unknown_call(alloc: Global, actor: ActorId, line: u32) -> Call {
         submitted: 0,
         line,
         place: None,
+        failed: None,
     }
 }
 
@@ -146,6 +148,7 @@ impl Reading {
             submitted: line,
             line,
             place: None,
+            failed: None,
         })?;
         Ok(())
     }
@@ -442,7 +445,9 @@ fn add_all(reading: &mut Reading, roles: &[Role], lines: Lines<'_>) -> Result<()
     reading.add_steps(lines.steps)?;
     add_lines(reading, lines.rest, lines.before)?;
     reading.check_calls()?;
-    reading.check_actors()
+    reading.check_actors()?;
+    note_failed(reading.alloc, &mut reading.history)?;
+    Ok(())
 }
 
 /// The history that roles, steps and the lines of what was left tell, or their first mistake.

@@ -2,7 +2,7 @@
 //! the history tells alone.
 
 use crate::differs::{push_other_answer, push_other_args};
-use crate::history::{Call, History, Kept, Served};
+use crate::history::{Call, History, Kept, Ran, Served};
 use crate::reason::ToldPlace;
 use crate::rules::{is_end, may_run_as};
 use act_compare::{same_answer, same_settled_args};
@@ -38,37 +38,52 @@ fn answer_of<K: Actor>(alloc: Global, kind: &mut K, item: &RunItem) -> Result<An
     answer_to(kind, &item.method, values.as_slice())
 }
 
-/// What a kind answers at each place of its actor's run list, up to the call that ends the actor.
-fn answers_by<K: Actor>(
-    alloc: Global,
-    mut kind: K,
-    actor: &Served,
-) -> Result<Vec<Answer>, NoMemory> {
-    let mut answers = Vec::new(alloc);
-    for ran in &actor.log {
-        answers.push(answer_of(alloc, &mut kind, &ran.item)?)?;
-        if is_end(&ran.item) {
-            break;
-        }
+/// What an actor answers at each place of its run list.
+#[derive(Drop)]
+struct Answered {
+    /// Behind the call that ends the actor, too: what its kind would answer there.
+    answers: Vec<Answer>,
+    /// How many of them come no later than that call.
+    until_end: usize,
+}
+
+/// How many of these calls come no later than the one that ends the actor.
+fn count_until_end(log: &[Ran]) -> usize {
+    match log.iter().position(|ran| is_end(&ran.item)) {
+        Some(place) => place.saturating_add(1),
+        None => log.len(),
     }
-    Ok(answers)
+}
+
+fn answers_by<K: Actor>(alloc: Global, mut kind: K, log: &[Ran]) -> Result<Answered, NoMemory> {
+    let mut answers = Vec::new(alloc);
+    for ran in log {
+        answers.push(answer_of(alloc, &mut kind, &ran.item)?)?;
+    }
+    Ok(Answered {
+        answers,
+        until_end: count_until_end(log),
+    })
 }
 
 /// The same of an actor, whose kind is opened for that.
-fn answers_of(alloc: Global, actor: &Served) -> Result<Vec<Answer>, NoMemory> {
+fn answers_of(alloc: Global, actor: &Served) -> Result<Answered, NoMemory> {
     match actor.kind {
-        None => Ok(Vec::new(alloc)),
-        Some(KindName::Counter) => answers_by(alloc, Counter::open(), actor),
-        Some(KindName::Table) => answers_by(alloc, Table::open(alloc), actor),
-        Some(KindName::Account) => answers_by(alloc, Account::open(), actor),
-        Some(KindName::ListKind) => answers_by(alloc, ListKind::open(alloc), actor),
+        None => Ok(Answered {
+            answers: Vec::new(alloc),
+            until_end: 0,
+        }),
+        Some(KindName::Counter) => answers_by(alloc, Counter::open(), &actor.log),
+        Some(KindName::Table) => answers_by(alloc, Table::open(alloc), &actor.log),
+        Some(KindName::Account) => answers_by(alloc, Account::open(), &actor.log),
+        Some(KindName::ListKind) => answers_by(alloc, ListKind::open(alloc), &actor.log),
     }
 }
 
 /// What each actor answers, by its number.
 #[derive(Drop)]
 pub(crate) struct Replies {
-    of_actors: Vec<Vec<Answer>>,
+    of_actors: Vec<Answered>,
 }
 
 impl Replies {
@@ -82,7 +97,19 @@ impl Replies {
 
     /// What the actor answers at a place, unless that is behind its end.
     pub(crate) fn at(&self, a: ActorId, place: u32) -> Option<&Answer> {
-        self.of_actors.get(a.number() as usize)?.get(place as usize)
+        let told = self.of_actors.get(a.number() as usize)?;
+        if place as usize >= told.until_end {
+            return None;
+        }
+        told.answers.get(place as usize)
+    }
+
+    /// Whether it answers a value there, or would if it hadn't ended.
+    pub(crate) fn is_value(&self, a: ActorId, place: u32) -> bool {
+        match self.of_actors.get(a.number() as usize) {
+            Some(told) => matches!(told.answers.get(place as usize), Some(Ok(_))),
+            None => false,
+        }
     }
 
     /// The answer of a call: the one that is told, and where that isn't judged the one of its run.
