@@ -32,6 +32,7 @@ from pathlib import Path
 
 import program
 from edits import GATE, MORE, TOP, edits_in
+from functions_told import functions_of
 from more_edits import check, listed_as_refused, output_of, share_of
 from page import Page
 from trying import BY_SHAPE, UNTRIED, Tried, kit, symbols_in, try_crate
@@ -297,8 +298,13 @@ def run(lanes, page):
         with notes_shown(ran.stderr, page), page.running(lambda: crates_below(ran.pid)):
             lines = shown(page.kept_lines(ran.stdout), Crates(crates_with_tests()), page)
             for crate, symbols in proved_crates(lines):
-                lanes.add(crate, symbols)
+                lanes.add(crate, functions_of(crate, symbols, kit_id()))
     return ran.returncode
+
+
+def kit_id():
+    """What names the kit."""
+    return Path(kit().rtlib.KIT, "KIT-ID").read_text()
 
 
 def known_by_shape():

@@ -43,7 +43,7 @@ QUICKLY = {"recorded": "--count 100 --unrefused"}
 OVER_PROVED = [
     "sweep_memory.py", "sweep_tests.py", "code_runs.py", "explored.py --count 100 --program {explore} --runner {run}",
     "bank_runs.py --small --may-miss", "peers.py --small --may-miss", "idle.py --small",
-    "call_cost.py --small --may-miss", "long_runs.py --small --may-miss",
+    "call_cost.py --small --may-miss", "long_runs.py --small --may-miss", "history_cost.py --small",
 ]  # fmt: skip
 HOW_LONG = "takes an hour to an hour and a half on four quiet cores, twice that on two"
 # What finds or builds the programs, and tells last where each is.

@@ -10,6 +10,7 @@ import unittest
 from pathlib import Path
 from unittest import mock
 
+import functions_told
 import gate
 import gate_time
 import more_edits
@@ -487,6 +488,27 @@ class Gate(Scratch):
     def test_a_crate_that_is_proved_is_told_with_its_functions(self):
         self.assertEqual([*gate.proved_crates(self.SAID)], [("low", [LEN, FMT]), ("kept", [])])
 
+    def functions(self, crate, symbols, digest, kit_id="kit"):
+        """What is kept of the crate in a folder of the test, where its sources have this digest."""
+        folders = lambda: (None, self.crate.parent / "cache")
+        with mock.patch.multiple(functions_told.program, digest=lambda _: digest, folders=folders):
+            return functions_told.functions_of(crate, symbols, kit_id)
+
+    def test_the_functions_of_a_crate_are_kept_for_a_run_that_finds_it_proved(self):
+        self.assertEqual(self.functions("low", [], "old"), [])
+        self.assertEqual(self.functions("low", [LEN, FMT], "old"), [LEN, FMT])
+        self.assertEqual(self.functions("low", [], "old"), [LEN, FMT])
+        for crate, digest, kit_id in ("low", "new", "kit"), ("high", "old", "kit"), ("low", "old", "other"):
+            self.assertEqual(self.functions(crate, [], digest, kit_id), [])
+        self.assertEqual(self.functions("low", [FIRST], "new"), [FIRST])
+        self.assertEqual(self.functions("low", [], "old"), [])
+        self.assertEqual(len([*(self.crate.parent / "cache" / functions_told.FOLDER).iterdir()]), 1)
+
+    def test_functions_that_cannot_be_kept_are_told_all_the_same(self):
+        (self.crate.parent / "cache").write_text("a file where the folder is due")
+        self.assertEqual(self.functions("low", [LEN], "old"), [LEN])
+        self.assertEqual(self.functions("low", [], "old"), [])
+
     def test_edits_of_a_program_are_dear_and_those_of_definitions_too(self):
         of_path = self.edit("file: src/few.rt\nold: Few<T> {\nnew: Few<T> {{\n", name="path.edit")
         edits = [self.edit(GOOD), of_path]
@@ -537,7 +559,8 @@ class Gate(Scratch):
         edits = [self.edit(GOOD, GATE, f"{name}.edit") for name in "ab"]
         tries = lambda crate, edits, *_: [Tried(edit, each, "..") for edit, each in zip(edits, came)]
         patches = {"TOP": self.crate.parent, "edits_in": lambda kind: edits if kind == GATE else [], "try_crate": tries,
-                   "kit": lambda: None, "listed_as_refused": set, "output_of": lambda *_: "commit",
+                   "kit": lambda: None, "kit_id": lambda: "kit", "listed_as_refused": set,
+                   "functions_of": lambda crate, symbols, _: symbols, "output_of": lambda *_: "commit",
                    "known_by_shape": lambda: {*known},
                    "crates_with_tests": lambda: {"low": True, "kept": False, "high": False}}
         path = mock.patch.dict(os.environ, {"PATH": f"{rt.parent}:{os.environ['PATH']}"})
