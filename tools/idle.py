@@ -1,7 +1,7 @@
 #!/usr/bin/env python3
 """Measures what a run in threads costs while it idles, and how soon it goes on.
 
-    tools/idle.py [--small] [--program PATH]
+    tools/idle.py [--small | --seconds N] [--program PATH]
 
 The proved program ray_bench_idle runs 16 callers and 8 actors. All callers wait for an answer of the first actor, which
 waits for a line of standard input; the other actors have nothing to do. So 23 threads wait for others, as they do in a
@@ -11,7 +11,7 @@ line before it runs the call. How long that takes is the second figure: two thre
 
 It fails where the idle run takes more than 3% of one processor, or where the line comes later than 50 ms. Other work on
 the machine delays the line, so the least of the runs counts there. With --small each run idles for two seconds and not
-for twenty.
+for twenty; with --seconds for as many as that says.
 """
 import argparse
 import pathlib
@@ -70,6 +70,7 @@ def run_once(program, seconds):
 def chosen_options():
     options = argparse.ArgumentParser(description=__doc__.splitlines()[0])
     options.add_argument("--small", action="store_true", help="two seconds each, in place of twenty")
+    options.add_argument("--seconds", type=int, help="as many each, in place of twenty")
     options.add_argument("--program", type=pathlib.Path, default=PROVED)
     return options.parse_args()
 
@@ -77,7 +78,7 @@ def chosen_options():
 def main():
     chosen = chosen_options()
     program = proved("idle", chosen.program)
-    count, seconds = (SMALL_RUNS, SMALL_SECONDS) if chosen.small else (RUNS, SECONDS)
+    count, seconds = (SMALL_RUNS, SMALL_SECONDS) if chosen.small else (RUNS, chosen.seconds or SECONDS)
     runs = [run_once(program, seconds) for _ in range(count)]
     rows = [[str(at), f"{share:.3%}", f"{delay * 1e3:.2f}"] for at, (share, delay, _) in enumerate(runs, 1)]
     show_table(["Share of a processor", "Goes on after, ms"], rows, "Run")
