@@ -1,9 +1,9 @@
 //! The text of a report.
 
-ghost use Rattle.std.specs.Prelude.{◌≡◌, ◌≤◌, ◌+◌, ◌++◌, List, [], OnOk, OnErr, IfOk, true, false, string_bytes, length, option_copied, decimal};
+ghost use Rattle.std.specs.Prelude.{◌≡◌, ◌≤◌, ◌+◌, ◌++◌, List, [], OnOk, OnErr, IfOk, Some, Err, true, false, string_bytes, length, option_copied, decimal};
 ghost use Rattle.std.specs.List.{flat_map};
 ghost use Rattle.std.specs.Vec.{vec_len};
-ghost use Rattle.act_types.specs.Texts.{space, actor_text, settled_text, value_text};
+ghost use Rattle.act_types.specs.Texts.{space, actor_text, method_text, settled_text, value_text};
 ghost use Rattle.act_rules.specs.History.{ActorSpec, opening};
 ghost use Rattle.act_rules.specs.Report.{line, numbered_lines, one_to, outcome_line, outcome_lines, future_text, kept_text, item_line, report, did_text};
 ghost use Rattle.act_world.specs.View.{world_view, stage_view};
@@ -16,9 +16,10 @@ ghost use Rattle.std.specs.Str.{IsAscii};
 use crate::tail::Tail;
 use act_kinds::Actor;
 use act_owner::Owner;
-use act_rules::{Did, Event, Outcome, RunItem};
+use act_rules::{Arrival, Did, Event, Outcome, RunItem};
 use act_types::{
-    ActorId, Answer, CallerId, FutureId, ListOf, MAX_ACTORS, MAX_CALLERS, NoMemory, Settled, Value,
+    ActorId, Answer, CallerId, Fault, FutureId, ListOf, MAX_ACTORS, MAX_CALLERS, Method, NoMemory,
+    Settled, Value,
 };
 use act_world::{Stage, World, is_memory};
 use itoa::Buffer;
@@ -41,14 +42,19 @@ fn give_back(left: &mut Vec<Event>, place: usize)
 }
 
 /// Adds the line of an outcome.
-fn push_outcome(text: &mut String, place: usize, outcome: &Outcome) -> Result<(), AllocError>
+fn push_outcome(
+    text: &mut String,
+    line: &mut Tail,
+    place: usize,
+    outcome: &Outcome,
+) -> Result<(), AllocError>
     ensures { OnOk result (string_bytes text.new ≡ string_bytes text.old ++ outcome_line place outcome.now) }
 {
     match outcome {
         Ok(did) => {
-            let mut line = Tail::new();
+            line.clear();
             line.put(b'\n');
-            put_did(&mut line, did);
+            put_did(line, did);
             line.put_word(": ");
             line.put_number(place as u64);
             text.push_str(line.as_str())
@@ -61,8 +67,9 @@ fn push_outcome(text: &mut String, place: usize, outcome: &Outcome) -> Result<()
 fn push_outcomes(text: &mut String, outcomes: &[Outcome]) -> Result<(), AllocError>
     ensures { OnOk result (string_bytes text.new ≡ string_bytes text.old ++ outcome_lines outcomes.now) }
 {
+    let mut line = Tail::new();
     for (place, outcome) in outcomes.iter().enumerate() {
-        push_outcome(text, place, outcome)?;
+        push_outcome(text, &mut line, place, outcome)?;
     }
     Ok(())
 }
@@ -81,6 +88,35 @@ fn push_kept(text: &mut String, kept: Option<&Answer>) -> Result<(), AllocError>
         }
         Some(Err(fault)) => writeln!(text, " = {fault}"),
     }
+}
+
+/// Puts a fault that is kept of a future, and the end of its line. Tells whether it did: a fault of a kind of one's own
+/// is left out.
+fn put_fault(end: &mut Tail, fault: &Fault) -> bool
+    requires { end.old ≡ [] }
+    ensures whole { result ≡ true → end.new ≡ line (kept_text (Some (Err fault.now))) }
+    ensures none { result ≡ false → end.new ≡ [] }
+    ensures short { length end.new ≤ 40 }
+{
+    match fault {
+        Fault::NoMethod => end.put_word(" = NoMethod\n"),
+        Fault::BadArgs => end.put_word(" = BadArgs\n"),
+        Fault::Overflow => end.put_word(" = Overflow\n"),
+        Fault::NoKey => end.put_word(" = NoKey\n"),
+        Fault::BadAmount => end.put_word(" = BadAmount\n"),
+        Fault::Insufficient => end.put_word(" = Insufficient\n"),
+        Fault::NoItems => end.put_word(" = NoItems\n"),
+        Fault::NoItem => end.put_word(" = NoItem\n"),
+        Fault::KindFull => end.put_word(" = KindFull\n"),
+        Fault::Dependency(future) => {
+            end.put_word(")\n");
+            end.put_number(future.number() as u64);
+            end.put_word(" = Dependency(");
+        }
+        Fault::ActorDied => end.put_word(" = ActorDied\n"),
+        Fault::Own(_) => return false,
+    }
+    true
 }
 
 /// Puts what is kept of a future, and the end of its line, where both are short. Tells whether it did.
@@ -105,13 +141,15 @@ fn put_kept(end: &mut Tail, kept: Option<&Answer>) -> bool
             end.put_word(" = ");
             true
         }
-        _ => false,
+        Some(Ok(Value::Text(_))) => false,
+        Some(Err(fault)) => put_fault(end, fault),
     }
 }
 
 /// Adds the line of a future: its actor, and what is kept. Most lines are short, and are added at once.
 fn push_line(
     text: &mut String,
+    front: &mut Tail,
     caller: CallerId,
     k: FutureId,
     actor: ActorId,
@@ -121,8 +159,8 @@ fn push_line(
         string_bytes text.old ++ line
         (future_text caller k ++ space ++ actor_text actor ++ kept_text (option_copied kept.entry))) }
 {
-    let mut front = Tail::new();
-    let is_whole = put_kept(&mut front, kept);
+    front.clear();
+    let is_whole = put_kept(front, kept);
     front.put_actor(actor);
     front.put(b' ');
     front.put_future(caller, k);
@@ -134,21 +172,27 @@ fn push_line(
 }
 
 /// Adds the line of a caller's future.
-fn push_future(text: &mut String, owner: &Owner, k: FutureId) -> Result<(), AllocError>
+fn push_future(
+    text: &mut String,
+    front: &mut Tail,
+    owner: &Owner,
+    k: FutureId,
+) -> Result<(), AllocError>
     ensures { OnOk result (string_bytes text.new ≡ string_bytes text.old ++ owner_line owner.now k) }
 {
     let Some(call) = owner.call(k) else {
         return Ok(());
     };
-    push_line(text, owner.id(), k, call.actor, owner.answer(k))
+    push_line(text, front, owner.id(), k, call.actor, owner.answer(k))
 }
 
 /// Adds a line for each future of a caller.
 pub(crate) fn push_futures(text: &mut String, owner: &Owner) -> Result<(), AllocError>
     ensures { OnOk result (string_bytes text.new ≡ string_bytes text.old ++ owner_lines owner.now) }
 {
+    let mut front = Tail::new();
     for number in 0..owner.count() {
-        push_future(text, owner, FutureId::new(number))?;
+        push_future(text, &mut front, owner, FutureId::new(number))?;
     }
     Ok(())
 }
@@ -205,8 +249,8 @@ fn push_head(
     text.push_str(item.method.word())
 }
 
-/// Adds the line of a call that an actor ran.
-fn push_item(
+/// Adds the line of a call that an actor ran, part by part.
+fn push_parts(
     text: &mut String,
     actor: ActorId,
     place: usize,
@@ -219,6 +263,110 @@ fn push_item(
     text.push_str("\n")
 }
 
+/// Puts an argument of a call that ran before the end of a line, where it is a number. Tells whether it did.
+#[inline(always)]
+fn put_arg(line: &mut Tail, arg: &Settled) -> bool
+    requires room { length line.old + 22 ≤ 128 }
+    ensures { result ≡ true → line.new ≡ (space ++ settled_text arg.now) ++ line.old }
+{
+    let Settled::Good(Value::Int(number)) = arg else {
+        return false;
+    };
+    line.put_int(*number);
+    line.put(b' ');
+    true
+}
+
+/// Puts the arguments of a call before the end of a line, where all are numbers and short. Tells whether it did.
+#[inline(always)]
+fn put_args(line: &mut Tail, args: &[Settled]) -> bool
+    ensures text { result ≡ true → line.new ≡ flat_map (λ arg. space ++ settled_text arg) args.now ++ line.old }
+    ensures short { result ≡ true → length line.new ≤ 33 }
+{
+    let mut left = args.len();
+    while left > 0 {
+        left -= 1;
+        if !line.is_short() || !put_arg(line, &args[left]) {
+            return false;
+        }
+    }
+    line.is_short()
+}
+
+/// Puts the word of a method that scripts can name before the end of a line. Tells whether it did.
+#[inline(always)]
+fn put_method(line: &mut Tail, method: &Method) -> bool
+    requires room { length line.old + 9 ≤ 128 }
+    ensures text { result ≡ true → line.new ≡ method_text method.now ++ line.old }
+    ensures short { length line.new ≤ length line.old + 9 }
+{
+    match method {
+        Method::Add => line.put_word("add"),
+        Method::Get => line.put_word("get"),
+        Method::Put => line.put_word("put"),
+        Method::Del => line.put_word("del"),
+        Method::Size => line.put_word("size"),
+        Method::Deposit => line.put_word("deposit"),
+        Method::Withdraw => line.put_word("withdraw"),
+        Method::Balance => line.put_word("balance"),
+        Method::Push => line.put_word("push"),
+        Method::Pop => line.put_word("pop"),
+        Method::At => line.put_word("at"),
+        Method::Len => line.put_word("len"),
+        Method::Terminate => line.put_word("terminate"),
+        Method::Own(_) => return false,
+    }
+    true
+}
+
+/// Puts what stands before the arguments of a call that an actor ran. Tells whether it did.
+#[inline(always)]
+fn put_head(line: &mut Tail, actor: ActorId, place: usize, item: &RunItem) -> bool
+    requires room { length line.old ≤ 33 }
+    ensures { result ≡ true → line.new ≡ item_head actor place item.now ++ line.old }
+{
+    if !put_method(line, &item.method) {
+        return false;
+    }
+    line.put(b' ');
+    line.put_future(item.caller, item.future);
+    line.put(b' ');
+    line.put_number(place as u64);
+    line.put(b'.');
+    line.put_actor(actor);
+    true
+}
+
+/// Puts the line of a call that an actor ran, where it is short. Tells whether it did.
+#[inline(always)]
+fn put_item(line: &mut Tail, actor: ActorId, place: usize, item: &RunItem) -> bool
+    requires { line.old ≡ [] }
+    ensures { result ≡ true → line.new ≡ item_line actor place item.now }
+{
+    line.put(b'\n');
+    if !put_args(line, item.args.as_slice()) {
+        return false;
+    }
+    put_head(line, actor, place, item)
+}
+
+/// Adds the line of a call that an actor ran. Most lines are short, and are added at once.
+fn push_item(
+    text: &mut String,
+    line: &mut Tail,
+    actor: ActorId,
+    place: usize,
+    item: &RunItem,
+) -> Result<(), AllocError>
+    ensures { OnOk result (string_bytes text.new ≡ string_bytes text.old ++ item_line actor place item.now) }
+{
+    line.clear();
+    if put_item(line, actor, place, item) {
+        return text.push_str(line.as_str());
+    }
+    push_parts(text, actor, place, item)
+}
+
 /// Adds a line for each call that an actor ran.
 pub(crate) fn push_items(
     text: &mut String,
@@ -228,8 +376,9 @@ pub(crate) fn push_items(
     ensures { OnOk result (string_bytes text.new
         ≡ string_bytes text.old ++ numbered_lines (item_line actor) 0 items.now) }
 {
+    let mut line = Tail::new();
     for (place, item) in items.iter().enumerate() {
-        push_item(text, actor, place, item)?;
+        push_item(text, &mut line, actor, place, item)?;
     }
     Ok(())
 }
@@ -378,13 +527,14 @@ fn play_all<K: Actor>(
     let mut left = events.into_vec();
     // The next event stands last, so that the room of those that happened can be given back.
     left.reverse();
+    let mut line = Tail::new();
     let mut place = 0;
     while let Some(event) = left.pop() {
         let outcome = world.apply_owned(event);
         if is_memory(&outcome) {
             return Err(NoMemory);
         }
-        push_outcome(text, place, &outcome)?;
+        push_outcome(text, &mut line, place, &outcome)?;
         place += 1;
         give_back(&mut left, place);
     }
@@ -468,7 +618,9 @@ fn put_did(line: &mut Tail, did: &Did)
             line.put_number(place as u64);
             line.put_word("mail ");
         }
-        Did::Arrived(arrival) => line.put_word(arrival.word()),
+        Did::Arrived(Arrival::New) => line.put_word("new"),
+        Did::Arrived(Arrival::Repeat) => line.put_word("repeat"),
+        Did::Arrived(Arrival::Stranger) => line.put_word("stranger"),
         Did::Ran(place, reply) => {
             line.put_number(reply as u64);
             line.put_word(" reply ");

@@ -1,6 +1,6 @@
 //! The end of a line of the report, as it is made.
 
-ghost use Rattle.std.specs.Prelude.{◌≡◌, ◌+◌, ◌≤◌, ◌<◌, ℕ, List, [], ◌∷◌, ◌++◌, length, drop, decimal};
+ghost use Rattle.std.specs.Prelude.{◌≡◌, ◌+◌, ◌≤◌, ◌<◌, true, ℕ, List, [], ◌∷◌, ◌++◌, length, drop, decimal};
 ghost use Rattle.std.specs.Str.{IsAscii};
 ghost use Rattle.std.specs.Fmt.{signed_decimal};
 ghost use Rattle.act_types.specs.Texts.{actor_text};
@@ -41,12 +41,28 @@ impl Tail {
         }
     }
 
+    /// Lets go what it has, so that another line can be made in its place.
+    #[inline(always)]
+    pub(crate) fn clear(&mut self)
+        ensures { self.new ≡ [] }
+    {
+        self.start = ROOM;
+    }
+
     /// All of it.
     #[inline(always)]
     pub(crate) fn as_str(&self) -> &str
         ensures { result.now ≡ self.now }
     {
         unsafe { str::from_utf8_unchecked(&self.bytes[self.start..]) }
+    }
+
+    /// Whether it is so short that there is room for what stands before a call's arguments.
+    #[inline(always)]
+    pub(crate) fn is_short(&self) -> bool
+        ensures { result ≡ true → length self.now ≤ 33 }
+    {
+        self.start >= ROOM - 33
     }
 
     /// Puts one byte before it.
