@@ -55,7 +55,8 @@ fn add_failed_by(
     history: &History,
     replies: &Replies,
     item: &RunItem,
-    by: (ActorId, u32),
+    by: ActorId,
+    place: u32,
 ) -> Result<(), NoMemory> {
     for arg in item.args.as_slice() {
         if let Settled::Bad(future) = arg
@@ -64,7 +65,7 @@ fn add_failed_by(
             failed.push(Failed {
                 caller: item.caller,
                 future: *future,
-                by,
+                by: (by, place),
             })?;
         }
     }
@@ -80,7 +81,7 @@ fn add_failed_in(
     log: &[Ran],
 ) -> Result<(), NoMemory> {
     for (place, ran) in log.iter().enumerate() {
-        add_failed_by(failed, history, replies, &ran.item, (a, told_place(place)))?;
+        add_failed_by(failed, history, replies, &ran.item, a, told_place(place))?;
     }
     Ok(())
 }
