@@ -41,7 +41,7 @@ use std::alloc::{AllocError, Global};
 use std::io::{Read, Write};
 
 /// What is to be written of a history.
-#[derive(Debug, Drop)]
+#[derive(Drop)]
 pub(crate) enum Verdict {
     /// A play that ends so.
     Play(String),

@@ -8,7 +8,7 @@ use act_types::{ACTOR_NUMBERS, ActorId, Answer, Arg, CallerId, Fault, FutureId, 
 use std::alloc::Global;
 
 /// What a caller keeps of a call, as it is told.
-#[derive(Debug, Drop)]
+#[derive(Drop)]
 pub(crate) enum Kept {
     Nothing,
     /// An answer that isn't judged: that of its run, or of its actor's death.
@@ -17,7 +17,7 @@ pub(crate) enum Kept {
 }
 
 /// A call of a caller.
-#[derive(Debug, Drop)]
+#[derive(Drop)]
 pub(crate) struct Call {
     pub(crate) actor: ActorId,
     pub(crate) method: Method,
@@ -34,7 +34,7 @@ pub(crate) struct Call {
 }
 
 /// A step of a caller that submits nothing.
-#[derive(Clone, Copy, Debug)]
+#[derive(Clone, Copy)]
 pub(crate) enum Between {
     Copy(ActorId),
     Release(ActorId),
@@ -43,7 +43,7 @@ pub(crate) enum Between {
 }
 
 /// Such a step, where it stands among the caller's calls.
-#[derive(Clone, Copy, Debug)]
+#[derive(Clone, Copy)]
 pub(crate) struct Placed {
     pub(crate) step: Between,
     /// How many of the caller's calls are submitted before it.
@@ -52,7 +52,7 @@ pub(crate) struct Placed {
 }
 
 /// A caller with its calls.
-#[derive(Debug, Drop)]
+#[derive(Drop)]
 pub(crate) struct Caller {
     /// Whether some role names it.
     pub(crate) is_named: bool,
@@ -68,7 +68,7 @@ pub(crate) struct Caller {
 }
 
 /// How an actor is left.
-#[derive(Clone, Copy, Debug, PartialEq, Eq)]
+#[derive(Clone, Copy, PartialEq, Eq)]
 pub(crate) enum Ending {
     Live,
     Dead,
@@ -76,14 +76,14 @@ pub(crate) enum Ending {
 }
 
 /// A call that an actor ran, and the line that tells it.
-#[derive(Debug, Drop)]
+#[derive(Drop)]
 pub(crate) struct Ran {
     pub(crate) item: RunItem,
     pub(crate) line: u32,
 }
 
 /// An actor with its run list.
-#[derive(Debug, Drop)]
+#[derive(Drop)]
 pub(crate) struct Served {
     /// Its role, where it has one.
     pub(crate) kind: Option<KindName>,
@@ -98,7 +98,7 @@ pub(crate) struct Served {
 }
 
 /// What is told of all callers and actors. Each stands at its number.
-#[derive(Debug, Drop)]
+#[derive(Drop)]
 pub(crate) struct History {
     pub(crate) callers: Vec<Caller>,
     pub(crate) actors: Vec<Served>,

@@ -9,7 +9,7 @@ use act_types::{ActorId, Answer, CallerId, Fault, FutureId, Settled, SmallList};
 use std::alloc::Global;
 
 /// What a line tells.
-#[derive(Debug, Drop)]
+#[derive(Drop)]
 pub(crate) enum Told {
     /// What the caller keeps of its call to the actor.
     Future(CallerId, FutureId, ActorId, Kept),

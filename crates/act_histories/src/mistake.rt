@@ -6,7 +6,7 @@ use std::alloc::{AllocError, AllocFailed};
 use std::fmt;
 
 /// What is wrong with a line of a history.
-#[derive(Clone, Copy, Debug, PartialEq, Eq)]
+#[derive(Clone, Copy)]
 pub(crate) enum Wrongly {
     /// What is wrong with a line of the script.
     Script(Wrong),
@@ -51,7 +51,7 @@ impl fmt::Display for Wrongly {
 }
 
 /// Why a history wasn't read.
-#[derive(Clone, Copy, Debug, PartialEq, Eq)]
+#[derive(Clone, Copy)]
 pub(crate) enum Mistake {
     /// The number of a line, from 1, and what is wrong with it. What no line has stands for line 0.
     Line(u32, Wrongly),

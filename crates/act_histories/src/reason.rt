@@ -14,7 +14,7 @@ pub enum Reasons {
 }
 
 /// A caller's call, told as its future.
-#[derive(Clone, Copy, Debug, PartialEq, Eq)]
+#[derive(Clone, Copy, PartialEq, Eq)]
 pub(crate) struct CallName {
     pub(crate) caller: CallerId,
     pub(crate) future: FutureId,
@@ -38,7 +38,7 @@ impl fmt::Display for CallName {
 }
 
 /// A place of an actor's run list.
-#[derive(Clone, Copy, Debug, PartialEq, Eq)]
+#[derive(Clone, Copy)]
 pub(crate) struct PlaceName {
     pub(crate) actor: ActorId,
     pub(crate) place: u32,
@@ -52,7 +52,7 @@ impl fmt::Display for PlaceName {
 }
 
 /// A place of an actor's run list, and the line that tells it.
-#[derive(Clone, Copy, Debug, PartialEq, Eq)]
+#[derive(Clone, Copy)]
 pub(crate) struct ToldPlace {
     pub(crate) at: PlaceName,
     pub(crate) line: u32,
