@@ -4,7 +4,9 @@ ghost use Rattle.std.specs.Prelude.{◌<◌};
 
 use crate::reason::{PlaceName, ToldPlace};
 use act_rules::{KindName, RunItem, Step};
-use act_types::{ACTOR_NUMBERS, ActorId, Answer, Arg, CallerId, Fault, FutureId, ListOf, Method};
+use act_types::{
+    ACTOR_NUMBERS, ActorId, Answer, Arg, CALLER_NUMBERS, CallerId, Fault, FutureId, ListOf, Method,
+};
 use std::alloc::Global;
 
 /// What a caller keeps of a call, as it is told.
@@ -36,8 +38,8 @@ pub(crate) struct Call {
 /// A step of a caller that submits nothing.
 #[derive(Clone, Copy)]
 pub(crate) enum Between {
-    Copy(ActorId),
-    Release(ActorId),
+    /// A copy or a release of a handle, which never waits.
+    Handle,
     Kill(ActorId),
     Await(FutureId),
 }
@@ -121,9 +123,21 @@ pub(crate) fn slot_of(a: ActorId) -> usize
     a.number() as usize
 }
 
+/// The place of what is kept of a caller, by its number.
+pub(crate) fn slot_of_caller(c: CallerId) -> usize
+    ensures { result < CALLER_NUMBERS }
+{
+    c.number() as usize
+}
+
 /// A place as a line tells it. No history has so many that one doesn't fit.
 pub(crate) fn told_place(place: usize) -> u32 {
     u32::try_from(place).unwrap_or(u32::MAX)
+}
+
+/// Whether a line ends here.
+pub(crate) fn is_line_end(byte: &u8) -> bool {
+    *byte == b'\n'
 }
 
 /// The future of the call at this place among a caller's.
@@ -192,7 +206,12 @@ impl Served {
     }
 
     pub(crate) fn may_be_called_by(&self, c: CallerId) -> bool {
-        self.callers.iter().any(|caller| *caller == c)
+        for caller in &self.callers {
+            if *caller == c {
+                return true;
+            }
+        }
+        false
     }
 }
 
@@ -203,6 +222,18 @@ impl History {
 
     pub(crate) fn actor(&self, a: ActorId) -> Option<&Served> {
         self.actors.get(a.number() as usize)
+    }
+
+    /// The actor that comes after so many.
+    pub(crate) fn actor_after(&self, before: u8) -> Option<(ActorId, &Served)> {
+        let a = ActorId::new(before.wrapping_add(1))?;
+        Some((a, self.actor(a)?))
+    }
+
+    /// The caller that comes after so many.
+    pub(crate) fn caller_after(&self, before: u8) -> Option<(CallerId, &Caller)> {
+        let c = CallerId::new(before.wrapping_add(1))?;
+        Some((c, self.caller(c)?))
     }
 
     pub(crate) fn call(&self, c: CallerId, k: FutureId) -> Option<&Call> {

@@ -15,8 +15,6 @@ pub(crate) struct Asked {
     bereaved: [bool; ACTOR_NUMBERS],
     /// How many of its steps that submit nothing it did.
     pub(crate) passed: usize,
-    /// How many copies it holds of each handle that it was given.
-    pub(crate) copies: [u32; ACTOR_NUMBERS],
 }
 
 impl Asked {
@@ -27,7 +25,6 @@ impl Asked {
             pending: [0; ACTOR_NUMBERS],
             bereaved: [false; ACTOR_NUMBERS],
             passed: 0,
-            copies: [1; ACTOR_NUMBERS],
         }
     }
 
@@ -43,20 +40,6 @@ impl Asked {
             return None;
         }
         Some(placed)
-    }
-
-    /// One copy more of the handle.
-    pub(crate) fn copy(&mut self, a: ActorId) {
-        let slot = slot_of(a);
-        self.copies[slot] = self.copies[slot].wrapping_add(1);
-    }
-
-    /// One copy less. Whether none is left.
-    pub(crate) fn release(&mut self, a: ActorId) -> bool {
-        let slot = slot_of(a);
-        let was = self.copies[slot];
-        self.copies[slot] = was.saturating_sub(1);
-        was == 1
     }
 
     /// Whether the limit lets it submit one call more to the actor.
@@ -85,18 +68,21 @@ impl Asked {
         }
     }
 
-    /// Whether the argument is known.
-    fn knows(&self, arg: &Arg) -> bool {
-        match arg {
-            Arg::Plain(_) => true,
-            Arg::Fut(k) => self.is_answered(*k),
+    /// Whether all arguments are known.
+    fn knows(&self, args: &[Arg]) -> bool {
+        for arg in args {
+            if let Arg::Fut(k) = arg
+                && !self.is_answered(*k)
+            {
+                return false;
+            }
         }
+        true
     }
 
     /// Whether the call was submitted, and can be sent.
     pub(crate) fn may_send(&self, call: &Call, k: FutureId) -> bool {
-        (k.number() as usize) < self.count_submitted()
-            && call.args.as_slice().iter().all(|arg| self.knows(arg))
+        (k.number() as usize) < self.count_submitted() && self.knows(call.args.as_slice())
     }
 
     /// The call of the actor has an answer now.
@@ -149,64 +135,39 @@ const NOTHING_DONE: Done = Done {
 #[derive(Drop)]
 pub(crate) struct Progress {
     pub(crate) callers: Vec<Asked>,
-    pub(crate) actors: Vec<Done>,
+    pub(crate) actors: [Done; ACTOR_NUMBERS],
 }
 
 impl Progress {
-    /// So many callers and actors that did nothing yet.
+    /// A caller for each of the history's, and actors, that did nothing yet.
     pub(crate) fn open(alloc: Global, history: &History) -> Result<Progress, NoMemory> {
-        let mut progress = Progress {
-            callers: Vec::new(alloc),
-            actors: Vec::new(alloc),
-        };
-        match progress.add_all(alloc, history) {
-            Ok(()) => Ok(progress),
-            Err(error) => {
-                drop(progress);
-                Err(error)
-            }
-        }
-    }
-
-    /// A caller and an actor that did nothing yet, for each of the history's.
-    fn add_all(&mut self, alloc: Global, history: &History) -> Result<(), NoMemory> {
+        let mut callers = Vec::new(alloc);
         for _caller in &history.callers {
-            self.callers.push(Asked::new(alloc))?;
+            callers.push(Asked::new(alloc))?;
         }
-        for _actor in &history.actors {
-            self.actors.push(NOTHING_DONE)?;
-        }
-        Ok(())
+        Ok(Progress {
+            callers,
+            actors: [NOTHING_DONE; ACTOR_NUMBERS],
+        })
     }
 
     /// What the actor did so far.
     pub(crate) fn done_by(&self, a: ActorId) -> Done {
-        match self.actors.get(a.number() as usize) {
-            Some(done) => *done,
-            None => NOTHING_DONE,
-        }
-    }
-
-    /// How many copies the caller holds of its handle of the actor.
-    pub(crate) fn copies_of(&self, c: CallerId, a: ActorId) -> u32 {
-        match self.callers.get(c.number() as usize) {
-            Some(asked) => asked.copies[slot_of(a)],
-            None => 0,
-        }
+        self.actors[slot_of(a)]
     }
 
     /// Notes what the actor did so far.
     pub(crate) fn note(&mut self, a: ActorId, done: Done) {
-        if let Some(place) = self.actors.get_mut(a.number() as usize) {
-            *place = done;
-        }
+        self.actors[slot_of(a)] = done;
     }
 }
 
 /// Whether a death answered some call of the caller to the actor.
 pub(crate) fn is_bereaved(caller: &Caller, a: ActorId) -> bool {
-    caller
-        .calls
-        .iter()
-        .any(|call| call.actor == a && call.has_died())
+    for call in &caller.calls {
+        if call.actor == a && call.has_died() {
+            return true;
+        }
+    }
+    false
 }

@@ -172,8 +172,7 @@ impl Reading {
     fn add_step(&mut self, c: CallerId, step: &Step, line: u32) -> Result<(), Mistake> {
         match step {
             Step::Submit(actor, method, args) => self.submit(c, *actor, *method, args, line),
-            Step::Copy(actor) => self.add_between(c, Between::Copy(*actor), line),
-            Step::Release(actor) => self.add_between(c, Between::Release(*actor), line),
+            Step::Copy(_) | Step::Release(_) => self.add_between(c, Between::Handle, line),
             Step::Kill(actor) => self.add_between(c, Between::Kill(*actor), line),
             Step::Await(future) => self.add_between(c, Between::Await(*future), line),
         }

@@ -3,8 +3,8 @@
 use crate::blocked::why_blocked;
 use crate::faults::all_faults;
 use crate::history::{History, Lines};
+use crate::reached::reach;
 use crate::reason::{Blame, Reasons, push_blames};
-use crate::rebuilt::rebuild;
 use crate::rules::first_blame;
 use crate::values::difference;
 use act_kinds::Actor;
@@ -33,9 +33,9 @@ fn faults_text(alloc: Global, history: &History, reasons: Reasons) -> Result<Str
 
 /// Where no play can go on: nothing where one can.
 fn blocked_text(alloc: Global, history: &History) -> Result<String, NoMemory> {
-    let rebuilt = rebuild(alloc, history)?;
-    let blames = why_blocked(alloc, history, &rebuilt.progress);
-    drop(rebuilt);
+    let progress = reach(alloc, history)?;
+    let blames = why_blocked(alloc, history, &progress);
+    drop(progress);
     let text = blames_text(alloc, &blames?)?;
     Ok(text)
 }
