@@ -5,9 +5,10 @@
 //! the first call of another run list, and so on, until one comes again, or a call that never has an
 //! answer. A dead actor whose run list is through waits for a kill, which may come after an await.
 
-use crate::history::{Between, Call, Ending, History, Placed, Ran, future_at, slot_of};
+use crate::history::{Between, Call, Ending, History, Ran, future_at, slot_of};
 use crate::progress::{Asked, Progress};
-use crate::reason::{Blame, CallName, Reason};
+use crate::reason::{Blame, Blames, CallName, Reason};
+use crate::rules::name_of;
 use act_types::{ACTOR_NUMBERS, ActorId, Arg, CallerId, MAX_ACTORS, MAX_CALLERS, NoMemory};
 use std::alloc::Global;
 
@@ -16,14 +17,6 @@ use std::alloc::Global;
 struct Stuck<'a> {
     history: &'a History,
     progress: &'a Progress,
-}
-
-/// What a step of the way from one waiting call to the next found.
-#[derive(Clone, Copy)]
-enum Next {
-    /// What comes next of this actor: the first call that didn't run, or its death.
-    At(ActorId),
-    End,
 }
 
 impl<'a> Stuck<'a> {
@@ -48,9 +41,14 @@ impl<'a> Stuck<'a> {
         }
     }
 
-    /// The await that holds the caller back. All its other steps that submit nothing can be done.
-    fn next_await(&self, c: CallerId) -> Option<&'a Placed> {
-        self.asked_by(c)?.next_between(self.history.caller(c)?)
+    /// The line of the await that holds the caller back, and the call whose answer it awaits. All other
+    /// steps that submit nothing can be done.
+    fn awaited_by(&self, c: CallerId) -> Option<(u32, CallName)> {
+        let placed = self.asked_by(c)?.next_between(self.history.caller(c)?)?;
+        match placed.step {
+            Between::Await(future) => Some((placed.line, CallName { caller: c, future })),
+            Between::Handle | Between::Kill(_) => None,
+        }
     }
 
     /// The first line by which a caller asks for the actor's kill, and that wasn't done.
@@ -132,166 +130,124 @@ impl<'a> Stuck<'a> {
     }
 }
 
-/// The way from one waiting call to the next.
-#[derive(Drop)]
-struct Way {
-    blames: Vec<Blame>,
-}
-
-impl Way {
-    fn add(&mut self, line: u32, reason: Reason) -> Result<(), NoMemory> {
-        self.blames.push(Blame { line, reason })?;
-        Ok(())
-    }
-
+// The way from one waiting call to the next: each adds why it waits, and gives the actor of which the next thing
+// is waited for. None where the way ends.
+impl<'a> Stuck<'a> {
     /// What an answer of a call that was submitted waits for.
-    fn through_answer(&mut self, stuck: &Stuck<'_>, name: &CallName) -> Result<Next, NoMemory> {
-        let Some(call) = stuck.history.call(name.caller, name.future) else {
-            return Ok(Next::End);
-        };
-        let line = call.line;
+    fn through_answer(&self, way: &mut Blames, name: &CallName) -> Option<ActorId> {
+        let call = self.history.call(name.caller, name.future)?;
         if call.is_open() {
-            self.add(line, Reason::Open(name.again()))?;
-            return Ok(Next::End);
+            way.add(call.line, Reason::Open(name.again()));
+            return None;
         }
-        let Some(front) = stuck.front(call.actor) else {
-            return self.through_end(stuck, name, call);
+        let Some(front) = self.front(call.actor) else {
+            return self.through_end(way, name, call);
         };
-        let first = CallName {
-            caller: front.item.caller,
-            future: front.item.future,
-        };
+        let first = name_of(&front.item);
         if call.has_died() {
-            self.add(line, Reason::WaitsForDeath(name.again(), first, call.actor))?;
+            way.add(
+                call.line,
+                Reason::WaitsForDeath(name.again(), first, call.actor),
+            );
         } else if first != *name {
-            self.add(line, Reason::WaitsForTurn(name.again(), first, call.actor))?;
+            way.add(
+                call.line,
+                Reason::WaitsForTurn(name.again(), first, call.actor),
+            );
         }
-        Ok(Next::At(call.actor))
+        Some(call.actor)
     }
 
     /// What an answer waits for whose actor ran all that it ran: its death, where that is the answer.
-    fn through_end(
-        &mut self,
-        stuck: &Stuck<'_>,
-        name: &CallName,
-        call: &Call,
-    ) -> Result<Next, NoMemory> {
-        if !call.has_died() || !stuck.lives_on(call.actor) {
-            return Ok(Next::End);
+    fn through_end(&self, way: &mut Blames, name: &CallName, call: &Call) -> Option<ActorId> {
+        if !call.has_died() || !self.lives_on(call.actor) {
+            return None;
         }
-        self.add(call.line, Reason::WaitsForEnd(name.again(), call.actor))?;
-        Ok(Next::At(call.actor))
+        way.add(call.line, Reason::WaitsForEnd(name.again(), call.actor));
+        Some(call.actor)
     }
 
     /// What the actor's death waits for: a kill by one of its callers, and what holds that one back.
-    fn through_kill(&mut self, stuck: &Stuck<'_>, a: ActorId) -> Result<Next, NoMemory> {
-        let Some(actor) = stuck.history.actor(a) else {
-            return Ok(Next::End);
-        };
+    fn through_kill(&self, way: &mut Blames, a: ActorId) -> Option<ActorId> {
+        let actor = self.history.actor(a)?;
         for c in &actor.callers {
-            if let Some(line) = stuck.kill_to_come(*c, a) {
-                self.add(line, Reason::WaitsForKill(a, *c))?;
-                return self.through_caller(stuck, *c);
+            if let Some(line) = self.kill_to_come(*c, a) {
+                way.add(line, Reason::WaitsForKill(a, *c));
+                return self.through_caller(way, *c);
             }
         }
-        self.add(actor.line, Reason::NoKill(a))?;
-        Ok(Next::End)
+        way.add(actor.line, Reason::NoKill(a));
+        None
     }
 
     /// What a caller waits for that isn't through with its lines: an answer that it awaits, or room.
-    fn through_caller(&mut self, stuck: &Stuck<'_>, c: CallerId) -> Result<Next, NoMemory> {
-        if let Some(placed) = stuck.next_await(c)
-            && let Between::Await(future) = placed.step
-        {
-            let of = CallName { caller: c, future };
-            self.add(placed.line, Reason::Awaits(c, of.again()))?;
-            return self.through_answer(stuck, &of);
+    fn through_caller(&self, way: &mut Blames, c: CallerId) -> Option<ActorId> {
+        if let Some((line, of)) = self.awaited_by(c) {
+            way.add(line, Reason::Awaits(c, of.again()));
+            return self.through_answer(way, &of);
         }
-        match stuck.first_unsubmitted(c) {
-            Some(name) => self.through_room(stuck, &name),
-            None => Ok(Next::End),
-        }
+        self.through_room(way, &self.first_unsubmitted(c)?)
     }
 
     /// What a call waits for that is its caller's next: an answer that the caller awaits, or room.
-    fn through_next(&mut self, stuck: &Stuck<'_>, name: &CallName) -> Result<Next, NoMemory> {
-        if let Some(placed) = stuck.next_await(name.caller)
-            && let Between::Await(future) = placed.step
-        {
-            let of = CallName {
-                caller: name.caller,
-                future,
-            };
-            let reason = Reason::WaitsForAwait(name.again(), of.again());
-            self.add(placed.line, reason)?;
-            return self.through_answer(stuck, &of);
+    fn through_next(&self, way: &mut Blames, name: &CallName) -> Option<ActorId> {
+        if let Some((line, of)) = self.awaited_by(name.caller) {
+            way.add(line, Reason::WaitsForAwait(name.again(), of.again()));
+            return self.through_answer(way, &of);
         }
-        self.through_room(stuck, name)
+        self.through_room(way, name)
     }
 
     /// What a call waits for that is the next to be submitted.
-    fn through_room(&mut self, stuck: &Stuck<'_>, name: &CallName) -> Result<Next, NoMemory> {
-        let Some(call) = stuck.history.call(name.caller, name.future) else {
-            return Ok(Next::End);
-        };
-        let Some(open) = stuck.first_open(name.caller, call.actor) else {
-            return Ok(Next::End);
-        };
-        let reason = Reason::WaitsForRoom(name.again(), open.again(), call.actor);
-        self.add(call.line, reason)?;
-        self.through_answer(stuck, &open)
+    fn through_room(&self, way: &mut Blames, name: &CallName) -> Option<ActorId> {
+        let call = self.history.call(name.caller, name.future)?;
+        let open = self.first_open(name.caller, call.actor)?;
+        way.add(
+            call.line,
+            Reason::WaitsForRoom(name.again(), open.again(), call.actor),
+        );
+        self.through_answer(way, &open)
     }
 
     /// What the first call of a run list waits for that didn't run.
-    fn through_front(&mut self, stuck: &Stuck<'_>, front: &Ran) -> Result<Next, NoMemory> {
-        let c = front.item.caller;
-        let name = CallName {
-            caller: c,
-            future: front.item.future,
-        };
-        match stuck.held_before(&name) {
-            Some(next) => self.through_submission(stuck, &name, &next),
-            None => self.through_arg(stuck, &name, front.line),
+    fn through_front(&self, way: &mut Blames, front: &Ran) -> Option<ActorId> {
+        let name = name_of(&front.item);
+        match self.held_before(&name) {
+            Some(next) => self.through_submission(way, &name, &next),
+            None => self.through_arg(way, &name, front.line),
         }
     }
 
     /// What a call waits for that isn't submitted, where this is the next of its caller that is.
     fn through_submission(
-        &mut self,
-        stuck: &Stuck<'_>,
+        &self,
+        way: &mut Blames,
         name: &CallName,
         next: &CallName,
-    ) -> Result<Next, NoMemory> {
+    ) -> Option<ActorId> {
         if *next != *name {
-            let reason = Reason::WaitsForSubmission(name.again(), next.again());
-            self.add(stuck.line_of(name), reason)?;
+            way.add(
+                self.line_of(name),
+                Reason::WaitsForSubmission(name.again(), next.again()),
+            );
         }
-        self.through_next(stuck, next)
-    }
-
-    /// What comes next of an actor waits for.
-    fn through_actor(&mut self, stuck: &Stuck<'_>, a: ActorId) -> Result<Next, NoMemory> {
-        match stuck.front(a) {
-            Some(front) => self.through_front(stuck, front),
-            None => self.through_kill(stuck, a),
-        }
+        self.through_next(way, next)
     }
 
     /// What a call waits for that was submitted, and that is told at this line.
-    fn through_arg(
-        &mut self,
-        stuck: &Stuck<'_>,
-        name: &CallName,
-        line: u32,
-    ) -> Result<Next, NoMemory> {
-        let Some(call) = stuck.history.call(name.caller, name.future) else {
-            return Ok(Next::End);
-        };
-        let Some(of) = stuck.unknown_arg(name.caller, call) else {
-            return Ok(Next::End);
-        };
-        self.add(line, Reason::WaitsForAnswer(name.again(), of.again()))?;
-        self.through_answer(stuck, &of)
+    fn through_arg(&self, way: &mut Blames, name: &CallName, line: u32) -> Option<ActorId> {
+        let call = self.history.call(name.caller, name.future)?;
+        let of = self.unknown_arg(name.caller, call)?;
+        way.add(line, Reason::WaitsForAnswer(name.again(), of.again()));
+        self.through_answer(way, &of)
+    }
+
+    /// What comes next of an actor waits for.
+    fn through_actor(&self, way: &mut Blames, a: ActorId) -> Option<ActorId> {
+        match self.front(a) {
+            Some(front) => self.through_front(way, front),
+            None => self.through_kill(way, a),
+        }
     }
 }
 
@@ -310,7 +266,7 @@ fn first_waiting(stuck: &Stuck<'_>) -> Option<ActorId> {
 fn first_held(stuck: &Stuck<'_>) -> Option<CallerId> {
     for before in 0..MAX_CALLERS {
         let c = CallerId::new(before + 1)?;
-        if stuck.next_await(c).is_some() || stuck.first_unsubmitted(c).is_some() {
+        if stuck.awaited_by(c).is_some() || stuck.first_unsubmitted(c).is_some() {
             return Some(c);
         }
     }
@@ -319,53 +275,47 @@ fn first_held(stuck: &Stuck<'_>) -> Option<CallerId> {
 
 /// The way from the first call of an actor on, until an actor comes again or it ends. What leads
 /// into a circle and isn't in it is left out.
-fn way_from(alloc: Global, stuck: &Stuck<'_>, first: ActorId) -> Result<Vec<Blame>, NoMemory> {
-    let mut way = Way {
-        blames: Vec::new(alloc),
-    };
+fn way_from(alloc: Global, stuck: &Stuck<'_>, first: ActorId) -> Blames {
+    let mut way = Blames::new(alloc);
     let mut begins = [None; ACTOR_NUMBERS];
     let mut at = first;
     for _step in 0..=MAX_ACTORS {
         let slot = slot_of(at);
         if let Some(begin) = begins[slot] {
-            return circle_of(alloc, &way.blames, begin);
+            return way.since(alloc, begin);
         }
-        begins[slot] = Some(way.blames.len());
-        match way.through_actor(stuck, at)? {
-            Next::At(next) => at = next,
-            Next::End => break,
+        begins[slot] = Some(way.count());
+        match stuck.through_actor(&mut way, at) {
+            Some(next) => at = next,
+            None => break,
         }
     }
-    let Way { blames } = way;
-    Ok(blames)
+    way
 }
 
-/// The part of a way that is a circle, from the place where it begins.
-fn circle_of(alloc: Global, blames: &[Blame], begin: usize) -> Result<Vec<Blame>, NoMemory> {
-    let mut circle = Vec::new(alloc);
-    for blame in blames.iter().skip(begin) {
-        circle.push(*blame)?;
+/// Why an actor waits, whose run list isn't through or that couldn't die.
+fn way_of_waiting(alloc: Global, stuck: &Stuck<'_>, first: ActorId) -> Blames {
+    let mut way = way_from(alloc, stuck, first);
+    if way.count() == 0 {
+        way.add(0, Reason::Stuck);
     }
-    Ok(circle)
+    way
 }
 
 /// Why a caller that is held back can't go on, where all run lists are through.
-fn way_of_held(alloc: Global, stuck: &Stuck<'_>) -> Result<Vec<Blame>, NoMemory> {
-    let mut way = Way {
-        blames: Vec::new(alloc),
-    };
+fn way_of_held(alloc: Global, stuck: &Stuck<'_>) -> Blames {
+    let mut way = Blames::new(alloc);
     if let Some(c) = first_held(stuck) {
-        way.through_caller(stuck, c)?;
-        if way.blames.is_empty() {
+        stuck.through_caller(&mut way, c);
+        if way.count() == 0 {
             let line = match stuck.first_unsubmitted(c) {
                 Some(name) => stuck.line_of(&name),
                 None => 0,
             };
-            way.add(line, Reason::Stuck)?;
+            way.add(line, Reason::Stuck);
         }
     }
-    let Way { blames } = way;
-    Ok(blames)
+    way
 }
 
 /// Why the play can't go on, or nothing where all that is told happened.
@@ -375,15 +325,9 @@ pub(crate) fn why_blocked(
     progress: &Progress,
 ) -> Result<Vec<Blame>, NoMemory> {
     let stuck = Stuck { history, progress };
-    let Some(first) = first_waiting(&stuck) else {
-        return way_of_held(alloc, &stuck);
+    let way = match first_waiting(&stuck) {
+        Some(first) => way_of_waiting(alloc, &stuck, first),
+        None => way_of_held(alloc, &stuck),
     };
-    let mut blames = way_from(alloc, &stuck, first)?;
-    if blames.is_empty() {
-        blames.push(Blame {
-            line: 0,
-            reason: Reason::Stuck,
-        })?;
-    }
-    Ok(blames)
+    way.whole()
 }

@@ -5,7 +5,7 @@ use crate::history::{History, Ran, told_place};
 use crate::reason::{Blame, PlaceName, ToldPlace, push_blame, push_blames};
 use crate::replies::Replies;
 use crate::rules::{blame_of_end, blames_of_caller, blames_of_log};
-use act_types::{ActorId, CallerId, MAX_ACTORS, MAX_CALLERS, NoMemory};
+use act_types::{ActorId, MAX_ACTORS, MAX_CALLERS, NoMemory};
 use std::alloc::{AllocError, Global};
 
 /// Adds the blames of a line, from this one on, and gives the place of the next.
@@ -49,49 +49,44 @@ fn push_log(
     Ok(())
 }
 
-fn push_actor(
+/// Adds the faults of all run lists, each behind that of its actor's end.
+fn push_actors(
     alloc: Global,
     text: &mut String,
     history: &History,
     replies: &Replies,
-    a: ActorId,
 ) -> Result<(), NoMemory> {
-    let Some(actor) = history.actor(a) else {
-        return Ok(());
-    };
-    if let Some(blame) = blame_of_end(a, actor) {
-        push_blame(text, blame)?;
+    for before in 0..MAX_ACTORS {
+        if let Some((a, actor)) = history.actor_after(before) {
+            if let Some(blame) = blame_of_end(a, actor) {
+                push_blame(text, blame)?;
+            }
+            push_log(alloc, text, history, replies, a, &actor.log)?;
+        }
     }
-    push_log(alloc, text, history, replies, a, &actor.log)
-}
-
-fn push_caller(
-    alloc: Global,
-    text: &mut String,
-    history: &History,
-    c: CallerId,
-) -> Result<(), NoMemory> {
-    let Some(caller) = history.caller(c) else {
-        return Ok(());
-    };
-    let blames = blames_of_caller(alloc, history, c, caller)?;
-    push_blames(text, &blames)?;
     Ok(())
 }
 
-/// The lines of all that no play leaves.
-pub(crate) fn all_faults(alloc: Global, history: &History) -> Result<String, NoMemory> {
-    let replies = Replies::new(alloc, history)?;
-    let mut text = String::new(alloc);
+/// Adds the faults of all callers.
+fn push_callers(alloc: Global, text: &mut String, history: &History) -> Result<(), NoMemory> {
     for before in 0..MAX_CALLERS {
-        if let Some(c) = CallerId::new(before + 1) {
-            push_caller(alloc, &mut text, history, c)?;
+        if let Some((c, caller)) = history.caller_after(before) {
+            let blames = blames_of_caller(alloc, history, c, caller)?;
+            push_blames(text, &blames)?;
         }
     }
-    for before in 0..MAX_ACTORS {
-        if let Some(a) = ActorId::new(before + 1) {
-            push_actor(alloc, &mut text, history, &replies, a)?;
-        }
-    }
-    Ok(text)
+    Ok(())
+}
+
+/// Adds the lines of all that no play leaves.
+pub(crate) fn push_all_faults(
+    alloc: Global,
+    text: &mut String,
+    history: &History,
+) -> Result<(), NoMemory> {
+    push_callers(alloc, text, history)?;
+    let replies = Replies::new(alloc, history)?;
+    let pushed = push_actors(alloc, text, history, &replies);
+    drop(replies);
+    pushed
 }

@@ -1,8 +1,9 @@
 //! Why no play ends as a history does.
 
 use act_types::{ActorId, CallerId, FutureId, NoMemory};
-use std::alloc::AllocError;
+use std::alloc::{AllocError, Global};
 use std::fmt;
+use std::fmt::Display;
 
 /// How much is told of a history that no play ends as.
 #[derive(Clone, Copy, Debug, PartialEq, Eq)]
@@ -122,135 +123,247 @@ pub(crate) enum Reason {
     Stuck,
 }
 
-/// Writes one thing, and what is said of it.
-fn say<W: fmt::Write, T: fmt::Display>(
-    f: &mut fmt::Formatter<W>,
-    one: &T,
-    after: &str,
-) -> fmt::Result {
-    write!(f, "{one}{after}")
+/// What a reason names.
+#[derive(Clone, Copy)]
+enum Named {
+    Nothing,
+    Actor(ActorId),
+    Caller(CallerId),
+    Future(FutureId),
+    Call(CallName),
+    Place(PlaceName),
+    Told(ToldPlace),
+    Line(u32),
 }
 
-/// Writes two things, with what stands between them and after them.
-fn say_two<W: fmt::Write, T: fmt::Display, U: fmt::Display>(
-    f: &mut fmt::Formatter<W>,
-    one: &T,
-    between: &str,
-    other: &U,
-    after: &str,
-) -> fmt::Result {
-    write!(f, "{one}{between}{other}{after}")
-}
-
-// Each line is written by a function, since all that `write!` does would stand in the proof once for each reason.
-impl fmt::Display for Reason {
+impl fmt::Display for Named {
     fn fmt<W: fmt::Write>(&self, f: &mut fmt::Formatter<W>) -> fmt::Result {
+        match self {
+            Named::Nothing => Ok(()),
+            Named::Actor(a) => a.fmt(f),
+            Named::Caller(c) => c.fmt(f),
+            Named::Future(k) => k.fmt(f),
+            Named::Call(call) => call.fmt(f),
+            Named::Place(at) => at.fmt(f),
+            Named::Told(at) => at.fmt(f),
+            Named::Line(line) => line.fmt(f),
+        }
+    }
+}
+
+/// The line of a reason: what it names, and the text behind each.
+#[derive(Clone, Copy)]
+struct Sentence {
+    first: Named,
+    after_first: &'static str,
+    second: Named,
+    after_second: &'static str,
+    third: Named,
+    after_third: &'static str,
+}
+
+/// A line that names one thing.
+fn of_one(first: Named, after: &'static str) -> Sentence {
+    of_three(first, after, Named::Nothing, "", Named::Nothing, "")
+}
+
+/// A line that names two things.
+fn of_two(first: Named, between: &'static str, second: Named, after: &'static str) -> Sentence {
+    of_three(first, between, second, after, Named::Nothing, "")
+}
+
+/// A line that names three things.
+fn of_three(
+    first: Named,
+    after_first: &'static str,
+    second: Named,
+    after_second: &'static str,
+    third: Named,
+    after_third: &'static str,
+) -> Sentence {
+    Sentence {
+        first,
+        after_first,
+        second,
+        after_second,
+        third,
+        after_third,
+    }
+}
+
+impl Reason {
+    // No arm writes: all that writing does would stand in the proof once for each reason.
+    fn sentence(&self) -> Sentence {
         match *self {
-            Reason::NoHandle(at, c) => say_two(
-                f,
-                &at,
+            Reason::NoHandle(at, c) => of_two(
+                Named::Place(at),
                 " is a call of ",
-                &c,
+                Named::Caller(c),
                 ", which has no handle",
             ),
-            Reason::Unsubmitted(at, call) => say_two(f, &at, " is ", &call, ", which has no line"),
-            Reason::Elsewhere(at, call, a) => {
-                say_two(f, &at, " is ", &call, ", which goes to ")?;
-                say(f, &a, "")
-            }
-            Reason::Skips(at, call, later) => {
-                say_two(f, &at, " skips ", &call, ", which runs at ")?;
-                say(f, &later, "")
-            }
-            Reason::SkipsForGood(at, call) => {
-                say_two(f, &at, " skips ", &call, ", which didn't run")
-            }
-            Reason::Again(at, call, before) => {
-                say_two(f, &at, " runs ", &call, " again, after ")?;
-                say(f, &before, "")
-            }
-            Reason::OtherCall(at, call, line) => {
-                say_two(f, &at, " isn't ", &call, " as it was submitted (line ")?;
-                say(f, &line, ")")
-            }
-            Reason::AfterTheEnd(at) => say(f, &at, " runs after a terminate"),
-            Reason::Terminated(at) => say(f, &at, " is a terminate, so its actor is dead"),
-            Reason::NotRun(call, a) => say_two(
-                f,
-                &call,
+            Reason::Unsubmitted(at, call) => of_two(
+                Named::Place(at),
+                " is ",
+                Named::Call(call),
+                ", which has no line",
+            ),
+            Reason::Elsewhere(at, call, a) => of_three(
+                Named::Place(at),
+                " is ",
+                Named::Call(call),
+                ", which goes to ",
+                Named::Actor(a),
+                "",
+            ),
+            Reason::Skips(at, call, later) => of_three(
+                Named::Place(at),
+                " skips ",
+                Named::Call(call),
+                ", which runs at ",
+                Named::Told(later),
+                "",
+            ),
+            Reason::SkipsForGood(at, call) => of_two(
+                Named::Place(at),
+                " skips ",
+                Named::Call(call),
+                ", which didn't run",
+            ),
+            Reason::Again(at, call, before) => of_three(
+                Named::Place(at),
+                " runs ",
+                Named::Call(call),
+                " again, after ",
+                Named::Told(before),
+                "",
+            ),
+            Reason::OtherCall(at, call, line) => of_three(
+                Named::Place(at),
+                " isn't ",
+                Named::Call(call),
+                " as it was submitted (line ",
+                Named::Line(line),
+                ")",
+            ),
+            Reason::AfterTheEnd(at) => of_one(Named::Place(at), " runs after a terminate"),
+            Reason::Terminated(at) => of_one(
+                Named::Place(at),
+                " is a terminate, so its actor is dead",
+            ),
+            Reason::NotRun(call, a) => of_two(
+                Named::Call(call),
                 " has an answer, and ",
-                &a,
+                Named::Actor(a),
                 " didn't run it",
             ),
-            Reason::LeftOver(call, a) => say_two(f, &a, " retired, and didn't run ", &call, ""),
-            Reason::NoDeath(call, a) => say_two(
-                f,
-                &call,
+            Reason::LeftOver(call, a) => of_two(
+                Named::Actor(a),
+                " retired, and didn't run ",
+                Named::Call(call),
+                "",
+            ),
+            Reason::NoDeath(call, a) => of_two(
+                Named::Call(call),
                 " has ActorDied, and ",
-                &a,
+                Named::Actor(a),
                 " isn't dead",
             ),
-            Reason::HalfDead(open, call) => {
-                let both = " has no answer, and the death that answered ";
-                say_two(f, &open, both, &call, " answers both")
-            }
-            Reason::Later(call, k) => {
-                say_two(f, &call, " takes the answer of @", &k, ", a later call")
-            }
-            Reason::WaitsForAnswer(call, of) => {
-                say_two(f, &call, " waits for the answer of ", &of, "")
-            }
-            Reason::WaitsForTurn(call, of, a) => {
-                say_two(f, &call, " waits for ", &of, " at ")?;
-                say(f, &a, ", which ran before it")
-            }
-            Reason::WaitsForDeath(call, of, a) => {
-                say_two(f, &call, " waits for the death of ", &a, ", which ran ")?;
-                say(f, &of, " before")
-            }
-            Reason::WaitsForSubmission(call, of) => {
-                say_two(
-                    f,
-                    &call,
-                    " waits for ",
-                    &of,
-                    ", which is submitted before it",
-                )
-            }
-            Reason::WaitsForRoom(call, of, a) => {
-                say_two(
-                    f,
-                    &call,
-                    " waits for the answer of ",
-                    &of,
-                    ", by the limit of ",
-                )?;
-                say(f, &a, "")
-            }
-            Reason::WaitsForAwait(call, of) => say_two(
-                f,
-                &call,
+            Reason::HalfDead(open, call) => of_two(
+                Named::Call(open),
+                " has no answer, and the death that answered ",
+                Named::Call(call),
+                " answers both",
+            ),
+            Reason::Later(call, k) => of_two(
+                Named::Call(call),
+                " takes the answer of @",
+                Named::Future(k),
+                ", a later call",
+            ),
+            Reason::WaitsForAnswer(call, of) => of_two(
+                Named::Call(call),
                 " waits for the answer of ",
-                &of,
+                Named::Call(of),
+                "",
+            ),
+            Reason::WaitsForTurn(call, of, a) => of_three(
+                Named::Call(call),
+                " waits for ",
+                Named::Call(of),
+                " at ",
+                Named::Actor(a),
+                ", which ran before it",
+            ),
+            Reason::WaitsForDeath(call, of, a) => of_three(
+                Named::Call(call),
+                " waits for the death of ",
+                Named::Actor(a),
+                ", which ran ",
+                Named::Call(of),
+                " before",
+            ),
+            Reason::WaitsForSubmission(call, of) => of_two(
+                Named::Call(call),
+                " waits for ",
+                Named::Call(of),
+                ", which is submitted before it",
+            ),
+            Reason::WaitsForRoom(call, of, a) => of_three(
+                Named::Call(call),
+                " waits for the answer of ",
+                Named::Call(of),
+                ", by the limit of ",
+                Named::Actor(a),
+                "",
+            ),
+            Reason::WaitsForAwait(call, of) => of_two(
+                Named::Call(call),
+                " waits for the answer of ",
+                Named::Call(of),
                 ", by this await",
             ),
-            Reason::Awaits(c, of) => {
-                say_two(f, &c, " waits for the answer of ", &of, ", by this await")
-            }
-            Reason::WaitsForEnd(call, a) => say_two(f, &call, " waits for the death of ", &a, ""),
-            Reason::WaitsForKill(a, c) => {
-                say_two(f, &a, " is dead, and waits for this kill of ", &c, "")
-            }
-            Reason::NoKill(a) => {
-                say(
-                    f,
-                    &a,
-                    " is dead, and its callers await answers and have no kill of it",
-                )
-            }
-            Reason::Open(call) => say(f, &call, " has no answer"),
-            Reason::Stuck => f.write_str("nothing more can happen"),
+            Reason::Awaits(c, of) => of_two(
+                Named::Caller(c),
+                " waits for the answer of ",
+                Named::Call(of),
+                ", by this await",
+            ),
+            Reason::WaitsForEnd(call, a) => of_two(
+                Named::Call(call),
+                " waits for the death of ",
+                Named::Actor(a),
+                "",
+            ),
+            Reason::WaitsForKill(a, c) => of_two(
+                Named::Actor(a),
+                " is dead, and waits for this kill of ",
+                Named::Caller(c),
+                "",
+            ),
+            Reason::NoKill(a) => of_one(
+                Named::Actor(a),
+                " is dead, and its callers await answers and have no kill of it",
+            ),
+            Reason::Open(call) => of_one(Named::Call(call), " has no answer"),
+            Reason::Stuck => of_one(Named::Nothing, "nothing more can happen"),
         }
+    }
+}
+
+impl fmt::Display for Reason {
+    fn fmt<W: fmt::Write>(&self, f: &mut fmt::Formatter<W>) -> fmt::Result {
+        let Sentence {
+            first,
+            after_first,
+            second,
+            after_second,
+            third,
+            after_third,
+        } = self.sentence();
+        write!(
+            f,
+            "{first}{after_first}{second}{after_second}{third}{after_third}"
+        )
     }
 }
 
@@ -261,14 +374,63 @@ pub(crate) struct Blame {
     pub(crate) reason: Reason,
 }
 
-/// Adds that a reason shows at this line.
-pub(crate) fn add_blame(
-    blames: &mut Vec<Blame>,
-    line: u32,
-    reason: Reason,
-) -> Result<(), NoMemory> {
-    blames.push(Blame { line, reason })?;
-    Ok(())
+/// What is blamed so far.
+#[derive(Drop)]
+pub(crate) struct Blames {
+    list: Vec<Blame>,
+    /// Whether memory was refused for some of it. So none who adds has to look.
+    is_short: bool,
+}
+
+impl Blames {
+    pub(crate) fn new(alloc: Global) -> Blames {
+        Blames {
+            list: Vec::new(alloc),
+            is_short: false,
+        }
+    }
+
+    pub(crate) fn count(&self) -> usize {
+        self.list.len()
+    }
+
+    /// Adds that a reason shows at this line.
+    pub(crate) fn add(&mut self, line: u32, reason: Reason) {
+        if self.list.push(Blame { line, reason }).is_err() {
+            self.is_short = true;
+        }
+    }
+
+    /// Adds that a reason shows at this line, where there is one.
+    pub(crate) fn add_any(&mut self, line: u32, reason: Option<Reason>) {
+        if let Some(reason) = reason {
+            self.add(line, reason);
+        }
+    }
+
+    /// What was added from this place on.
+    pub(crate) fn since(self, alloc: Global, begin: usize) -> Blames {
+        let Blames { list, is_short } = self;
+        let mut rest = Blames {
+            list: Vec::new(alloc),
+            is_short,
+        };
+        for blame in list.iter().skip(begin) {
+            rest.add(blame.line, blame.reason);
+        }
+        drop(list);
+        rest
+    }
+
+    /// All of it, unless memory was refused for some.
+    pub(crate) fn whole(self) -> Result<Vec<Blame>, NoMemory> {
+        let Blames { list, is_short } = self;
+        if is_short {
+            drop(list);
+            return Err(NoMemory);
+        }
+        Ok(list)
+    }
 }
 
 /// Adds the line of what is blamed.

@@ -1,43 +1,62 @@
 //! What is told of a history that no play ends as.
 
 use crate::blocked::why_blocked;
-use crate::faults::all_faults;
+use crate::faults::push_all_faults;
 use crate::history::{History, Lines};
 use crate::reached::reach;
-use crate::reason::{Blame, Reasons, push_blames};
+use crate::reason::{Reasons, push_blame, push_blames};
 use crate::rules::first_blame;
-use crate::values::difference;
+use crate::values::push_difference;
 use act_kinds::Actor;
 use act_rules::Step;
 use act_types::{CallerId, NoMemory};
 use act_walks::Walked;
-use std::alloc::{AllocError, Global};
+use std::alloc::Global;
 
-/// The lines of what is blamed.
-fn blames_text(alloc: Global, blames: &[Blame]) -> Result<String, AllocError> {
-    let mut text = String::new(alloc);
-    push_blames(&mut text, blames)?;
-    Ok(text)
-}
-
-/// The lines of what no play leaves, whatever the order of its events: none where there is nothing.
-fn faults_text(alloc: Global, history: &History, reasons: Reasons) -> Result<String, NoMemory> {
+/// Adds what no play leaves, whatever the order of its events: nothing where there is nothing.
+fn push_faults(
+    alloc: Global,
+    text: &mut String,
+    history: &History,
+    reasons: Reasons,
+) -> Result<(), NoMemory> {
     match reasons {
-        Reasons::All => all_faults(alloc, history),
-        Reasons::First => match first_blame(alloc, history)? {
-            None => Ok(String::new(alloc)),
-            Some(blame) => Ok(blames_text(alloc, &[blame])?),
-        },
+        Reasons::All => push_all_faults(alloc, text, history)?,
+        Reasons::First => {
+            if let Some(blame) = first_blame(alloc, history)? {
+                push_blame(text, blame)?;
+            }
+        }
     }
+    Ok(())
 }
 
-/// Where no play can go on: nothing where one can.
-fn blocked_text(alloc: Global, history: &History) -> Result<String, NoMemory> {
+/// Adds where no play can go on: nothing where one can.
+fn push_blocked(alloc: Global, text: &mut String, history: &History) -> Result<(), NoMemory> {
     let progress = reach(alloc, history)?;
     let blames = why_blocked(alloc, history, &progress);
     drop(progress);
-    let text = blames_text(alloc, &blames?)?;
-    Ok(text)
+    push_blames(text, &blames?)?;
+    Ok(())
+}
+
+/// Adds why no play ends so: what is found first of this.
+fn push_reasons<K: Actor>(
+    alloc: Global,
+    text: &mut String,
+    history: &History,
+    reasons: Reasons,
+    walked: &Walked<K>,
+    lines: Lines<'_>,
+) -> Result<(), NoMemory> {
+    push_faults(alloc, text, history, reasons)?;
+    if text.is_empty() {
+        push_blocked(alloc, text, history)?;
+    }
+    if text.is_empty() {
+        push_difference(alloc, text, &walked.world, history, &walked.events, lines)?;
+    }
+    Ok(())
 }
 
 /// Why no play ends so. The walk is what could be done of it.
@@ -48,15 +67,14 @@ pub(crate) fn why_refused<K: Actor>(
     walked: &Walked<K>,
     lines: Lines<'_>,
 ) -> Result<String, NoMemory> {
-    let faults = faults_text(alloc, history, reasons)?;
-    if !faults.is_empty() {
-        return Ok(faults);
+    let mut text = String::new(alloc);
+    match push_reasons(alloc, &mut text, history, reasons, walked, lines) {
+        Ok(()) => Ok(text),
+        Err(error) => {
+            drop(text);
+            Err(error)
+        }
     }
-    let blocked = blocked_text(alloc, history)?;
-    if !blocked.is_empty() {
-        return Ok(blocked);
-    }
-    difference(alloc, &walked.world, history, &walked.events, lines)
 }
 
 /// The line of the caller's own step at this place.

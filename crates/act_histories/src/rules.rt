@@ -1,7 +1,9 @@
 //! What each history keeps that some play ends in, and that shows line by line.
 
-use crate::history::{Call, Caller, Ending, History, Ran, Served, future_at, slot_of, told_place};
-use crate::reason::{Blame, CallName, PlaceName, Reason, add_blame};
+use crate::history::{
+    Call, Caller, Ending, History, Ran, Served, future_at, slot_of, slot_of_caller, told_place,
+};
+use crate::reason::{Blame, Blames, CallName, PlaceName, Reason};
 use act_compare::same_method;
 use act_rules::RunItem;
 use act_types::{
@@ -9,40 +11,6 @@ use act_types::{
     Method, NoMemory, Settled,
 };
 use std::alloc::Global;
-
-/// How far an actor came in the calls of each caller.
-#[derive(Drop)]
-struct Passed {
-    /// How many of a caller's calls come no later than one that ran.
-    counts: Vec<usize>,
-}
-
-impl Passed {
-    fn new(alloc: Global) -> Result<Passed, NoMemory> {
-        let mut counts = Vec::new(alloc);
-        for _ in 0..CALLER_NUMBERS {
-            counts.push(0)?;
-        }
-        Ok(Passed { counts })
-    }
-
-    fn of(&self, c: CallerId) -> usize {
-        match self.counts.get(c.number() as usize) {
-            Some(count) => *count,
-            None => 0,
-        }
-    }
-
-    /// Notes that a call ran.
-    fn note(&mut self, c: CallerId, k: FutureId) {
-        let count = (k.number() as usize).saturating_add(1);
-        if let Some(passed) = self.counts.get_mut(c.number() as usize)
-            && *passed < count
-        {
-            *passed = count;
-        }
-    }
-}
 
 /// Whether the call ends its actor.
 pub(crate) fn is_end(item: &RunItem) -> bool {
@@ -133,7 +101,7 @@ fn other_call(history: &History, at: &PlaceName, item: &RunItem) -> Option<Reaso
 }
 
 /// The name of a call that ran.
-fn name_of(item: &RunItem) -> CallName {
+pub(crate) fn name_of(item: &RunItem) -> CallName {
     CallName {
         caller: item.caller,
         future: item.future,
@@ -142,44 +110,36 @@ fn name_of(item: &RunItem) -> CallName {
 
 /// Adds the calls that are skipped at a place, and that no earlier place skips: those of the caller
 /// that come after so many and before this one.
-fn add_skips(
-    blames: &mut Vec<Blame>,
-    history: &History,
-    at: &PlaceName,
-    ran: &Ran,
-    passed: usize,
-) -> Result<(), NoMemory> {
+fn add_skips(blames: &mut Blames, history: &History, at: &PlaceName, ran: &Ran, passed: usize) {
     let CallName { caller, future } = name_of(&ran.item);
     for place in passed..future.number() as usize {
         let skipped = CallName {
             caller,
             future: future_at(place),
         };
-        if let Some(reason) = skip_of(history, at, skipped) {
-            add_blame(blames, ran.line, reason)?;
-        }
+        blames.add_any(ran.line, skip_of(history, at, skipped));
     }
-    Ok(())
 }
 
-/// Adds why the call at a place can't have run there.
+/// Adds why the call at a place can't have run there. `passed` has how many calls of each caller come no
+/// later than one that ran.
 fn add_reasons_at(
-    blames: &mut Vec<Blame>,
+    blames: &mut Blames,
     history: &History,
     at: &PlaceName,
     ran: &Ran,
-    passed: &mut Passed,
-) -> Result<(), NoMemory> {
-    let CallName { caller, future } = name_of(&ran.item);
-    if let Some(reason) = reason_at(history, at, name_of(&ran.item)) {
-        return add_blame(blames, ran.line, reason);
+    passed: &mut [usize; CALLER_NUMBERS],
+) {
+    let name = name_of(&ran.item);
+    let slot = slot_of_caller(name.caller);
+    let count = (name.future.number() as usize).saturating_add(1);
+    if let Some(reason) = reason_at(history, at, name) {
+        blames.add(ran.line, reason);
+        return;
     }
-    add_skips(blames, history, at, ran, passed.of(caller))?;
-    passed.note(caller, future);
-    if let Some(reason) = other_call(history, at, &ran.item) {
-        add_blame(blames, ran.line, reason)?;
-    }
-    Ok(())
+    add_skips(blames, history, at, ran, passed[slot]);
+    passed[slot] = passed[slot].max(count);
+    blames.add_any(ran.line, other_call(history, at, &ran.item));
 }
 
 /// The calls of a run list that can't have run there, in their order.
@@ -189,8 +149,8 @@ pub(crate) fn blames_of_log(
     a: ActorId,
     log: &[Ran],
 ) -> Result<Vec<Blame>, NoMemory> {
-    let mut blames = Vec::new(alloc);
-    let mut passed = Passed::new(alloc)?;
+    let mut blames = Blames::new(alloc);
+    let mut passed = [0; CALLER_NUMBERS];
     let mut has_ended = false;
     for (place, ran) in log.iter().enumerate() {
         let at = PlaceName {
@@ -198,13 +158,13 @@ pub(crate) fn blames_of_log(
             place: told_place(place),
         };
         if has_ended {
-            add_blame(&mut blames, ran.line, Reason::AfterTheEnd(at))?;
+            blames.add(ran.line, Reason::AfterTheEnd(at));
         } else {
-            add_reasons_at(&mut blames, history, &at, ran, &mut passed)?;
+            add_reasons_at(&mut blames, history, &at, ran, &mut passed);
         }
         has_ended = has_ended || is_end(&ran.item);
     }
-    Ok(blames)
+    blames.whole()
 }
 
 /// Whether an actor that ran a terminate is told as dead.
@@ -318,47 +278,39 @@ pub(crate) fn blames_of_caller(
     c: CallerId,
     caller: &Caller,
 ) -> Result<Vec<Blame>, NoMemory> {
-    let mut blames = Vec::new(alloc);
+    let mut blames = Blames::new(alloc);
     let mut halves = Halves::new();
     for (place, call) in caller.calls.iter().enumerate() {
         let name = CallName {
             caller: c,
             future: future_at(place),
         };
-        let beside = reason_beside(&mut halves, call, name.again());
-        if let Some(actor) = history.actor(call.actor)
-            && let Some(reason) = reason_of(call, name, actor.ending)
-        {
-            add_blame(&mut blames, call.line, reason)?;
+        if let Some(actor) = history.actor(call.actor) {
+            blames.add_any(call.line, reason_of(call, name.again(), actor.ending));
         }
-        if let Some(reason) = beside {
-            add_blame(&mut blames, call.line, reason)?;
-        }
+        blames.add_any(call.line, reason_beside(&mut halves, call, name));
     }
-    Ok(blames)
+    blames.whole()
 }
 
-/// The first call of an actor that can't have run there, or that it can't have ended so.
-fn first_of_actor(
-    alloc: Global,
-    history: &History,
-    a: ActorId,
-    actor: &Served,
-) -> Result<Option<Blame>, NoMemory> {
-    let blames = blames_of_log(alloc, history, a, &actor.log)?;
-    match blames.first() {
-        Some(blame) => Ok(Some(*blame)),
-        None => Ok(blame_of_end(a, actor)),
-    }
+/// The first of these, or this where there is none.
+fn first_or(blames: Vec<Blame>, other: Option<Blame>) -> Option<Blame> {
+    let first = match blames.first() {
+        Some(blame) => Some(*blame),
+        None => other,
+    };
+    drop(blames);
+    first
 }
 
+/// The first call of some actor that can't have run there, or an end that it can't have.
 fn first_of_actors(alloc: Global, history: &History) -> Result<Option<Blame>, NoMemory> {
     for before in 0..MAX_ACTORS {
-        if let Some(a) = ActorId::new(before + 1)
-            && let Some(actor) = history.actor(a)
-            && let Some(blame) = first_of_actor(alloc, history, a, actor)?
-        {
-            return Ok(Some(blame));
+        if let Some((a, actor)) = history.actor_after(before) {
+            let blames = blames_of_log(alloc, history, a, &actor.log)?;
+            if let Some(blame) = first_or(blames, blame_of_end(a, actor)) {
+                return Ok(Some(blame));
+            }
         }
     }
     Ok(None)
@@ -366,11 +318,11 @@ fn first_of_actors(alloc: Global, history: &History) -> Result<Option<Blame>, No
 
 fn first_of_callers(alloc: Global, history: &History) -> Result<Option<Blame>, NoMemory> {
     for before in 0..MAX_CALLERS {
-        if let Some(c) = CallerId::new(before + 1)
-            && let Some(caller) = history.caller(c)
-            && let Some(blame) = blames_of_caller(alloc, history, c, caller)?.first()
-        {
-            return Ok(Some(*blame));
+        if let Some((c, caller)) = history.caller_after(before) {
+            let blames = blames_of_caller(alloc, history, c, caller)?;
+            if let Some(blame) = first_or(blames, None) {
+                return Ok(Some(blame));
+            }
         }
     }
     Ok(None)

@@ -1,7 +1,7 @@
 //! What a world shows after a play that was found, beside what a history tells.
 
 use crate::differs::{push_other_answer, push_other_args};
-use crate::history::{Call, History, Lines, slot_of};
+use crate::history::{Call, History, Lines, is_line_end, slot_of};
 use crate::reason::ToldPlace;
 use act_compare::{same_answer, same_settled_args};
 use act_console::play_report;
@@ -30,23 +30,18 @@ fn compare_run<K: Actor>(
     a: ActorId,
     place: u32,
 ) -> Result<(), AllocError> {
-    let Some(stage) = world.stage(a) else {
-        return Ok(());
-    };
-    let Some(told) = history.told_at(a, place) else {
-        return Ok(());
-    };
-    match (log_of(&stage).get(place as usize), history.ran_at(a, place)) {
-        (Some(by_rules), Some(ran)) => {
-            let by_rules = by_rules.args.as_slice();
-            let args = ran.item.args.as_slice();
-            if same_settled_args(by_rules, args) {
-                return Ok(());
-            }
-            push_other_args(text, &told, by_rules, args)
+    if let Some(stage) = world.stage(a)
+        && let Some(by_rules) = log_of(&stage).get(place as usize)
+        && let Some(ran) = history.ran_at(a, place)
+        && let Some(told) = history.told_at(a, place)
+    {
+        let by_rules = by_rules.args.as_slice();
+        let args = ran.item.args.as_slice();
+        if !same_settled_args(by_rules, args) {
+            return push_other_args(text, &told, by_rules, args);
         }
-        _ => Ok(()),
     }
+    Ok(())
 }
 
 /// Where the call ran.
@@ -62,25 +57,16 @@ fn compare_answer<K: Actor>(
     c: CallerId,
     k: FutureId,
 ) -> Result<(), AllocError> {
-    let Some(owner) = world.owner(c) else {
-        return Ok(());
-    };
-    let Some(kept) = owner.answer(k) else {
-        return Ok(());
-    };
-    let Some(call) = history.call(c, k) else {
-        return Ok(());
-    };
-    let Some(told) = call.answer() else {
-        return Ok(());
-    };
-    if same_answer(kept, told) {
-        return Ok(());
+    if let Some(owner) = world.owner(c)
+        && let Some(kept) = owner.answer(k)
+        && let Some(call) = history.call(c, k)
+        && let Some(told) = call.answer()
+        && !same_answer(kept, told)
+        && let Some(at) = place_of(history, call)
+    {
+        return push_other_answer(text, &at, kept, told, call.line);
     }
-    let Some(at) = place_of(history, call) else {
-        return Ok(());
-    };
-    push_other_answer(text, &at, kept, told, call.line)
+    Ok(())
 }
 
 /// Compares the next call that the actor ran, and what its caller keeps of it, with what is told.
@@ -139,8 +125,8 @@ fn compare_lines(
     shown: &str,
 ) -> Result<(), AllocError> {
     let mut number = before;
-    let mut lines = shown.as_bytes().split(|byte| *byte == b'\n');
-    for line in rest.split(|byte| *byte == b'\n') {
+    let mut lines = shown.as_bytes().split(is_line_end);
+    for line in rest.split(is_line_end) {
         number = number.wrapping_add(1);
         if line.is_empty() || line[0] == b'#' {
             continue;
@@ -166,21 +152,21 @@ fn compare_end<K: Actor>(
     Ok(())
 }
 
-/// What differs first between what is told and what the world shows that played these events.
-pub(crate) fn difference<K: Actor>(
+/// Adds what differs first between what is told and what the world shows that played these events.
+pub(crate) fn push_difference<K: Actor>(
     alloc: Global,
+    text: &mut String,
     world: &World<K>,
     history: &History,
     events: &[Event],
     lines: Lines<'_>,
-) -> Result<String, NoMemory> {
-    let mut text = String::new(alloc);
-    compare_events(&mut text, world, history, events)?;
+) -> Result<(), NoMemory> {
+    compare_events(text, world, history, events)?;
     if text.is_empty() {
-        compare_end(alloc, &mut text, world, lines)?;
+        compare_end(alloc, text, world, lines)?;
     }
     if text.is_empty() {
         text.push_str("line 0: no play does these steps and ends so\n")?;
     }
-    Ok(text)
+    Ok(())
 }
