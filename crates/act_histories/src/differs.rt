@@ -1,5 +1,6 @@
 //! What is said where the rules give other arguments or another answer than a history tells.
 
+use crate::printed::push_behind;
 use crate::reason::ToldPlace;
 use act_types::{Answer, Settled};
 use std::alloc::AllocError;
@@ -9,15 +10,15 @@ fn push_args(text: &mut String, args: &[Settled]) -> Result<(), AllocError> {
         return text.push_str(" none");
     }
     for arg in args {
-        write!(text, " {arg}")?;
+        push_behind(text, " ", arg)?;
     }
     Ok(())
 }
 
 fn push_answer(text: &mut String, answer: &Answer) -> Result<(), AllocError> {
     match answer {
-        Ok(value) => write!(text, "{value}"),
-        Err(fault) => write!(text, "{fault}"),
+        Ok(value) => push_behind(text, "", value),
+        Err(fault) => push_behind(text, "", fault),
     }
 }
 

@@ -30,15 +30,34 @@ fn open_place(history: &History, c: CallerId, k: FutureId) -> Option<(ActorId, u
 
 /// Whether a call took the failure of one that is left open so.
 fn takes_open(history: &History, item: &RunItem) -> bool {
-    item.args.as_slice().iter().any(|arg| match arg {
-        Settled::Good(_) => false,
-        Settled::Bad(k) => open_place(history, item.caller, *k).is_some(),
-    })
+    for arg in item.args.as_slice() {
+        if let Settled::Bad(k) = arg
+            && open_place(history, item.caller, *k).is_some()
+        {
+            return true;
+        }
+    }
+    false
+}
+
+/// Whether some call of a run list did.
+fn one_takes_open(history: &History, log: &[Ran]) -> bool {
+    for ran in log {
+        if takes_open(history, &ran.item) {
+            return true;
+        }
+    }
+    false
 }
 
 /// Whether some call did.
 fn some_takes_open(history: &History) -> bool {
-    history.actors.iter().any(|actor| actor.log.iter().any(|ran| takes_open(history, &ran.item)))
+    for actor in &history.actors {
+        if one_takes_open(history, &actor.log) {
+            return true;
+        }
+    }
+    false
 }
 
 /// Whether the call is left open so, and its reply is a value. Then its failure was no reply.
@@ -86,18 +105,33 @@ fn add_failed_in(
     Ok(())
 }
 
+/// The same of all run lists.
+fn add_all_failed(
+    failed: &mut Vec<Failed>,
+    history: &History,
+    replies: &Replies,
+) -> Result<(), NoMemory> {
+    for before in 0..MAX_ACTORS {
+        if let Some((a, actor)) = history.actor_after(before) {
+            add_failed_in(failed, history, replies, a, &actor.log)?;
+        }
+    }
+    Ok(())
+}
+
 /// The calls of which a later one took the failure.
 fn all_failed(alloc: Global, history: &History) -> Result<Vec<Failed>, NoMemory> {
     let replies = Replies::new(alloc, history)?;
     let mut failed = Vec::new(alloc);
-    for before in 0..MAX_ACTORS {
-        if let Some(a) = ActorId::new(before + 1)
-            && let Some(actor) = history.actor(a)
-        {
-            add_failed_in(&mut failed, history, &replies, a, &actor.log)?;
+    let added = add_all_failed(&mut failed, history, &replies);
+    drop(replies);
+    match added {
+        Ok(()) => Ok(failed),
+        Err(error) => {
+            drop(failed);
+            Err(error)
         }
     }
-    Ok(failed)
 }
 
 /// Notes of each call that a death answered where its failure was taken. What actors answer is found only

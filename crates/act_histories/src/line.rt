@@ -33,13 +33,12 @@ fn future_of(word: &str) -> Result<(CallerId, FutureId), LineFault> {
 
 /// The future of `Dependency(0)`.
 fn dependency_of(word: &str) -> Result<Fault, LineFault> {
-    let Some(opened) = word.strip_prefix("Dependency(") else {
-        return Err(BAD_LINE);
-    };
-    let Some(number) = opened.strip_suffix(')') else {
-        return Err(BAD_LINE);
-    };
-    Ok(Fault::Dependency(FutureId::new(number_of(number)?)))
+    if let Some(opened) = word.strip_prefix("Dependency(")
+        && let Some(number) = opened.strip_suffix(')')
+    {
+        return Ok(Fault::Dependency(FutureId::new(number_of(number)?)));
+    }
+    Err(BAD_LINE)
 }
 
 /// The fault that a word names.

@@ -24,28 +24,34 @@ pub(crate) enum Wrongly {
     OtherPlay,
 }
 
+impl Wrongly {
+    /// What is said of it. What is wrong with a line of the script says that itself.
+    fn text(&self) -> &'static str {
+        match self {
+            Wrongly::Script(_) => "",
+            Wrongly::BadLine => "BadLine: no line of a history has this form",
+            Wrongly::NoRole => "NoRole: no role names this caller or this actor",
+            Wrongly::OutOfOrder => {
+                "OutOfOrder: futures come first, by rising numbers, and then each actor with its run list"
+            }
+            Wrongly::OtherActor => "OtherActor: this call was submitted to another actor",
+            Wrongly::OtherKind => "OtherKind: the actor's role has another kind",
+            Wrongly::NotSubmitted => {
+                "NotSubmitted: no line submits this future, and its caller has lines that submit"
+            }
+            Wrongly::NoFuture => "NoFuture: no line tells the future of this call",
+            Wrongly::NoEnd => "NoEnd: an actor has a role, and no line tells its end",
+            Wrongly::Undecided => "Undecided: whether a play ends so isn't known",
+            Wrongly::OtherPlay => "OtherPlay: the play that was found isn't read as it was written",
+        }
+    }
+}
+
 impl fmt::Display for Wrongly {
     fn fmt<W: fmt::Write>(&self, f: &mut fmt::Formatter<W>) -> fmt::Result {
         match self {
             Wrongly::Script(wrong) => write!(f, "{wrong}"),
-            Wrongly::BadLine => f.write_str("BadLine: no line of a history has this form"),
-            Wrongly::NoRole => f.write_str("NoRole: no role names this caller or this actor"),
-            Wrongly::OutOfOrder => f.write_str(
-                "OutOfOrder: futures come first, by rising numbers, and then each actor with its run list",
-            ),
-            Wrongly::OtherActor => {
-                f.write_str("OtherActor: this call was submitted to another actor")
-            }
-            Wrongly::OtherKind => f.write_str("OtherKind: the actor's role has another kind"),
-            Wrongly::NotSubmitted => f.write_str(
-                "NotSubmitted: no line submits this future, and its caller has lines that submit",
-            ),
-            Wrongly::NoFuture => f.write_str("NoFuture: no line tells the future of this call"),
-            Wrongly::NoEnd => f.write_str("NoEnd: an actor has a role, and no line tells its end"),
-            Wrongly::Undecided => f.write_str("Undecided: whether a play ends so isn't known"),
-            Wrongly::OtherPlay => {
-                f.write_str("OtherPlay: the play that was found isn't read as it was written")
-            }
+            _ => f.write_str(self.text()),
         }
     }
 }

@@ -15,10 +15,19 @@ fn kind_word(kind: KindName) -> &'static str {
     }
 }
 
+/// Adds a thing, and what stands before it. All that `write!` does would stand in the proof at each call.
+pub(crate) fn push_behind<T: Display>(
+    text: &mut String,
+    before: &str,
+    one: &T,
+) -> Result<(), AllocError> {
+    write!(text, "{before}{one}")
+}
+
 /// Adds callers, a space before each.
 fn push_callers(text: &mut String, callers: &[CallerId]) -> Result<(), AllocError> {
     for caller in callers {
-        write!(text, " {caller}")?;
+        push_behind(text, " ", caller)?;
     }
     Ok(())
 }
@@ -29,7 +38,7 @@ fn push_role(text: &mut String, role: &Role) -> Result<(), AllocError> {
     let kind = kind_word(role.kind);
     write!(text, "actor {actor} {kind}")?;
     if let Some(limit) = role.pending {
-        write!(text, " max {limit}")?;
+        push_behind(text, " max ", &limit)?;
     }
     push_callers(text, role.callers.as_slice())?;
     text.push('\n')
@@ -39,8 +48,8 @@ fn push_role(text: &mut String, role: &Role) -> Result<(), AllocError> {
 fn push_args(text: &mut String, args: &[Arg]) -> Result<(), AllocError> {
     for arg in args {
         match arg {
-            Arg::Plain(value) => write!(text, " {value}")?,
-            Arg::Fut(future) => write!(text, " @{future}")?,
+            Arg::Plain(value) => push_behind(text, " ", value)?,
+            Arg::Fut(future) => push_behind(text, " @", future)?,
         }
     }
     Ok(())

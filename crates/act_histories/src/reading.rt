@@ -1,7 +1,9 @@
 //! A history, from the script and the lines of what was left.
 
 use crate::failed::note_failed;
-use crate::history::{Between, Call, Caller, Ending, History, Kept, Lines, Placed, Ran, Served};
+use crate::history::{
+    Between, Call, Caller, Ending, History, Kept, Lines, Placed, Ran, Served, is_line_end,
+};
 use crate::line::{Told, read_words};
 use crate::mistake::{Mistake, Wrongly};
 use act_rules::{KindName, Role, RunItem, Step, Wrong};
@@ -132,7 +134,7 @@ impl Reading {
         args: &ListOf<Arg>,
         line: u32,
     ) -> Result<(), Mistake> {
-        let args = args.copy_of(self.alloc)?;
+        let alloc = self.alloc;
         let Some(caller) = self.caller_mut(c) else {
             return Ok(());
         };
@@ -143,7 +145,7 @@ impl Reading {
         caller.calls.push(Call {
             actor,
             method,
-            args,
+            args: args.copy_of(alloc)?,
             kept: Kept::Nothing,
             submitted: line,
             line,
@@ -238,11 +240,11 @@ impl Reading {
 
     /// Notes the answer that a caller keeps of a call, and the line that tells it.
     fn keep(&mut self, c: CallerId, k: FutureId, kept: Kept, line: u32) {
-        if let Some(call) = self.history.call_mut(c, k) {
+        if let Some(caller) = self.caller_mut(c)
+            && let Some(call) = caller.calls.get_mut(k.number() as usize)
+        {
             call.kept = kept;
             call.line = line;
-        }
-        if let Some(caller) = self.caller_mut(c) {
             caller.told = caller.told.saturating_add(1);
         }
     }
@@ -298,16 +300,13 @@ impl Reading {
 
     /// What a call was that only its run tells.
     fn learn(&mut self, item: &RunItem) -> Result<(), NoMemory> {
-        let args = args_of(self.alloc, item)?;
-        let Some(caller) = self.caller_mut(item.caller) else {
-            return Ok(());
-        };
-        if caller.has_plan {
-            return Ok(());
-        }
-        if let Some(call) = caller.calls.get_mut(item.future.number() as usize) {
+        let alloc = self.alloc;
+        if let Some(caller) = self.caller_mut(item.caller)
+            && !caller.has_plan
+            && let Some(call) = caller.calls.get_mut(item.future.number() as usize)
+        {
+            call.args = args_of(alloc, item)?;
             call.method = item.method;
-            call.args = args;
         }
         Ok(())
     }
@@ -431,7 +430,7 @@ fn add_line(reading: &mut Reading, line: &[u8], number: u32) -> Result<(), Mista
 /// Adds what the lines tell, of which the first has the number after this one.
 fn add_lines(reading: &mut Reading, rest: &[u8], before: u32) -> Result<(), Mistake> {
     let mut number = before;
-    for line in rest.split(|byte| *byte == b'\n') {
+    for line in rest.split(is_line_end) {
         number = number.wrapping_add(1);
         add_line(reading, line, number)?;
     }

@@ -9,7 +9,8 @@ use act_compare::{same_answer, same_settled_args};
 use act_kinds::{Account, Actor, Counter, ListKind, Table};
 use act_rules::{KindName, RunItem};
 use act_types::{
-    ActorId, Answer, Arg, CopyOf, Fault, FutureId, Method, NoMemory, Settled, SmallList, Value,
+    ActorId, Answer, Arg, CallerId, CopyOf, Fault, FutureId, Method, NoMemory, Settled, SmallList,
+    Value,
 };
 use std::alloc::{AllocError, Global};
 
@@ -26,16 +27,37 @@ fn answer_to<K: Actor>(
     }
 }
 
-/// What an actor answers to a call, with the arguments that it ran with.
-fn answer_of<K: Actor>(alloc: Global, kind: &mut K, item: &RunItem) -> Result<Answer, NoMemory> {
-    let mut values = SmallList::with_capacity(alloc, item.args.len())?;
-    for arg in item.args.as_slice() {
-        match arg {
-            Settled::Good(value) => values.push(value.copy_of(alloc)?)?,
-            Settled::Bad(future) => return Ok(Err(Fault::Dependency(*future))),
+/// The first future among arguments that failed.
+fn failed_in(args: &[Settled]) -> Option<FutureId> {
+    for arg in args {
+        if let Settled::Bad(future) = arg {
+            return Some(*future);
         }
     }
-    answer_to(kind, &item.method, values.as_slice())
+    None
+}
+
+/// The values of arguments of which none failed.
+fn values_of(alloc: Global, args: &[Settled]) -> Result<SmallList<Value>, NoMemory> {
+    let mut values = SmallList::with_capacity(alloc, args.len())?;
+    for arg in args {
+        if let Settled::Good(value) = arg {
+            values.push(value.copy_of(alloc)?)?;
+        }
+    }
+    Ok(values)
+}
+
+/// What an actor answers to a call, with the arguments that it ran with.
+fn answer_of<K: Actor>(alloc: Global, kind: &mut K, item: &RunItem) -> Result<Answer, NoMemory> {
+    let args = item.args.as_slice();
+    if let Some(future) = failed_in(args) {
+        return Ok(Err(Fault::Dependency(future)));
+    }
+    let values = values_of(alloc, args)?;
+    let answer = answer_to(kind, &item.method, values.as_slice());
+    drop(values);
+    answer
 }
 
 /// What an actor answers at each place of its run list.
@@ -49,10 +71,12 @@ struct Answered {
 
 /// How many of these calls come no later than the one that ends the actor.
 fn count_until_end(log: &[Ran]) -> usize {
-    match log.iter().position(|ran| is_end(&ran.item)) {
-        Some(place) => place.saturating_add(1),
-        None => log.len(),
+    for (place, ran) in log.iter().enumerate() {
+        if is_end(&ran.item) {
+            return place.saturating_add(1);
+        }
     }
+    log.len()
 }
 
 fn answers_by<K: Actor>(alloc: Global, mut kind: K, log: &[Ran]) -> Result<Answered, NoMemory> {
@@ -142,6 +166,21 @@ impl Replies {
         }
     }
 
+    /// What an argument of a caller's call is settled to that ran so.
+    fn settled_arg(
+        &self,
+        alloc: Global,
+        history: &History,
+        c: CallerId,
+        arg: &Arg,
+        ran: &Settled,
+    ) -> Result<Settled, NoMemory> {
+        match arg {
+            Arg::Plain(value) => Ok(Settled::Good(value.copy_of(alloc)?)),
+            Arg::Fut(k) => self.settled_future(alloc, history.call(c, *k), *k, ran),
+        }
+    }
+
     /// What the arguments of a call are settled to that ran so.
     fn settled_args(
         &self,
@@ -151,15 +190,8 @@ impl Replies {
         item: &RunItem,
     ) -> Result<SmallList<Settled>, NoMemory> {
         let mut args = SmallList::with_capacity(alloc, item.args.len())?;
-        for (place, ran) in item.args.as_slice().iter().enumerate() {
-            match call.args.as_slice().get(place) {
-                None => {}
-                Some(Arg::Plain(value)) => args.push(Settled::Good(value.copy_of(alloc)?))?,
-                Some(Arg::Fut(future)) => {
-                    let of = history.call(item.caller, *future);
-                    args.push(self.settled_future(alloc, of, *future, ran)?)?;
-                }
-            }
+        for (arg, ran) in call.args.as_slice().iter().zip(item.args.as_slice()) {
+            args.push(self.settled_arg(alloc, history, item.caller, arg, ran)?)?;
         }
         Ok(args)
     }

@@ -1,10 +1,10 @@
 //! What was read of a history, as what is told of an end.
 
 use crate::history::{Call, Caller, Ending, History, Kept, Ran, Served};
-use act_rules::{RunItem, Step};
+use act_rules::Step;
 use act_types::{CallerId, CopyOf, NoMemory};
 use act_walks::{Left, ToldActor, ToldCall, ToldCaller, ToldEnd, ToldRun};
-use std::alloc::{AllocError, Global};
+use std::alloc::Global;
 
 /// What is told of a call's answer. One that is left open is its reply where it ran, or the death of which a
 /// later call took the failure.
@@ -18,48 +18,86 @@ fn left_of(call: &Call) -> Left {
     }
 }
 
-fn told_call(alloc: Global, call: &Call) -> Result<ToldCall, NoMemory> {
-    let args = call.args.copy_of(alloc)?;
-    Ok(ToldCall {
-        actor: call.actor,
-        method: call.method,
-        args,
-        left: left_of(call),
-        is_open: matches!(&call.kept, Kept::Something),
-        place: call.first_place(),
-        failed: call.failed,
-    })
+/// A thing of which an end tells.
+trait Tell {
+    type Told: Drop;
+
+    /// What is told of it.
+    fn told(&self, alloc: Global) -> Result<Self::Told, NoMemory>;
 }
 
-fn told_calls(alloc: Global, calls: &[Call]) -> Result<Vec<ToldCall>, NoMemory> {
+/// What is told of each.
+fn told_each<T: Tell>(alloc: Global, things: &[T]) -> Result<Vec<T::Told>, NoMemory> {
     let mut told = Vec::new(alloc);
-    for call in calls {
-        told.push(told_call(alloc, call)?)?;
+    for thing in things {
+        told.push(thing.told(alloc)?)?;
     }
     Ok(told)
 }
 
-/// What is told of a caller. One that awaits is bound to its steps, which are still to be added.
-fn told_caller(alloc: Global, caller: &Caller) -> Result<ToldCaller, NoMemory> {
-    let calls = told_calls(alloc, &caller.calls)?;
-    let steps = if caller.awaits {
-        Some(Vec::new(alloc))
-    } else {
-        None
-    };
-    Ok(ToldCaller {
-        calls,
-        steps,
-        has_lines: caller.has_plan,
-    })
+impl Tell for Call {
+    type Told = ToldCall;
+
+    fn told(&self, alloc: Global) -> Result<ToldCall, NoMemory> {
+        let args = self.args.copy_of(alloc)?;
+        Ok(ToldCall {
+            actor: self.actor,
+            method: self.method,
+            args,
+            left: left_of(self),
+            is_open: matches!(&self.kept, Kept::Something),
+            place: self.first_place(),
+            failed: self.failed,
+        })
+    }
 }
 
-fn told_callers(alloc: Global, callers: &[Caller]) -> Result<Vec<ToldCaller>, NoMemory> {
-    let mut told = Vec::new(alloc);
-    for caller in callers {
-        told.push(told_caller(alloc, caller)?)?;
+impl Tell for Caller {
+    type Told = ToldCaller;
+
+    /// One that awaits is bound to its steps, which are still to be added.
+    fn told(&self, alloc: Global) -> Result<ToldCaller, NoMemory> {
+        let calls = told_each(alloc, &self.calls)?;
+        let steps = if self.awaits {
+            Some(Vec::new(alloc))
+        } else {
+            None
+        };
+        Ok(ToldCaller {
+            calls,
+            steps,
+            has_lines: self.has_plan,
+        })
     }
-    Ok(told)
+}
+
+impl Tell for Ran {
+    type Told = ToldRun;
+
+    fn told(&self, alloc: Global) -> Result<ToldRun, NoMemory> {
+        let args = self.item.args.copy_of(alloc)?;
+        Ok(ToldRun {
+            caller: self.item.caller,
+            future: self.item.future,
+            method: self.item.method,
+            args,
+        })
+    }
+}
+
+impl Tell for Served {
+    type Told = ToldActor;
+
+    fn told(&self, alloc: Global) -> Result<ToldActor, NoMemory> {
+        let callers = Vec::from_slice(alloc, &self.callers)?;
+        let runs = told_each(alloc, &self.log)?;
+        Ok(ToldActor {
+            callers,
+            runs,
+            is_dead: self.ending == Ending::Dead,
+            is_retired: self.ending == Ending::Retired,
+        })
+    }
 }
 
 fn copied_step(alloc: Global, step: &Step) -> Result<Step, NoMemory> {
@@ -107,7 +145,7 @@ fn bound_callers(
     callers: &[Caller],
     steps: &[(CallerId, Step, u32)],
 ) -> Result<Vec<ToldCaller>, NoMemory> {
-    let mut told = told_callers(alloc, callers)?;
+    let mut told = told_each(alloc, callers)?;
     match add_steps(alloc, &mut told, steps) {
         Ok(()) => Ok(told),
         Err(error) => {
@@ -115,51 +153,6 @@ fn bound_callers(
             Err(error)
         }
     }
-}
-
-fn copied_callers(alloc: Global, callers: &[CallerId]) -> Result<Vec<CallerId>, AllocError> {
-    let mut copied = Vec::new(alloc);
-    for caller in callers {
-        copied.push(*caller)?;
-    }
-    Ok(copied)
-}
-
-fn told_run(alloc: Global, item: &RunItem) -> Result<ToldRun, NoMemory> {
-    let args = item.args.copy_of(alloc)?;
-    Ok(ToldRun {
-        caller: item.caller,
-        future: item.future,
-        method: item.method,
-        args,
-    })
-}
-
-fn told_runs(alloc: Global, log: &[Ran]) -> Result<Vec<ToldRun>, NoMemory> {
-    let mut runs = Vec::new(alloc);
-    for ran in log {
-        runs.push(told_run(alloc, &ran.item)?)?;
-    }
-    Ok(runs)
-}
-
-fn told_actor(alloc: Global, actor: &Served) -> Result<ToldActor, NoMemory> {
-    let callers = copied_callers(alloc, &actor.callers)?;
-    let runs = told_runs(alloc, &actor.log)?;
-    Ok(ToldActor {
-        callers,
-        runs,
-        is_dead: actor.ending == Ending::Dead,
-        is_retired: actor.ending == Ending::Retired,
-    })
-}
-
-fn told_actors(alloc: Global, actors: &[Served]) -> Result<Vec<ToldActor>, NoMemory> {
-    let mut told = Vec::new(alloc);
-    for actor in actors {
-        told.push(told_actor(alloc, actor)?)?;
-    }
-    Ok(told)
 }
 
 /// What the history tells of an end, with the steps of its script for the callers that await. An answer
@@ -170,7 +163,7 @@ pub(crate) fn told_end(
     steps: &[(CallerId, Step, u32)],
 ) -> Result<ToldEnd, NoMemory> {
     let callers = bound_callers(alloc, &history.callers, steps)?;
-    match told_actors(alloc, &history.actors) {
+    match told_each(alloc, &history.actors) {
         Ok(actors) => Ok(ToldEnd { callers, actors }),
         Err(error) => {
             drop(callers);
