@@ -4,8 +4,8 @@ use crate::blocked::why_blocked;
 use crate::faults::push_all_faults;
 use crate::history::{History, Lines};
 use crate::reached::reach;
-use crate::reason::{Reasons, push_blame, push_blames};
-use crate::rules::first_blame;
+use crate::reason::{Reasons, push_blames};
+use crate::rules::push_first_fault;
 use crate::values::push_difference;
 use act_kinds::Actor;
 use act_rules::Step;
@@ -21,14 +21,9 @@ fn push_faults(
     reasons: Reasons,
 ) -> Result<(), NoMemory> {
     match reasons {
-        Reasons::All => push_all_faults(alloc, text, history)?,
-        Reasons::First => {
-            if let Some(blame) = first_blame(alloc, history)? {
-                push_blame(text, blame)?;
-            }
-        }
+        Reasons::All => push_all_faults(alloc, text, history),
+        Reasons::First => push_first_fault(alloc, text, history),
     }
-    Ok(())
 }
 
 /// Adds where no play can go on: nothing where one can.

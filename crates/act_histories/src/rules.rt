@@ -3,14 +3,14 @@
 use crate::history::{
     Call, Caller, Ending, History, Ran, Served, future_at, slot_of, slot_of_caller, told_place,
 };
-use crate::reason::{Blame, Blames, CallName, PlaceName, Reason};
+use crate::reason::{Blame, Blames, CallName, PlaceName, Reason, push_blame};
 use act_compare::same_method;
 use act_rules::RunItem;
 use act_types::{
     ACTOR_NUMBERS, ActorId, Arg, CALLER_NUMBERS, CallerId, FutureId, MAX_ACTORS, MAX_CALLERS,
     Method, NoMemory, Settled,
 };
-use std::alloc::Global;
+use std::alloc::{AllocError, Global};
 
 /// Whether the call ends its actor.
 pub(crate) fn is_end(item: &RunItem) -> bool {
@@ -293,45 +293,63 @@ pub(crate) fn blames_of_caller(
     blames.whole()
 }
 
-/// The first of these, or this where there is none.
-fn first_or(blames: Vec<Blame>, other: Option<Blame>) -> Option<Blame> {
-    let first = match blames.first() {
-        Some(blame) => Some(*blame),
-        None => other,
-    };
-    drop(blames);
-    first
+/// Adds the line of what is blamed first, if anything is. Tells whether something is.
+fn push_first(text: &mut String, blames: &[Blame]) -> Result<bool, AllocError> {
+    match blames.first() {
+        None => Ok(false),
+        Some(blame) => {
+            push_blame(text, *blame)?;
+            Ok(true)
+        }
+    }
 }
 
-/// The first call of some actor that can't have run there, or an end that it can't have.
-fn first_of_actors(alloc: Global, history: &History) -> Result<Option<Blame>, NoMemory> {
+/// Adds the line of the first call of some actor that can't have run there, or of an end that it can't have. Tells
+/// whether there is such a thing.
+fn push_first_of_actors(
+    alloc: Global,
+    text: &mut String,
+    history: &History,
+) -> Result<bool, NoMemory> {
     for before in 0..MAX_ACTORS {
         if let Some((a, actor)) = history.actor_after(before) {
-            let blames = blames_of_log(alloc, history, a, &actor.log)?;
-            if let Some(blame) = first_or(blames, blame_of_end(a, actor)) {
-                return Ok(Some(blame));
+            if push_first(text, &blames_of_log(alloc, history, a, &actor.log)?)? {
+                return Ok(true);
+            }
+            if let Some(blame) = blame_of_end(a, actor) {
+                push_blame(text, blame)?;
+                return Ok(true);
             }
         }
     }
-    Ok(None)
+    Ok(false)
 }
 
-fn first_of_callers(alloc: Global, history: &History) -> Result<Option<Blame>, NoMemory> {
+/// The same of the callers.
+fn push_first_of_callers(
+    alloc: Global,
+    text: &mut String,
+    history: &History,
+) -> Result<bool, NoMemory> {
     for before in 0..MAX_CALLERS {
-        if let Some((c, caller)) = history.caller_after(before) {
-            let blames = blames_of_caller(alloc, history, c, caller)?;
-            if let Some(blame) = first_or(blames, None) {
-                return Ok(Some(blame));
-            }
+        if let Some((c, caller)) = history.caller_after(before)
+            && push_first(text, &blames_of_caller(alloc, history, c, caller)?)?
+        {
+            return Ok(true);
         }
     }
-    Ok(None)
+    Ok(false)
 }
 
-/// The first thing in a history that no play leaves, whatever the order of its events.
-pub(crate) fn first_blame(alloc: Global, history: &History) -> Result<Option<Blame>, NoMemory> {
-    match first_of_actors(alloc, history)? {
-        Some(blame) => Ok(Some(blame)),
-        None => first_of_callers(alloc, history),
+/// Adds the line of the first thing in a history that no play leaves, whatever the order of its events, if there is
+/// such a thing.
+pub(crate) fn push_first_fault(
+    alloc: Global,
+    text: &mut String,
+    history: &History,
+) -> Result<(), NoMemory> {
+    if !push_first_of_actors(alloc, text, history)? {
+        push_first_of_callers(alloc, text, history)?;
     }
+    Ok(())
 }
