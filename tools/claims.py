@@ -19,6 +19,8 @@ links count.
   - README.md names the kit as `rt version` does, where `rt` is there, and docs/proved.md the crates of the kit that
     crates.txt names. Each command of `rt` that a page calls, and each flag, stands in `rt --help`.
   - Each number that tools/counted.py knows is what the sources say, and so are some lists.
+  - No crate proves the body of a function, or that a type may go to another thread, by a proof written by hand, and none
+    has something `unsafe` but the calls that docs/DECISIONS.md counts.
   - No page, and no other text of the repository, has a word of SPOKEN: none speaks of somebody who asked for something,
     or who was told.
 
@@ -31,6 +33,8 @@ from contracts import faults_of_tables
 from counted import faults_of_kit, faults_of_lists, faults_of_numbers
 from named import NO_SOURCES, Sources, code_of, lines_of_page, paragraphs_of, texts_there, words_of
 
+# Where the kit looks for such a proof.
+BY_HAND = re.compile(r"crates/\w+/proofs/(.*/)?(Proof\.antt|TheSend\w*/.*)")
 # Pages of which links alone are looked at: the first has names as they were, the second is written by a tool.
 LINKS_ALONE = {"CHANGELOG.md", "docs/edits.md"}
 # Names that are no names of this repository, by the reason.
@@ -207,6 +211,16 @@ def faults_of_speech(text):
         yield f"whom no reader knows: {found[0]}"
 
 
+def faults_by_hand(texts):
+    """What the prover would take over from a text instead of checking it against the code: a body's proof by hand,
+    and what is declared `unsafe`."""
+    for path in sorted(texts):
+        if BY_HAND.fullmatch(path):
+            yield path, "a body, or that a type may be sent, is proved by hand"
+        elif re.fullmatch(r"crates/\w+/src/.*\.rt", path) and re.search(r"^[^/]*\bunsafe (?!\{)", texts[path], re.MULTILINE):
+            yield path, "something but a call is unsafe"
+
+
 def faults_of_page(page, text, sources, texts, crates):
     """All that is wrong with a page, each with the number of its line."""
     yield from faults_of_links(page, text, texts)
@@ -233,6 +247,7 @@ def faults(texts):
     yield from faults_of_numbers(sources, texts)
     yield from faults_of_lists(sources, texts, program.ours())
     yield from faults_of_kit(texts)
+    yield from faults_by_hand(texts)
 
 
 def main():

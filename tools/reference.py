@@ -117,7 +117,7 @@ NOTATION = [
     ("◌↔◌ IsTrue true false", "`IsTrue b ↔ P`", "b is true exactly where P holds"),
     ("All AllPairs", "`All P xs`, `AllPairs P xs`", "P holds of each item; of each two items, in their order"),
     ("◌⊎◌", "`P ⊎ Q`", "P or Q"),
-    ("", "`tt`, `Unit {0}`, `⊥`", "the value `()`; what always holds; what never does"),
+    ("⊤", "`tt`, `Unit {0}`, `⊤`, `⊥`", "the value `()`; what always holds, twice; what never does"),
     ("if◌then◌else◌ nat_lt", "`if b then x else y`, `nat_lt m n`", "x where b is true, else y; the test whether m < n"),
     ("", "`record x { a = v }`", "x with another value of its field a"),
     ("option_copied option_map", "`option_copied o`, `option_map f o`", "`o.copied()`, `o.map(f)`"),

@@ -209,6 +209,20 @@ class Numbers(unittest.TestCase):
                 self.assertEqual(len(list(counted.faults_of_kit(texts))), count)
 
 
+class ByHand(unittest.TestCase):
+    def test_what_is_proved_by_hand_is_told(self):
+        own = "crates/act_actor"
+        wrong = {
+            f"{own}/proofs/past/Past/push/Proof.antt": "pub push_spec = tt",
+            f"{own}/proofs/past/Past/TheSendSync/Send.antt": "pub send = tt",
+            f"{own}/src/past.rt": "unsafe impl Send for Past {}",
+        }
+        self.assertEqual([path for path, _ in claims.faults_by_hand({**TEXTS, **wrong})], sorted(wrong))
+
+    def test_nothing_is(self):
+        self.assertEqual(list(claims.faults_by_hand(TEXTS)), [])
+
+
 class Sentences(unittest.TestCase):
     def test_a_page_that_grew_too_long_is_told(self):
         self.assertEqual(list(pages.faults_of_lengths()), [])

@@ -6,7 +6,6 @@
 ghost use Rattle.std.specs.Prelude.{◌≡◌, ◌≢◌, ◌<◌, ◌≤◌, ◌*◌, ◌↔◌, ◌++◌, ℕ, [], length, Some, IfOk, OnOk, IfErr, OnErr, IfSome, IfNone, IsOk, IsSome, is_some, IsTrue, Ok, Err, MatchResult};
 ghost use Rattle.std.specs.Option.{option_map};
 ghost use Rattle.std.specs.String.{string_bytes};
-ghost use Rattle.std.specs.Vec.{vec_len, vec_capacity};
 ghost use Rattle.act_types.specs.KindState.{KindState};
 ghost use Rattle.act_types.specs.Texts.{state_text};
 ghost use Rattle.act_rules.specs.RunList.{after_item, answer_at, has_terminated, values_of, step_of_reply, call_reply, ends_actor};
@@ -17,7 +16,7 @@ ghost use Rattle.act_actor.specs.Actor.{item_of, reply_of_run, call_arrival_at, 
 ghost use Rattle.act_actor.specs.StateViews.{live_view};
 ghost use Rattle.act_types.specs.declared.call.Method.TheVariants.{Terminate};
 
-use crate::{Dead, Retired};
+use crate::{Dead, Retired, RunLog};
 use act_inbox::Inbox;
 use act_kinds::{Actor, Boxed};
 use act_rules::{Arrival, RunItem};
@@ -31,14 +30,14 @@ use std::slice;
 
 /// An actor that runs: its name, the calls that it holds, those that it ran, and its kind.
 #[derive(Drop)]
-pub struct Live<K = Boxed> {
+pub struct Live<K = Boxed, L: RunLog = Vec<RunItem>> {
     id: ActorId,
     inbox: Inbox,
-    log: Vec<RunItem>,
+    log: L,
     kind: K,
 }
 
-impl<K> Model for Live<K> {
+impl<K, L: RunLog> Model for Live<K, L> {
     ghost use Rattle.std.specs.Prelude.{◌≡◌, ◌≤◌, ◌*◌, length};
     ghost use Rattle.act_types.specs.declared.limits.TheConstants.{MAX_CALLERS, MAX_CALLS};
     ghost use Rattle.act_inbox.specs.Inbox.{handed_in_all};
@@ -46,11 +45,11 @@ impl<K> Model for Live<K> {
 
     ghost Value = { LiveView K };
 
-    ghost view = { λ live. record { id = live.id; inbox = live.inbox; log = live.log.items; state = live.kind } };
+    ghost view = { λ live. record { id = live.id; inbox = live.inbox; log = L.items live.log; state = live.kind } };
 
     // Each call that was handed out stands in the log, and the inbox hands out no more than that.
     ghost invariant = { λ live.
-        (length live.log.items ≡ handed_in_all live.inbox) × (length live.log.items ≤ MAX_CALLERS * MAX_CALLS) };
+        (length (L.items live.log) ≡ handed_in_all live.inbox) × (length (L.items live.log) ≤ MAX_CALLERS * MAX_CALLS) };
 }
 
 /// The item that a packet becomes in the log.
@@ -91,44 +90,44 @@ fn answer_of<K: Actor>(alloc: Global, kind: &mut K, packet: &Packet) -> Result<A
 /// Room in the log for a call, and the reply to it, which it gets there. The room comes first, and
 /// then the kind's answer.
 #[inline(always)]
-fn log_reply<K: Actor>(
-    log: &mut Vec<RunItem>,
+fn log_reply<K: Actor, L: RunLog>(
+    log: &mut L,
     id: ActorId,
     kind: &mut K,
     packet: &Packet,
 ) -> Result<Reply, NoMemory>
-    requires few { length log.old.items ≤ MAX_CALLERS * MAX_CALLS }
+    requires few { length (L.items log.old) ≤ MAX_CALLERS * MAX_CALLS }
     ensures reply { IfOk result (λ reply. reply ≡ record {
       actor = id;
       caller = packet.now.caller;
       future = packet.now.future;
-      place = length log.old.items;
+      place = length (L.items log.old);
       answer = (after_item (K.state kind.old) (item_of packet.now)).1;
     }) }
-    ensures room { OnOk result (vec_len log.new < vec_capacity log.new) }
-    ensures log { log.new.items ≡ log.old.items }
+    ensures room { OnOk result (L.has_room log.new) }
+    ensures log { L.items log.new ≡ L.items log.old }
     ensures moved { OnOk result (K.state kind.new ≡ (after_item (K.state kind.old) (item_of packet.now)).0) }
     ensures err { OnErr result (kind.new ≡ kind.old) }
 {
-    log.reserve(1)?;
-    let answer = answer_of(*log.allocator(), kind, packet)?;
+    log.make_room(1)?;
+    let answer = answer_of(log.alloc(), kind, packet)?;
     Ok(Reply {
         actor: id,
         caller: packet.caller,
         future: packet.future,
-        place: log.len() as u32,
+        place: log.count() as u32,
         answer,
     })
 }
 
-impl<K: Actor> Live<K> {
-    /// An actor that ran nothing.
-    pub fn open(
+impl<K: Actor, L: RunLog> Live<K, L> {
+    /// An actor that ran nothing, which keeps of the calls that it runs what an `L` keeps.
+    pub fn open_keeping(
         alloc: Global,
         id: ActorId,
         callers: &[CallerId],
         kind: K,
-    ) -> Result<Live<K>, NoMemory>
+    ) -> Result<Live<K, L>, NoMemory>
         requires distinct { CallersDiffer callers.now }
         ensures id { IfOk result (λ live. live.id ≡ id) }
         ensures inbox { IfOk result (λ live. IsOpened callers.now live.inbox) }
@@ -138,7 +137,7 @@ impl<K: Actor> Live<K> {
         Ok(Live {
             id,
             inbox: Inbox::open(alloc, callers)?,
-            log: Vec::new(alloc),
+            log: L::open(alloc),
             kind,
         })
     }
@@ -150,12 +149,19 @@ impl<K: Actor> Live<K> {
         self.id
     }
 
-    /// What it ran.
-    pub fn log(&self) -> &[RunItem]
-        ensures value { result.now ≡ self.now.log }
-        ensures few { length result.now ≤ MAX_CALLERS * MAX_CALLS }
+    /// What is kept of the calls that it ran.
+    pub fn run_log(&self) -> &L
+        ensures value { L.items result.now ≡ self.now.log }
     {
-        self.log.as_slice()
+        &self.log
+    }
+
+    /// How many calls it ran.
+    pub fn ran(&self) -> usize
+        ensures value { result ≡ length self.now.log }
+        ensures few { result ≤ MAX_CALLERS * MAX_CALLS }
+    {
+        self.log.count()
     }
 
     /// Its kind, to look at. Only a call that it runs changes it.
@@ -170,8 +176,7 @@ impl<K: Actor> Live<K> {
     pub fn reserve(&mut self, count: usize) -> Result<(), NoMemory>
         ensures { self.new ≡ self.old }
     {
-        self.log.reserve(count)?;
-        Ok(())
+        self.log.make_room(count)
     }
 
     /// Appends the state's text, or leaves the text as it was.
@@ -248,7 +253,7 @@ impl<K: Actor> Live<K> {
     pub fn terminated(&self) -> bool
         ensures { result ≡ has_terminated self.now.log }
     {
-        self.log.last().is_some_and(is_end)
+        self.log.has_terminated()
     }
 
     /// Whether it did not terminate, each caller's note came, and all calls of which it tells were
@@ -285,7 +290,7 @@ impl<K: Actor> Live<K> {
         };
         let reply = log_reply(&mut self.log, self.id, &mut self.kind, packet)?;
         let packet = self.inbox.next(caller).unwrap();
-        self.log.push_reserved(item_of(packet));
+        self.log.add(item_of(packet));
         Ok(Some(reply))
     }
 
@@ -340,12 +345,12 @@ impl<K: Actor> Live<K> {
     {
         let reply = log_reply(&mut self.log, self.id, &mut self.kind, &packet)?;
         self.inbox.pass_by(&packet);
-        self.log.push_reserved(item_of(packet));
+        self.log.add(item_of(packet));
         Ok(reply)
     }
 
     /// Ends the actor. Its kind and the calls that it holds are dropped.
-    pub fn kill(self) -> Dead
+    pub fn kill(self) -> Dead<L>
         ensures { result ≡ record { id = self.id; log = self.log } }
     {
         let Live { id, log, .. } = self;
@@ -353,7 +358,7 @@ impl<K: Actor> Live<K> {
     }
 
     /// Ends the actor once it is drained; else an `Err` hands it back.
-    pub fn retire(self) -> Result<Retired<K>, Live<K>>
+    pub fn retire(self) -> Result<Retired<K, L>, Live<K, L>>
         ensures when { IsOk result ↔ MayRetire self.log self.inbox }
         ensures ok { IfOk result (λ retired. retired ≡ record { id = self.id; log = self.log; state = self.state }) }
         ensures err { IfErr result (λ live. live ≡ self) }
@@ -363,6 +368,32 @@ impl<K: Actor> Live<K> {
         }
         let Live { id, log, kind, .. } = self;
         Ok(Retired::new(id, log, kind))
+    }
+}
+
+impl<K: Actor> Live<K> {
+    /// An actor that ran nothing.
+    pub fn open(
+        alloc: Global,
+        id: ActorId,
+        callers: &[CallerId],
+        kind: K,
+    ) -> Result<Live<K>, NoMemory>
+        requires distinct { CallersDiffer callers.now }
+        ensures id { IfOk result (λ live. live.id ≡ id) }
+        ensures inbox { IfOk result (λ live. IsOpened callers.now live.inbox) }
+        ensures log { IfOk result (λ live. live.log ≡ []) }
+        ensures kind { IfOk result (λ live. live.state ≡ kind) }
+    {
+        Live::open_keeping(alloc, id, callers, kind)
+    }
+
+    /// What it ran.
+    pub fn log(&self) -> &[RunItem]
+        ensures value { result.now ≡ self.now.log }
+        ensures few { length result.now ≤ MAX_CALLERS * MAX_CALLS }
+    {
+        self.log.as_slice()
     }
 }
 

@@ -4,6 +4,7 @@ ghost use Rattle.std.specs.Prelude.{◌≡◌, ◌++◌, OnOk, OnErr};
 ghost use Rattle.std.specs.String.{string_bytes};
 ghost use Rattle.act_types.specs.Texts.{state_text};
 
+use crate::RunLog;
 use act_kinds::{Actor, Boxed};
 use act_rules::RunItem;
 use act_types::{ActorId, NoMemory};
@@ -11,24 +12,24 @@ use std::marker::Model;
 
 /// An actor that ended once all that was submitted to it had run.
 #[derive(Drop)]
-pub struct Retired<K = Boxed> {
+pub struct Retired<K = Boxed, L: RunLog = Vec<RunItem>> {
     id: ActorId,
-    log: Vec<RunItem>,
+    log: L,
     kind: K,
 }
 
-impl<K> Model for Retired<K> {
+impl<K, L: RunLog> Model for Retired<K, L> {
     ghost use Rattle.act_actor.specs.View.{LeftView};
 
     ghost Value = { LeftView K };
 
-    ghost view = { λ retired. record { id = retired.id; log = retired.log.items; state = retired.kind } };
+    ghost view = { λ retired. record { id = retired.id; log = L.items retired.log; state = retired.kind } };
 }
 
-impl<K: Actor> Retired<K> {
+impl<K: Actor, L: RunLog> Retired<K, L> {
     /// A retired actor of this name, which ran these calls and left its kind so.
-    pub(crate) fn new(id: ActorId, log: Vec<RunItem>, kind: K) -> Retired<K>
-        ensures { result ≡ record { id = id; log = log.items; state = kind } }
+    pub(crate) fn new(id: ActorId, log: L, kind: K) -> Retired<K, L>
+        ensures { result ≡ record { id = id; log = L.items log; state = kind } }
     {
         Retired { id, log, kind }
     }
@@ -40,11 +41,11 @@ impl<K: Actor> Retired<K> {
         self.id
     }
 
-    /// What it ran.
-    pub fn log(&self) -> &[RunItem]
-        ensures { result.now ≡ self.now.log }
+    /// What is kept of the calls that it ran.
+    pub fn run_log(&self) -> &L
+        ensures { L.items result.now ≡ self.now.log }
     {
-        self.log.as_slice()
+        &self.log
     }
 
     /// Its kind, as its last call left it.
@@ -69,5 +70,14 @@ impl<K: Actor> Retired<K> {
         ensures err { OnErr result (string_bytes text.new ≡ string_bytes text.old) }
     {
         self.kind.state_text(text)
+    }
+}
+
+impl<K: Actor> Retired<K> {
+    /// What it ran.
+    pub fn log(&self) -> &[RunItem]
+        ensures { result.now ≡ self.now.log }
+    {
+        self.log.as_slice()
     }
 }

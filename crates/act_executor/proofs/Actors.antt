@@ -9,7 +9,7 @@ use Rattle.act_executor.proofs.Places.{at_other, all_at}
 use Rattle.act_executor.proofs.Elements.{IsIn, in_from_contains, contains_from_in, all_in, all_by_places}
 
 -- an actor's end with its passes
-abbrev pub served_view : {K : Type 0} → (K → KindState) → Finished K → ServedView
+abbrev pub served_view : {K L : Type 0} → (K → KindState) → Finished K L → ServedView
 served_view state finished = record { end = end_view state finished.ended; passes = finished.passes }
 
 -- endpoints at the same places are those of the same callers
@@ -20,7 +20,7 @@ same_endpoint_callers replies new old same =
 
 -- ---- what shows of an actor without the place of its list
 
-pub record IsLeft {K : Type 0} (state : K → KindState) (replies : List RepliesView) (cast : ActorSpec) (l : ActorLeft K) : Type 0 where
+pub record IsLeft {K L : Type 0} (state : K → KindState) (replies : List RepliesView) (cast : ActorSpec) (l : ActorLeft K L) : Type 0 where
   pub callers : List ℕ
   pub same_callers : (c : ℕ) → contains c callers ≡ contains c cast.callers
   pub endpoints : endpoint_callers replies l.notices ≡ callers
@@ -31,7 +31,7 @@ pub record IsLeft {K : Type 0} (state : K → KindState) (replies : List Replies
   pub askers : l.kills.askers ≡ starter ∷ cast.callers
   pub drained : IfRetired (end_view state l.ended) (HasDrained cast.opening callers l.letters.taken)
 
-module _ {K : Type 0} (state : K → KindState) (lines : Lines) (cast : Cast K) (exec : Endpoint ExecPasses) (actor : Finished K) (is : IsExec lines cast exec)
+module _ {K L : Type 0} (state : K → KindState) (lines : Lines) (cast : Cast K) (exec : Endpoint ExecPasses) (actor : Finished K L) (is : IsExec lines cast exec)
     (served : HasServed (state cast.kind) cast.actor lines.replies.items exec.pass (end_view state actor.ended) actor.passes) where
   left_is : IsLeft state lines.replies.items (actor_spec state cast) (left_of actor)
   left_is = record {
@@ -47,7 +47,7 @@ module _ {K : Type 0} (state : K → KindState) (lines : Lines) (cast : Cast K) 
   }
 
   -- the same of the actor after the comparison of its lines
-  pub is_served : (last : Finished K) → left_of last ≡ left_of actor → IsServed lines.replies.items (actor_spec state cast) (served_view state last)
+  pub is_served : (last : Finished K L) → left_of last ≡ left_of actor → IsServed lines.replies.items (actor_spec state cast) (served_view state last)
   is_served last same =
       let l = subst (IsLeft state lines.replies.items (actor_spec state cast)) (sym same) left_is in
       record { callers = l.callers; same_callers = l.same_callers; endpoints = l.endpoints; log = l.log; last = l.last; given = l.given; kills = l.kills_are; askers = l.askers; drained = l.drained }
@@ -78,11 +78,11 @@ module _ {K : Type 0} (state : K → KindState) (lines : Lines) (cast : Cast K) 
       (new.0, record { place = in_map.place; at = new.1 }, ap (λ (s : Endpoint ReplyExecView). s.place) new.2 ∙ old.2, ap (λ (s : Endpoint ReplyExecView). s.pass.actor) new.2 ∙ was.actor_is)
 
   -- the caller's notices were audited
-  pub notices_audited : (i c : ℕ) (callers : List Driven) (d : Driven) (last : Finished K) → left_of last ≡ left_of actor → Contains (map (λ (s : Endpoint ReplyExecView). s.place) exec.pass.notices.items) i →
+  pub notices_audited : (i c : ℕ) (callers : List Driven) (d : Driven) (last : Finished K L) → left_of last ≡ left_of actor → Contains (map (λ (s : Endpoint ReplyExecView). s.place) exec.pass.notices.items) i →
       caller_at lines.replies.items i ≡ c → slice_get callers i ≡ Some d → All (NoticeTold callers) actor.passes.notices.items → NoticesAudited lines.replies.items cast.actor c d (served_view state last)
   notices_audited i c callers d last same has named at told =
       let endpoint = new_endpoint i has in
-      let there : IsIn last.passes.notices.items endpoint.0 = subst (λ (l : List (Endpoint ReplyExecView)). IsIn l endpoint.0) (sym (ap (λ (l : ActorLeft K). l.notices) same)) endpoint.1 in
+      let there : IsIn last.passes.notices.items endpoint.0 = subst (λ (l : List (Endpoint ReplyExecView)). IsIn l endpoint.0) (sym (ap (λ (l : ActorLeft K L). l.notices) same)) endpoint.1 in
       let pass = endpoint.0.pass in
       let heard = all_in (NoticeTold callers) actor.passes.notices.items endpoint.0 told endpoint.1 in
       let At : ℕ × ℕ → Type 0 = λ p. IsPrefix (items_from notice_actor p.0 (get_or callers p.1 d).passes.collects.taken) pass.given in
@@ -98,8 +98,8 @@ module _ {K : Type 0} (state : K → KindState) (lines : Lines) (cast : Cast K) 
         stamped = subst (λ (x : Driven). IsPrefix (items_from (λ (y : Notice × ℕ). notice_actor y.0) cast.actor (zip x.passes.collects.taken x.passes.collects.stamps)) (zip pass.given pass.stamps)) here stamped_at;
       }
 
-  pub same_id : (last : Finished K) → left_of last ≡ left_of actor → end_id (end_view state last.ended) ≡ cast.actor
-  same_id last same = ap (λ (l : ActorLeft K). end_id (end_view state l.ended)) same ∙ served.id
+  pub same_id : (last : Finished K L) → left_of last ≡ left_of actor → end_id (end_view state last.ended) ≡ cast.actor
+  same_id last same = ap (λ (l : ActorLeft K L). end_id (end_view state l.ended)) same ∙ served.id
 
   pub same_letters_line : actor.passes.letters.line ≡ exec.pass.letters.line
   same_letters_line = ap (λ (t : TakerView Letter Unit). t.line) served.stay.letters

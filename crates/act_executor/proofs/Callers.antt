@@ -63,7 +63,7 @@ module _ (lines : Lines) (does : Doing) (setup : CallerSetup) (caller : Endpoint
         (subst (λ (p : ℕ). p < length lines.controls.items) place was.below, λ m. ap (λ (p : ℕ). (get_or lines.controls.items p m).line) (sym place) ∙ was.line m ∙ line));
   }
 
-  module _ {K : Type 0} (state : K → KindState) (j a : ℕ) (actors : List (Finished K)) (last : Finished K) (at_last : slice_get actors j ≡ Some last) where
+  module _ {K L : Type 0} (state : K → KindState) (j a : ℕ) (actors : List (Finished K L)) (last : Finished K L) (at_last : slice_get actors j ≡ Some last) where
     -- the caller's letters were audited
     pub letters_audited : Contains (map (λ (s : LetterEndpoint). s.place) caller.pass.letters.items) j → ((m : MailView) → (get_or lines.mails.items j m).actor ≡ a) → All (LetterTold actors) d.passes.letters.items →
         LettersAudited lines.mails.items a setup.caller d (served_view state last)
@@ -87,8 +87,8 @@ module _ (lines : Lines) (does : Doing) (setup : CallerSetup) (caller : Endpoint
           endpoint = endpoint;
           sits = contains_from_in d.passes.letters.items endpoint there;
           line = λ m. ap (λ (p : ℕ). (get_or lines.mails.items p m).actor) place ∙ of_actor m;
-          front = subst (λ (x : Finished K). IsPrefix (items_from caller_of setup.caller x.passes.letters.taken) pass.put) here front_at;
-          stamped = subst (λ (x : Finished K). IsPrefix (items_from (λ (y : Letter × ℕ). caller_of y.0) setup.caller (zip x.passes.letters.taken x.passes.letters.stamps)) (zip pass.put pass.stamps)) here stamped_at;
+          front = subst (λ (x : Finished K L). IsPrefix (items_from caller_of setup.caller x.passes.letters.taken) pass.put) here front_at;
+          stamped = subst (λ (x : Finished K L). IsPrefix (items_from (λ (y : Letter × ℕ). caller_of y.0) setup.caller (zip x.passes.letters.taken x.passes.letters.stamps)) (zip pass.put pass.stamps)) here stamped_at;
         }
 
     -- and its kills
@@ -114,6 +114,6 @@ module _ (lines : Lines) (does : Doing) (setup : CallerSetup) (caller : Endpoint
           endpoint = endpoint;
           sits = contains_from_in d.passes.kills.items endpoint there;
           line = λ k. ap (λ (p : ℕ). (get_or lines.controls.items p k).actor) place ∙ of_actor k;
-          front = subst (λ (x : Finished K). IsPrefix (items_from asker_of setup.caller x.passes.kills.taken) pass.put) here front_at;
-          stamped = subst (λ (x : Finished K). IsPrefix (items_from (λ (y : Asked × ℕ). asker_of y.0) setup.caller (zip x.passes.kills.taken x.passes.kills.stamps)) (zip pass.put pass.stamps)) here stamped_at;
+          front = subst (λ (x : Finished K L). IsPrefix (items_from asker_of setup.caller x.passes.kills.taken) pass.put) here front_at;
+          stamped = subst (λ (x : Finished K L). IsPrefix (items_from (λ (y : Asked × ℕ). asker_of y.0) setup.caller (zip x.passes.kills.taken x.passes.kills.stamps)) (zip pass.put pass.stamps)) here stamped_at;
         }

@@ -29,7 +29,7 @@ front_none (x ∷ xs) front = let none : length (x ∷ xs ++ front.0) ≡ 0 = ap
 abbrev KillEndpoint : Type 0
 KillEndpoint = Endpoint (PutterView Asked ℕ)
 
-module _ {K : Type 0} (state : K → KindState) (does : ℕ → Doing) (casts : List (Cast K)) (plans : List (ℕ × Vec Step)) (prepared : Prepared K) (joined : Joined K)
+module _ {K L : Type 0} (state : K → KindState) (does : ℕ → Doing) (casts : List (Cast K)) (plans : List (ℕ × Vec Step)) (prepared : Prepared K) (joined : Joined K L)
     (fit : IsFitting casts) (is : IsPrepared state casts plans prepared) (run : HasRunPlans state does prepared joined) where
   abbrev seen : List ActorSpec
   seen = map (actor_spec state) casts
@@ -43,23 +43,23 @@ module _ {K : Type 0} (state : K → KindState) (does : ℕ → Doing) (casts : 
   abbrev setups : List CallerSetup
   setups = prepared.setups.items
 
-  abbrev actors : List (Finished K)
+  abbrev actors : List (Finished K L)
   actors = run.ends.actors.items
 
-  abbrev last : List (Finished K)
+  abbrev last : List (Finished K L)
   last = joined.actors.items
 
   abbrev callers : List Driven
   callers = run.ends.callers.items
 
-  abbrev at_actor : (j : ℕ) (a : Finished K) → slice_get actors j ≡ Some a → ActorAt state now setups run.opened run.opening actors run.served j a
+  abbrev at_actor : (j : ℕ) (a : Finished K L) → slice_get actors j ≡ Some a → ActorAt state now setups run.opened run.opening actors run.served j a
   at_actor j a at = actor_at state now setups run.opened run.opening actors run.served j a at
 
   abbrev at_caller : (i : ℕ) (d : Driven) → slice_get callers i ≡ Some d → CallerAt state now setups run.opened run.opening does callers run.driven i d
   at_caller i d at = caller_there state now setups run.opened run.opening does callers run.driven i d at
 
   -- the actor before the comparison
-  before : (j : ℕ) (f : Finished K) → slice_get last j ≡ Some f → (a : Finished K) × (slice_get actors j ≡ Some a) × (left_of f ≡ left_of a)
+  before : (j : ℕ) (f : Finished K L) → slice_get last j ≡ Some f → (a : Finished K L) × (slice_get actors j ≡ Some a) × (left_of f ≡ left_of a)
   before j f at = let o = at_other left_of left_of actors last (sym run.compared.same) j f at in (o.0, o.1, sym o.2)
 
   casts_are : AreCasts seen
@@ -77,8 +77,8 @@ module _ {K : Type 0} (state : K → KindState) (does : ℕ → Doing) (casts : 
       caller_is lines (does one.setup.caller) one.setup one.caller d one.is (run.driven.each i one.setup one.caller d one.at_setup one.at_caller at) ∙ ap (λ (p : CallerSetup). p.caller) same)
       ∙ setups_view state casts plans setups is.setups_are
 
-  actors_are_now : map (λ (a : Finished K). end_id (end_view state a.ended)) actors ≡ map (λ (cast : Cast K). cast.actor) now
-  actors_are_now = maps_agree (λ (a : Finished K). end_id (end_view state a.ended)) (λ (cast : Cast K). cast.actor) actors now run.served.long (λ j a cast at there.
+  actors_are_now : map (λ (a : Finished K L). end_id (end_view state a.ended)) actors ≡ map (λ (cast : Cast K). cast.actor) now
+  actors_are_now = maps_agree (λ (a : Finished K L). end_id (end_view state a.ended)) (λ (cast : Cast K). cast.actor) actors now run.served.long (λ j a cast at there.
       let one = at_actor j a at in
       let both : Some one.cast ≡ Some cast = sym one.at_cast ∙ there in
       let same : one.cast ≡ cast = cc in
@@ -86,7 +86,7 @@ module _ {K : Type 0} (state : K → KindState) (does : ℕ → Doing) (casts : 
 
   ends_are : map (λ (s : ServedView). end_id s.end) (map (served_view state) last) ≡ actors_of_casts seen
   ends_are = map-map (λ (s : ServedView). end_id s.end) (served_view state) last
-      ∙ seen_through (λ (l : ActorLeft K). end_id (end_view state l.ended)) last actors run.compared.same ∙ actors_are_now
+      ∙ seen_through (λ (l : ActorLeft K L). end_id (end_view state l.ended)) last actors run.compared.same ∙ actors_are_now
       ∙ ap (map (λ (cast : Cast K). cast.actor)) is.rising ∙ actors_view state casts
 
   -- the cast of an actor is the one that was given for it
@@ -95,10 +95,10 @@ module _ {K : Type 0} (state : K → KindState) (does : ℕ → Doing) (casts : 
 
   -- an actor at its end: the thread's, and what was compared
   record End (j : ℕ) (s : ServedView) : Type 0 where
-    f : Finished K
+    f : Finished K L
     s_is : s ≡ served_view state f
     at_f : slice_get last j ≡ Some f
-    a : Finished K
+    a : Finished K L
     at_a : slice_get actors j ≡ Some a
     same : left_of f ≡ left_of a
     there : ActorAt state now setups run.opened run.opening actors run.served j a
@@ -163,9 +163,9 @@ module _ {K : Type 0} (state : K → KindState) (does : ℕ → Doing) (casts : 
         let served = run.served.each j e.there.cast e.there.exec e.a e.there.at_cast e.there.at_exec e.at_a in
         let name = same_id state lines e.there.cast e.there.exec e.a e.there.is served e.f e.same in
         let same = sym e.same in
-        let ended : end_view state e.a.ended ≡ end_view state e.f.ended = ap (λ (l : ActorLeft K). end_view state l.ended) same in
+        let ended : end_view state e.a.ended ≡ end_view state e.f.ended = ap (λ (l : ActorLeft K L). end_view state l.ended) same in
         subst (λ (x : ServedView). IsActorTraced (end_id x.end) lines.replies.items x.end x.passes) (sym e.s_is)
-        (traced_moved e.a.passes e.f.passes (ap (λ (l : ActorLeft K). l.letters) same) (ap (λ (l : ActorLeft K). l.kills) same) (ap (λ (l : ActorLeft K). l.notices) same)
+        (traced_moved e.a.passes e.f.passes (ap (λ (l : ActorLeft K L). l.letters) same) (ap (λ (l : ActorLeft K L). l.kills) same) (ap (λ (l : ActorLeft K L). l.notices) same)
         e.there.cast.actor (end_id (end_view state e.f.ended)) lines.replies.items (end_view state e.a.ended) (end_view state e.f.ended) (sym name) ended served.traced));
     callers = traced;
   }
@@ -208,7 +208,7 @@ module _ {K : Type 0} (state : K → KindState) (does : ℕ → Doing) (casts : 
       let listed : contains one.setup.caller e.there.cast.callers ≡ true = ap (λ (n : ℕ). contains n e.there.cast.callers) (sym id) ∙ ap (λ (c : ActorSpec). contains d.owner.id c.callers) (own_cast j s cast e of) ∙ names in
       let pair = run.opening.paired i j e.there.cast one.setup e.there.exec one.caller e.there.at_cast one.at_setup e.there.at_exec one.at_caller listed in
       let told = all_at (CallerTold last) callers i d run.compared.callers at_d in
-      let notices = all_at (λ (x : Finished K). All (NoticeTold callers) x.passes.notices.items) actors j e.a run.compared.notices e.at_a in
+      let notices = all_at (λ (x : Finished K L). All (NoticeTold callers) x.passes.notices.items) actors j e.a run.compared.notices e.at_a in
       let both : AreAudited lines.mails.items lines.controls.items lines.replies.items e.there.cast.actor one.setup.caller d (served_view state e.f) = record {
         letters = letters_audited lines (does one.setup.caller) one.setup one.caller d one.is drove state j e.there.cast.actor last e.f e.at_f pair.letters (mail_of j e.there.cast e.there.at_cast) told.letters;
         kills = kills_audited lines (does one.setup.caller) one.setup one.caller d one.is drove state j e.there.cast.actor last e.f e.at_f pair.kills (control_of j e.there.cast e.there.at_cast) told.kills;
@@ -237,13 +237,13 @@ module _ {K : Type 0} (state : K → KindState) (does : ℕ → Doing) (casts : 
       let told = (all_at (KillTold last) endpoints j endpoint run.compared.starters one.1).front e.f in
       let At : ℕ × ℕ × List Asked → Type 0 = λ x. IsPrefix (items_from asker_of x.0 (get_or last x.1 e.f).passes.kills.taken) x.2 in
       let front : IsPrefix (items_from asker_of starter (get_or last j e.f).passes.kills.taken) [] = subst At (λ k. (ap (λ (p : PutterView Asked ℕ). p.number) unused k, place k, ap (λ (p : PutterView Asked ℕ). p.put) unused k)) told in
-      ap (λ (x : ServedView). items_from asker_of starter x.passes.kills.taken) e.s_is ∙ ap (λ (x : Finished K). items_from asker_of starter x.passes.kills.taken) (sym (get_or_from_slice_get last j e.f e.f e.at_f)) ∙ front_none _ front)
+      ap (λ (x : ServedView). items_from asker_of starter x.passes.kills.taken) e.s_is ∙ ap (λ (x : Finished K L). items_from asker_of starter x.passes.kills.taken) (sym (get_or_from_slice_get last j e.f e.f e.at_f)) ∙ front_none _ front)
 
   fed : All (λ (s : ServedView). is_starved s.end ≡ false) (map (served_view state) last)
   fed = all_by_places (λ (s : ServedView). is_starved s.end ≡ false) (map (served_view state) last) (λ j s at.
       let e = end_at j s at in
-      let no_want = all_at (λ (x : Finished K). is_starved (end_view state x.ended) ≡ false) actors j e.a run.compared.fed e.at_a in
-      ap (λ (x : ServedView). is_starved x.end) e.s_is ∙ ap (λ (l : ActorLeft K). is_starved (end_view state l.ended)) e.same ∙ no_want)
+      let no_want = all_at (λ (x : Finished K L). is_starved (end_view state x.ended) ≡ false) actors j e.a run.compared.fed e.at_a in
+      ap (λ (x : ServedView). is_starved x.end) e.s_is ∙ ap (λ (l : ActorLeft K L). is_starved (end_view state l.ended)) e.same ∙ no_want)
 
   -- no two of them are one caller
   differ : AllPairs (λ (one other : Driven). one.owner.id ≢ other.owner.id) callers
@@ -253,7 +253,7 @@ module _ {K : Type 0} (state : K → KindState) (does : ℕ → Doing) (casts : 
       pairs_of_map (λ (d : Driven). d.owner.id) callers (subst (AllPairs (λ (one other : ℕ). one ≢ other)) (sym ids) apart)
 
   abbrev ends : List EndView
-  ends = map (λ (f : Finished K). end_view state f.ended) last
+  ends = map (λ (f : Finished K L). end_view state f.ended) last
 
   -- what is said of the owners and ends that the threads left holds of those that are joined
   as_joined : (P : List OwnerView → List EndView → Type 0) → P (map (λ (d : Driven). d.owner) callers) (map (λ (s : ServedView). s.end) (map (served_view state) last)) → P joined.owners.items ends

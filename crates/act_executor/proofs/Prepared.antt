@@ -50,16 +50,16 @@ module _ {K : Type 0} (state : K → KindState) (casts : List (Cast K)) (setups 
       let replies = as_long (λ (c : Endpoint CallerPasses). c.pass.collects.line) (λ (m : RepliesView). m.line) callers opened.lines.replies.items ok.at_lines.replies in
       omega (arith, place, below, replies))
 
-  module _ (actors : List (Finished K)) (served : AreServed state opened.lines casts execs actors) where
+  module _ {L : Type 0} (actors : List (Finished K L)) (served : AreServed state opened.lines casts execs actors) where
     -- the cast and the passes of an actor
-    pub record ActorAt (j : ℕ) (actor : Finished K) : Type 0 where
+    pub record ActorAt (j : ℕ) (actor : Finished K L) : Type 0 where
       pub cast : Cast K
       pub exec : Endpoint ExecPasses
       pub at_cast : slice_get casts j ≡ Some cast
       pub at_exec : slice_get execs j ≡ Some exec
       pub is : IsExec opened.lines cast exec
 
-    pub actor_at : (j : ℕ) (actor : Finished K) → slice_get actors j ≡ Some actor → ActorAt j actor
+    pub actor_at : (j : ℕ) (actor : Finished K L) → slice_get actors j ≡ Some actor → ActorAt j actor
     actor_at j actor at =
         let below = slice_get_within actors j actor at in
         let cast = element casts j (omega (arith, below, served.long)) in
@@ -69,22 +69,22 @@ module _ {K : Type 0} (state : K → KindState) (casts : List (Cast K)) (setups 
     execs_long : length execs ≡ length actors
     execs_long = omega (arith, served.long, ok.execs.0)
 
-    pub mail_lines : map (λ (m : MailView). m.line) opened.lines.mails.items ≡ map (λ (a : Finished K). a.passes.letters.line) actors
-    mail_lines = sym ok.at_lines.mails ∙ maps_agree (λ (e : Endpoint ExecPasses). e.pass.letters.line) (λ (a : Finished K). a.passes.letters.line) execs actors execs_long (λ j exec actor at there.
+    pub mail_lines : map (λ (m : MailView). m.line) opened.lines.mails.items ≡ map (λ (a : Finished K L). a.passes.letters.line) actors
+    mail_lines = sym ok.at_lines.mails ∙ maps_agree (λ (e : Endpoint ExecPasses). e.pass.letters.line) (λ (a : Finished K L). a.passes.letters.line) execs actors execs_long (λ j exec actor at there.
         let one = actor_at j actor there in
         let both : Some one.exec ≡ Some exec = sym one.at_exec ∙ at in
         let same : one.exec ≡ exec = cc in
         ap (λ (e : Endpoint ExecPasses). e.pass.letters.line) (sym same) ∙ sym (same_letters_line state opened.lines one.cast one.exec actor one.is (served.each j one.cast one.exec actor one.at_cast one.at_exec there)))
 
-    pub control_lines : map (λ (m : ControlView). m.line) opened.lines.controls.items ≡ map (λ (a : Finished K). a.passes.kills.line) actors
-    control_lines = sym ok.at_lines.controls ∙ maps_agree (λ (e : Endpoint ExecPasses). e.pass.kills.line) (λ (a : Finished K). a.passes.kills.line) execs actors execs_long (λ j exec actor at there.
+    pub control_lines : map (λ (m : ControlView). m.line) opened.lines.controls.items ≡ map (λ (a : Finished K L). a.passes.kills.line) actors
+    control_lines = sym ok.at_lines.controls ∙ maps_agree (λ (e : Endpoint ExecPasses). e.pass.kills.line) (λ (a : Finished K L). a.passes.kills.line) execs actors execs_long (λ j exec actor at there.
         let one = actor_at j actor there in
         let both : Some one.exec ≡ Some exec = sym one.at_exec ∙ at in
         let same : one.exec ≡ exec = cc in
         ap (λ (e : Endpoint ExecPasses). e.pass.kills.line) (sym same) ∙ sym (same_kills_line state opened.lines one.cast one.exec actor one.is (served.each j one.cast one.exec actor one.at_cast one.at_exec there)))
 
-    pub actors_sit : All (λ (a : Finished K). All (SitsAtReplies opened.lines.replies.items) a.passes.notices.items) actors
-    actors_sit = all_by_places (λ (a : Finished K). All (SitsAtReplies opened.lines.replies.items) a.passes.notices.items) actors (λ j actor at. let one = actor_at j actor at in sits state opened.lines one.cast one.exec actor one.is (served.each j one.cast one.exec actor one.at_cast one.at_exec at))
+    pub actors_sit : All (λ (a : Finished K L). All (SitsAtReplies opened.lines.replies.items) a.passes.notices.items) actors
+    actors_sit = all_by_places (λ (a : Finished K L). All (SitsAtReplies opened.lines.replies.items) a.passes.notices.items) actors (λ j actor at. let one = actor_at j actor at in sits state opened.lines one.cast one.exec actor one.is (served.each j one.cast one.exec actor one.at_cast one.at_exec at))
 
   module _ (does : ℕ → Doing) (driven : List Driven) (drove : AreDriven opened.lines does setups callers driven) where
     -- the part and the passes of a caller

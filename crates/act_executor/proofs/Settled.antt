@@ -3,7 +3,7 @@ use Rattle.act_executor.proofs.Common.{◌≡◌, zero, suc, Bool, true, false, 
 use Rattle.act_executor.proofs.Common.{ActorLeft, left_of}
 
 -- what shows of actors without the place of their lists is the same
-pub seen_through : {K Z : Type 0} (f : ActorLeft K → Z) (new old : List (Finished K)) → map left_of new ≡ map left_of old → map (λ (a : Finished K). f (left_of a)) new ≡ map (λ (a : Finished K). f (left_of a)) old
+pub seen_through : {K L Z : Type 0} (f : ActorLeft K L → Z) (new old : List (Finished K L)) → map left_of new ≡ map left_of old → map (λ (a : Finished K L). f (left_of a)) new ≡ map (λ (a : Finished K L). f (left_of a)) old
 seen_through f new old same = sym (map-map f left_of new) ∙ ap (map f) same ∙ map-map f left_of old
 
 pub none_any : {X : Type 0} (p : X → Bool) (xs : List X) → list_any p xs ≡ false → All (λ x. p x ≡ false) xs

@@ -26,7 +26,7 @@ each_at D ts xs i t x each at_t at_x = subst (λ y. D t y) (get_or_from_slice_ge
 tasks_long : {X A B Z : Type 0} (f : X → Z) (g : A × B → Z) (xs : List X) (ls : List A) (ms : List B) → map f xs ≡ map g (zip ls ms) → length ms ≡ length ls → length xs ≡ length ls
 tasks_long f g xs ls ms same long = sym (length-map xs f) ∙ ap length same ∙ length-map (zip ls ms) g ∙ length-zip_same ls ms long
 
-pub all_served : {K G N : Type 0} (state : K → KindState) (lines : Lines) (casts : List (Cast K)) (execs : List (Endpoint ExecPasses)) (servings : List (Serving K G N)) (actors : List (Finished K)) →
+pub all_served : {K G N L : Type 0} (state : K → KindState) (lines : Lines) (casts : List (Cast K)) (execs : List (Endpoint ExecPasses)) (servings : List (Serving K G N L)) (actors : List (Finished K L)) →
     length execs ≡ length casts → map (serving_start state) servings ≡ map (cast_start state lines.replies.items) (zip casts execs) → Each (IsServedBy state) servings actors → AreServed state lines casts execs actors
 all_served state lines casts execs servings actors long starts each = record {
   long = each.0 ∙ tasks_long (serving_start state) (cast_start state lines.replies.items) servings casts execs starts long;

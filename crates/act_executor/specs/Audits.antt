@@ -28,21 +28,22 @@ SitsAtReplies replies endpoint = (endpoint.place < length replies)
     × ((r : RepliesView) → (slice_index_or replies endpoint.place r).line ≡ endpoint.pass.line)
 
 -- what the actor at the pass's place took of its caller is a prefix of what was put there, and so it is with stamps
-pub record LetterTold {K : Type 0} (actors : List (Finished K))
+pub record LetterTold {K L : Type 0} (actors : List (Finished K L))
     (endpoint : Endpoint (PutterView Letter Unit)) : Type 0 where
-  pub front : (f : Finished K) →
+  pub front : (f : Finished K L) →
       IsPrefix (items_from caller_of endpoint.pass.number
       (slice_index_or actors endpoint.place f).passes.letters.taken) endpoint.pass.put
-  pub stamped : (f : Finished K) →
+  pub stamped : (f : Finished K L) →
       IsPrefix (items_from (λ x. caller_of x.0) endpoint.pass.number
       (zip (slice_index_or actors endpoint.place f).passes.letters.taken
       (slice_index_or actors endpoint.place f).passes.letters.stamps)) (zip endpoint.pass.put endpoint.pass.stamps)
 
-pub record KillTold {K : Type 0} (actors : List (Finished K)) (endpoint : Endpoint (PutterView Asked ℕ)) : Type 0 where
-  pub front : (f : Finished K) →
+pub record KillTold {K L : Type 0} (actors : List (Finished K L))
+    (endpoint : Endpoint (PutterView Asked ℕ)) : Type 0 where
+  pub front : (f : Finished K L) →
       IsPrefix (items_from asker_of endpoint.pass.number
       (slice_index_or actors endpoint.place f).passes.kills.taken) endpoint.pass.put
-  pub stamped : (f : Finished K) →
+  pub stamped : (f : Finished K L) →
       IsPrefix (items_from (λ x. asker_of x.0) endpoint.pass.number
       (zip (slice_index_or actors endpoint.place f).passes.kills.taken
       (slice_index_or actors endpoint.place f).passes.kills.stamps)) (zip endpoint.pass.put endpoint.pass.stamps)
@@ -64,18 +65,18 @@ pub record HasEndpoints (lines : Lines) (caller : Driven) : Type 0 where
   pub kills : All (SitsAtControl lines.controls.items) caller.passes.kills.items
 
 -- what the actors took of a caller are prefixes of what it put
-pub record CallerTold {K : Type 0} (actors : List (Finished K)) (caller : Driven) : Type 0 where
+pub record CallerTold {K L : Type 0} (actors : List (Finished K L)) (caller : Driven) : Type 0 where
   pub letters : All (LetterTold actors) caller.passes.letters.items
   pub kills : All (KillTold actors) caller.passes.kills.items
 
 -- what is left of an actor, without where its list of passes stands
-pub record ActorLeft (K : Type 0) : Type 0 where
-  pub ended : Ended K
+pub record ActorLeft (K L : Type 0) : Type 0 where
+  pub ended : Ended K L
   pub letters : TakerView Letter Unit
   pub kills : ControlExecView
   pub notices : List (Endpoint ReplyExecView)
 
-abbrev pub left_of : {K : Type 0} → Finished K → ActorLeft K
+abbrev pub left_of : {K L : Type 0} → Finished K L → ActorLeft K L
 left_of finished = record {
   ended = finished.ended;
   letters = finished.passes.letters;

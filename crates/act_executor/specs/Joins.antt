@@ -24,10 +24,10 @@ use Rattle.act_executor.specs.Audits.{NoticeTold, KillTold, CallerTold, left_of}
 use Rattle.act_executor.specs.Work.{IsUnusedStarter}
 
 -- each cast's actor was served to its end, with its passes
-pub record AreServed {K : Type 0} (state : K → KindState) (lines : Lines) (casts : List (Cast K))
-    (execs : List (Endpoint ExecPasses)) (actors : List (Finished K)) : Type 0 where
+pub record AreServed {K L : Type 0} (state : K → KindState) (lines : Lines) (casts : List (Cast K))
+    (execs : List (Endpoint ExecPasses)) (actors : List (Finished K L)) : Type 0 where
   pub long : length actors ≡ length casts
-  pub each : (j : ℕ) (cast : Cast K) (exec : Endpoint ExecPasses) (actor : Finished K) →
+  pub each : (j : ℕ) (cast : Cast K) (exec : Endpoint ExecPasses) (actor : Finished K L) →
       slice_get casts j ≡ Some cast → slice_get execs j ≡ Some exec → slice_get actors j ≡ Some actor →
       HasServed (state cast.kind) cast.actor lines.replies.items exec.pass (end_view state actor.ended) actor.passes
 
@@ -54,7 +54,7 @@ pub record AreStarters (controls : List ControlView) (endpoints : List (Endpoint
   pub places : map (λ endpoint. endpoint.place) endpoints ≡ range_with_len 0 (length controls)
 
 -- nobody was refused memory, and what each side of a line took is a prefix of what the other put
-pub record AreCompared {K : Type 0} (state : K → KindState) (ends : Ends K) (joined : Joined K) : Type 0 where
+pub record AreCompared {K L : Type 0} (state : K → KindState) (ends : Ends K L) (joined : Joined K L) : Type 0 where
   pub fed : All (λ actor. is_starved (end_view state actor.ended) ≡ false) ends.actors.items
   pub fed_callers : All (λ caller. caller.starved ≡ false) ends.callers.items
   pub same : map left_of joined.actors.items ≡ map left_of ends.actors.items

@@ -46,10 +46,10 @@ IsFault casts plans NoThread = first_bad_plan casts plans ≡ None
 IsFault casts plans NoMemory = Unit {0}
 
 -- lines were opened for what was prepared, all threads ended at them, and their lines were compared
-pub record HasRunPlans {K : Type 0} (state : K → KindState) (does : ℕ → Doing) (prepared : Prepared K)
-    (joined : Joined K) : Type 0 where
+pub record HasRunPlans {K L : Type 0} (state : K → KindState) (does : ℕ → Doing) (prepared : Prepared K)
+    (joined : Joined K L) : Type 0 where
   pub opened : Opened
-  pub ends : Ends K
+  pub ends : Ends K L
   pub matched : AreMatched prepared.casts.items prepared.setups.items
   pub opening : AreOpened prepared.casts.items prepared.setups.items opened
   pub served : AreServed state opened.lines prepared.casts.items opened.execs.items ends.actors.items

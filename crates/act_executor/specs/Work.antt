@@ -31,12 +31,12 @@ use Rattle.act_executor.specs.declared.work.Serving.{Serving}
 use Rattle.act_executor.specs.declared.work.Driving.{Driving}
 
 -- an actor's thread may run
-abbrev pub CanServe : {K G N : Type 0} → Serving K G N → Type 0
+abbrev pub CanServe : {K G N L : Type 0} → Serving K G N L → Type 0
 CanServe serving = PassesOf serving.lines serving.live.id serving.live.log serving.passes
     × IsFreshExec serving.lines.replies.now serving.live serving.passes
 
 -- what it leaves
-abbrev pub IsServedBy : {K G N : Type 0} → (K → KindState) → Serving K G N → Finished K → Type 0
+abbrev pub IsServedBy : {K G N L : Type 0} → (K → KindState) → Serving K G N L → Finished K L → Type 0
 IsServedBy state serving finished = HasServed (state serving.live.state) serving.live.id serving.lines.replies.now
     serving.passes (end_view state finished.ended) finished.passes
 
@@ -57,7 +57,7 @@ pub record ActorStart : Type 0 where
   pub passes : ExecPasses
   pub replies : List RepliesView
 
-abbrev pub serving_start : {K G N : Type 0} → (K → KindState) → Serving K G N → ActorStart
+abbrev pub serving_start : {K G N L : Type 0} → (K → KindState) → Serving K G N L → ActorStart
 serving_start state serving = record {
   id = serving.live.id;
   state = state serving.live.state;

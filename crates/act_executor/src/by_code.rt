@@ -12,12 +12,11 @@ ghost use Rattle.act_executor.specs.Conducts.{CodesFit};
 ghost use Rattle.act_executor.specs.Runs.{plan_view, IsFault};
 
 use crate::joined::Joined;
-use crate::run::{RunFault, prepare_good, run_prepared};
-use crate::work::ByCode;
-use act_actor::Cast;
+use crate::keeping::run_callers_keeping;
+use crate::run::RunFault;
+use act_actor::{Cast, RunItem};
 use act_drive::Code;
 use act_kinds::Actor;
-use act_mailbox::NoNotes;
 use act_plans::Plan;
 use act_serve::Gate;
 use act_types::CallerId;
@@ -53,10 +52,5 @@ pub fn run_callers<R: Threads + Wait + Sync, K: Actor + Send, C: Code + Send, G:
         first_bad_plan (map (actor_spec K.state) casts.items) (map plan_view plans.items) ≡ None) }
     ensures fault { IfErr result (IsFault (map (actor_spec K.state) casts.items) (map plan_view plans.items)) }
 {
-    let prepared = prepare_good(alloc, casts, plans)?;
-    let codes = ByCode { codes };
-    let ran = run_prepared::<R, K, ByCode<C>, G, NoNotes>(rt, alloc, prepared, codes, gate)?;
-    let (joined, pages) = ran;
-    drop(pages);
-    Ok(joined)
+    run_callers_keeping::<R, K, C, G, Vec<RunItem>>(rt, alloc, casts, plans, codes, gate)
 }

@@ -8,6 +8,7 @@ ghost use Rattle.act_executor.specs.Joined.{is_starved};
 ghost use Rattle.act_executor.specs.Joins.{AreCompared};
 
 use crate::open::Lines;
+use act_actor::{RunItem, RunLog};
 use act_drive::{CallerPasses, Driven};
 use act_kinds::{Actor, Boxed};
 use act_mailbox::{Control, ControlCaller, Endpoint, Mail, MailCaller, Replies, ReplyExec};
@@ -19,21 +20,21 @@ use std::sync::Wait;
 
 /// Callers and actors at their end, each by rising number.
 #[derive(Drop)]
-pub struct Joined<K = Boxed> {
+pub struct Joined<K = Boxed, L: RunLog = Vec<RunItem>> {
     pub owners: Vec<Owner>,
-    pub actors: Vec<Finished<K>>,
+    pub actors: Vec<Finished<K, L>>,
 }
 
 /// What the threads gave back, and the starter's passes.
 #[derive(Drop)]
-pub(crate) struct Ends<K> {
-    pub(crate) actors: Vec<Finished<K>>,
+pub(crate) struct Ends<K, L: RunLog> {
+    pub(crate) actors: Vec<Finished<K, L>>,
     pub(crate) callers: Vec<Driven>,
     pub(crate) starters: Vec<Endpoint<ControlCaller>>,
 }
 
 /// Whether an actor ended for want of memory.
-fn has_starved<K: Actor>(ended: &Ended<K>) -> bool
+fn has_starved<K: Actor, L: RunLog>(ended: &Ended<K, L>) -> bool
     ensures { result ≡ is_starved (end_view K.state ended.now) }
 {
     match ended {
@@ -43,7 +44,7 @@ fn has_starved<K: Actor>(ended: &Ended<K>) -> bool
 }
 
 /// Whether an actor was refused memory.
-fn has_starved_actor<K: Actor>(actors: &[Finished<K>]) -> bool
+fn has_starved_actor<K: Actor, L: RunLog>(actors: &[Finished<K, L>]) -> bool
     ensures { result ≡ list_any (λ actor. is_starved (end_view K.state actor.ended)) actors.now }
 {
     actors.iter().any(|actor| has_starved(&actor.ended))
@@ -57,12 +58,12 @@ fn has_starved_caller(callers: &[Driven]) -> bool
 }
 
 /// Compares the two sides of each line, where nobody was refused memory.
-pub(crate) fn settle<K: Actor, R: Wait>(
+pub(crate) fn settle<K: Actor, R: Wait, L: RunLog>(
     rt: &R,
     alloc: Global,
     lines: &Lines,
-    ends: Ends<K>,
-) -> Result<Joined<K>, NoMemory>
+    ends: Ends<K, L>,
+) -> Result<Joined<K, L>, NoMemory>
     requires mails { map (λ mail. mail.line) lines.now.mails.items
         ≡ map (λ actor. actor.passes.letters.line) ends.actors.items }
     requires controls { map (λ control. control.line) lines.now.controls.items
@@ -89,11 +90,11 @@ pub(crate) fn settle<K: Actor, R: Wait>(
     Ok(Joined { owners, actors })
 }
 
-fn audit_letter<K, R: Wait>(
+fn audit_letter<K, R: Wait, L: RunLog>(
     rt: &R,
     mails: &[Mail],
     endpoint: Endpoint<MailCaller>,
-    actors: &mut Vec<Finished<K>>,
+    actors: &mut Vec<Finished<K, L>>,
 )
     requires lines { map (λ mail. mail.line) mails.now ≡ map (λ actor. actor.passes.letters.line) actors.old.items }
     requires sits { SitsAtMail mails.now endpoint }
@@ -105,11 +106,11 @@ fn audit_letter<K, R: Wait>(
 }
 
 /// Compares what a caller posted with what was taken.
-pub(crate) fn audit_letters<K, R: Wait>(
+pub(crate) fn audit_letters<K, R: Wait, L: RunLog>(
     rt: &R,
     mails: &[Mail],
     endpoints: Vec<Endpoint<MailCaller>>,
-    actors: &mut Vec<Finished<K>>,
+    actors: &mut Vec<Finished<K, L>>,
 )
     requires lines { map (λ mail. mail.line) mails.now ≡ map (λ actor. actor.passes.letters.line) actors.old.items }
     requires sit { All (SitsAtMail mails.now) endpoints.items }
@@ -121,11 +122,11 @@ pub(crate) fn audit_letters<K, R: Wait>(
     }
 }
 
-fn audit_kill<K, R: Wait>(
+fn audit_kill<K, R: Wait, L: RunLog>(
     rt: &R,
     controls: &[Control],
     endpoint: Endpoint<ControlCaller>,
-    actors: &mut Vec<Finished<K>>,
+    actors: &mut Vec<Finished<K, L>>,
 )
     requires lines { map (λ control. control.line) controls.now
         ≡ map (λ actor. actor.passes.kills.line) actors.old.items }
@@ -138,11 +139,11 @@ fn audit_kill<K, R: Wait>(
 }
 
 /// Compares the kills that were asked with those that were taken.
-pub(crate) fn audit_kills<K, R: Wait>(
+pub(crate) fn audit_kills<K, R: Wait, L: RunLog>(
     rt: &R,
     controls: &[Control],
     endpoints: Vec<Endpoint<ControlCaller>>,
-    actors: &mut Vec<Finished<K>>,
+    actors: &mut Vec<Finished<K, L>>,
 )
     requires lines { map (λ control. control.line) controls.now
         ≡ map (λ actor. actor.passes.kills.line) actors.old.items }
@@ -192,10 +193,10 @@ fn audit_notices<R: Wait>(
 }
 
 /// Compares what the actors gave with what the callers collected.
-pub(crate) fn audit_actors<K, R: Wait>(
+pub(crate) fn audit_actors<K, R: Wait, L: RunLog>(
     rt: &R,
     replies: &[Replies],
-    actors: &mut Vec<Finished<K>>,
+    actors: &mut Vec<Finished<K, L>>,
     callers: &mut Vec<Driven>,
 )
     requires lines { map (λ line. line.line) replies.now
@@ -212,12 +213,12 @@ pub(crate) fn audit_actors<K, R: Wait>(
 }
 
 /// Compares what the callers posted and asked with what the actors took. The owners are left.
-pub(crate) fn audit_callers<K, R: Wait>(
+pub(crate) fn audit_callers<K, R: Wait, L: RunLog>(
     rt: &R,
     alloc: Global,
     lines: &Lines,
     callers: Vec<Driven>,
-    actors: &mut Vec<Finished<K>>,
+    actors: &mut Vec<Finished<K, L>>,
 ) -> Result<Vec<Owner>, NoMemory>
     requires mails { map (λ mail. mail.line) lines.now.mails.items
         ≡ map (λ actor. actor.passes.letters.line) actors.old.items }

@@ -22,7 +22,7 @@ ghost use Rattle.act_executor.specs.Audits.{SitsAtControl};
 use crate::joined::{Ends, Joined, settle};
 use crate::open::{Lines, Opened, open_lines};
 use crate::work::{ByPlan, Conduct, Conducts, Driving, Serving, calls_of_all, drivings, servings};
-use act_actor::Cast;
+use act_actor::{Cast, RunItem, RunLog};
 use act_drive::{CallerPasses, Driven};
 use act_kinds::Actor;
 use act_mailbox::{Control, ControlCaller, Endpoint, NoNotes, Notes};
@@ -147,13 +147,14 @@ fn run_tasks<
     D: Conduct + Send,
     G: Gate,
     N: Notes + Send + Drop,
+    L: RunLog + Send,
 >(
     rt: &R,
     alloc: Global,
-    servings: Vec<Serving<K, G, N>>,
+    servings: Vec<Serving<K, G, N, L>>,
     drivings: Vec<Driving<D, N>>,
     starter: Starter,
-) -> Result<(Ends<K>, Pages<N>), RunFault>
+) -> Result<(Ends<K, L>, Pages<N>), RunFault>
     requires servings { All CanServe servings.items }
     requires drivings { All CanDrive drivings.items }
     requires starter { CanStop starter }
@@ -190,6 +191,7 @@ fn run_threads<
     D: Conducts,
     G: Gate,
     N: Notes + Send + Drop,
+    L: RunLog + Send,
 >(
     rt: &R,
     alloc: Global,
@@ -198,7 +200,7 @@ fn run_threads<
     lines: &Lines,
     passes: Passes,
     gate: &G,
-) -> Result<(Ends<K>, Pages<N>), RunFault>
+) -> Result<(Ends<K, L>, Pages<N>), RunFault>
     requires matched { AreMatched prepared.casts.items prepared.setups.items }
     requires limits { All HasLimits prepared.setups.items }
     requires fits { All (λ setup. first_bad setup.actors.items setup.plan.items ≡ None) prepared.setups.items }
@@ -237,6 +239,7 @@ fn run_opened<
     D: Conducts,
     G: Gate,
     N: Notes + Send + Drop,
+    L: RunLog + Send,
 >(
     rt: &R,
     alloc: Global,
@@ -245,7 +248,7 @@ fn run_opened<
     lines: &Lines,
     passes: Passes,
     gate: &G,
-) -> Result<(Joined<K>, Pages<N>), RunFault>
+) -> Result<(Joined<K, L>, Pages<N>), RunFault>
     requires matched { AreMatched prepared.casts.items prepared.setups.items }
     requires limits { All HasLimits prepared.setups.items }
     requires fits { All (λ setup. first_bad setup.actors.items setup.plan.items ≡ None) prepared.setups.items }
@@ -271,13 +274,14 @@ pub(crate) fn run_prepared<
     D: Conducts,
     G: Gate,
     N: Notes + Send + Drop,
+    L: RunLog + Send,
 >(
     rt: &R,
     alloc: Global,
     prepared: Prepared<K>,
     conducts: D,
     gate: &G,
-) -> Result<(Joined<K>, Pages<N>), RunFault>
+) -> Result<(Joined<K, L>, Pages<N>), RunFault>
     requires matched { AreMatched prepared.casts.items prepared.setups.items }
     requires limits { All HasLimits prepared.setups.items }
     requires fits { All (λ setup. first_bad setup.actors.items setup.plan.items ≡ None) prepared.setups.items }
@@ -346,7 +350,7 @@ pub fn run_plans_noting<R: Threads + Wait + Sync, K: Actor + Send, G: Gate, N: N
     ensures fault { IfErr result (IsFault (map (actor_spec K.state) casts.items) (map plan_view plans.items)) }
 {
     let prepared = prepare_good(alloc, casts, plans)?;
-    let ran = run_prepared(rt, alloc, prepared, ByPlan, gate)?;
+    let ran = run_prepared::<R, K, ByPlan, G, N, Vec<RunItem>>(rt, alloc, prepared, ByPlan, gate)?;
     Ok(ran)
 }
 

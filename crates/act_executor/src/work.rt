@@ -13,7 +13,7 @@ ghost use Rattle.act_executor.specs.ByCode.{code_of};
 ghost use Rattle.act_executor.specs.Conducts.{Doing, does_plan, does_code, HasConducted};
 
 use crate::open::Lines;
-use act_actor::{Cast, Live};
+use act_actor::{Cast, Live, RunLog};
 use act_drive::{CallerLines, CallerPasses, Code, Driven, Plan, drive_code, drive_noting};
 use act_kinds::Actor;
 use act_mailbox::{Endpoint, Notes};
@@ -28,22 +28,23 @@ use std::sync::Wait;
 
 /// What an actor's thread is given.
 #[derive(Drop)]
-pub(crate) struct Serving<'a, K, G, N> {
-    live: Live<K>,
+pub(crate) struct Serving<'a, K, G, N, L: RunLog> {
+    live: Live<K, L>,
     lines: ExecLines<'a>,
     passes: ExecPasses,
     gate: &'a G,
     notes: N,
 }
 
-impl<'a, K: Actor + Send, G: Gate, N: Notes + Send + Drop> Task for Serving<'a, K, G, N> {
-    type Output = (Finished<K>, N);
+impl<'a, K: Actor + Send, G: Gate, N: Notes + Send + Drop, L: RunLog + Send> Task
+    for Serving<'a, K, G, N, L> {
+    type Output = (Finished<K, L>, N);
 
     ghost ready = { CanServe };
 
     ghost done = { λ serving served. IsServedBy K.state serving served.0 };
 
-    fn run<R: Wait>(self, rt: &R) -> (Finished<K>, N) {
+    fn run<R: Wait>(self, rt: &R) -> (Finished<K, L>, N) {
         let Serving {
             live,
             lines,
@@ -120,7 +121,7 @@ pub(crate) fn calls_of_all(setups: &[CallerSetup]) -> CallCounts {
 }
 
 /// What one actor's thread is given, with room for so many calls.
-fn one_serving<'a, K: Actor, G, N: Notes + Drop>(
+fn one_serving<'a, K: Actor, G, N: Notes + Drop, L: RunLog>(
     alloc: Global,
     cast: Cast<K>,
     lines: &'a Lines,
@@ -128,7 +129,7 @@ fn one_serving<'a, K: Actor, G, N: Notes + Drop>(
     gate: &'a G,
     notes: N,
     room: usize,
-) -> Result<Serving<'a, K, G, N>, NoMemory>
+) -> Result<Serving<'a, K, G, N, L>, NoMemory>
     requires callers { CallersDiffer cast.callers }
     requires place { (exec.place < length lines.now.mails.items) × (exec.place < length lines.now.controls.items) }
     requires exec { IsExec lines.now cast exec }
@@ -143,7 +144,7 @@ fn one_serving<'a, K: Actor, G, N: Notes + Drop>(
         ..
     } = cast;
     let Endpoint { place, pass } = exec;
-    let mut live = Live::open(alloc, actor, callers.as_slice(), kind)?;
+    let mut live = Live::open_keeping(alloc, actor, callers.as_slice(), kind)?;
     drop(callers);
     // Where memory doesn't serve for all at once, room is made call by call.
     let _ = live.reserve(room);
@@ -162,14 +163,14 @@ fn one_serving<'a, K: Actor, G, N: Notes + Drop>(
 }
 
 /// What the actors' threads are given.
-pub(crate) fn servings<'a, K: Actor, G, N: Notes + Drop>(
+pub(crate) fn servings<'a, K: Actor, G, N: Notes + Drop, L: RunLog>(
     alloc: Global,
     casts: Vec<Cast<K>>,
     lines: &'a Lines,
     execs: Vec<Endpoint<ExecPasses>>,
     gate: &'a G,
     calls: &CallCounts,
-) -> Result<Vec<Serving<'a, K, G, N>>, NoMemory>
+) -> Result<Vec<Serving<'a, K, G, N, L>>, NoMemory>
     requires callers { All (λ cast. CallersDiffer cast.callers) casts.items }
     requires places { All (λ exec. (exec.place < length lines.now.mails.items) ×
         (exec.place < length lines.now.controls.items)) execs.items }
@@ -188,14 +189,14 @@ pub(crate) fn servings<'a, K: Actor, G, N: Notes + Drop>(
 }
 
 /// What one more actor's thread is given.
-fn add_serving<'a, K: Actor, G, N: Notes + Drop>(
+fn add_serving<'a, K: Actor, G, N: Notes + Drop, L: RunLog>(
     alloc: Global,
     cast: Cast<K>,
     lines: &'a Lines,
     exec: Endpoint<ExecPasses>,
     gate: &'a G,
     room: usize,
-    servings: &mut Vec<Serving<'a, K, G, N>>,
+    servings: &mut Vec<Serving<'a, K, G, N, L>>,
 ) -> Result<(), NoMemory>
     requires callers { CallersDiffer cast.callers }
     requires place { (exec.place < length lines.now.mails.items) × (exec.place < length lines.now.controls.items) }

@@ -7,7 +7,7 @@ ghost use Rattle.act_mailbox.specs.Passes.{new_putter};
 ghost use Rattle.act_mailbox.specs.Controls.{asker_of, kill_by, looked_after, starter, HasTakenKill};
 
 use crate::line::{Item, Line, Noted, Putter, Stamped, Taker};
-use act_actor::Live;
+use act_actor::{Live, RunLog};
 use act_kinds::Actor;
 use act_types::{ActorId, CallerId, KillNote, NoMemory};
 use std::alloc::Global;
@@ -128,11 +128,11 @@ impl Control {
     }
 
     /// `None` where the line is empty. With a kill the pass notes the length of the log.
-    pub fn take<K: Actor, R: Wait>(
+    pub fn take<K: Actor, R: Wait, L: RunLog>(
         &self,
         rt: &R,
         pass: &mut ControlExec,
-        live: &Live<K>,
+        live: &Live<K, L>,
     ) -> Option<KillNote>
         requires pass { pass.old.line ≡ self.now.line }
         requires actor { live.now.id ≡ pass.old.actor }
@@ -142,7 +142,7 @@ impl Control {
         ensures stamped { IfSome result (λ note. (n : ℕ) × (pass.new.stamps ≡ pass.old.stamps ++ n ∷ [])) }
         ensures none { IfNone result (pass.new ≡ record pass.old { looked = pass.new.looked }) }
     {
-        let long = live.log().len();
+        let long = live.ran();
         pass.look(long);
         let kill = self.take_at::<Brand, R>(rt, pass, long)?;
         Some(kill.note)

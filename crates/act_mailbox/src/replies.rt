@@ -9,6 +9,7 @@ ghost use Rattle.act_mailbox.specs.declared.thread.TheConstants.{SHORT_PAUSES};
 
 use crate::line::{Item, Line, Noted, Putter, Stamped, Taker};
 use crate::thread::IdleBackoff;
+use act_actor::RunLog;
 use act_rules::RunItem;
 use act_types::{ActorId, CallerId, NoMemory, Notice};
 use std::alloc::Global;
@@ -108,56 +109,56 @@ impl Replies {
         ensures err { OnErr result (pass.new ≡ pass.old) }
         ensures back { IfErr result (λ back. back ≡ notice) }
     {
-        self.give_at::<Brand, R>(rt, pass, log, notice)
+        self.give_showing::<Brand, Brand, R, &[RunItem]>(rt, pass, &log, notice)
     }
 
-    /// The same, where `K` is the notice's stamp.
-    pub fn give_at<K: Stamped, R: Wait>(
+    /// The same, where `K` is the notice's stamp, and the log may be one that a run doesn't keep.
+    pub fn give_at<K: Stamped, R: Wait, L: RunLog>(
         &self,
         rt: &R,
         pass: &mut ReplyExec,
-        log: &[RunItem],
+        log: &L,
         notice: Notice,
     ) -> Result<(), Notice>
         requires pass { pass.old.line ≡ self.now.line }
         requires actor { notice_actor notice ≡ pass.old.actor }
-        requires grown { IsPrefix pass.old.seen log.now }
-        requires place { NamesPlace log.now notice }
+        requires grown { IsPrefix pass.old.seen (L.items log.now) }
+        requires place { NamesPlace (L.items log.now) notice }
         requires alive { All IsNoDeath pass.old.given }
         ensures ok { OnOk result (pass.new ≡ record pass.old {
           given = pass.old.given ++ notice ∷ [];
           stamps = pass.old.stamps ++ K.stamp ∷ [];
-          seen = log.now;
+          seen = L.items log.now;
         }) }
         ensures err { OnErr result (pass.new ≡ pass.old) }
         ensures back { IfErr result (λ back. back ≡ notice) }
     {
-        self.give_showing::<Brand, K, R>(rt, pass, log, notice)
+        self.give_showing::<Brand, K, R, L>(rt, pass, log, notice)
     }
 
-    /// Gives a notice with the stamp `K`, and `L` is the log that the pass has seen from then on.
-    fn give_showing<L: Noted<RunItem>, K: Stamped, R: Wait>(
+    /// Gives a notice with the stamp `K`, and `N` is the log that the pass has seen from then on. It is
+    /// picked by what is lent as the log.
+    fn give_showing<N: Noted<RunItem>, K: Stamped, R: Wait, L>(
         &self,
         rt: &R,
         pass: &mut ReplyExec,
-        log: &[RunItem],
+        _log: &L,
         notice: Notice,
     ) -> Result<(), Notice>
-        requires note { L.note ≡ log.now }
         requires pass { pass.old.line ≡ self.now.line }
         requires actor { notice_actor notice ≡ pass.old.actor }
-        requires grown { IsPrefix pass.old.seen log.now }
-        requires place { NamesPlace log.now notice }
+        requires grown { IsPrefix pass.old.seen N.note }
+        requires place { NamesPlace N.note notice }
         requires alive { All IsNoDeath pass.old.given }
         ensures ok { OnOk result (pass.new ≡ record pass.old {
           given = pass.old.given ++ notice ∷ [];
           stamps = pass.old.stamps ++ K.stamp ∷ [];
-          seen = log.now;
+          seen = N.note;
         }) }
         ensures err { OnErr result (pass.new ≡ pass.old) }
         ensures back { IfErr result (λ back. back ≡ notice) }
     {
-        self.line.put::<L, K, R>(rt, &mut pass.pass, notice)
+        self.line.put::<N, K, R>(rt, &mut pass.pass, notice)
     }
 
     /// `None` where the line is empty.

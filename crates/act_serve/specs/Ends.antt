@@ -14,7 +14,7 @@ pub data EndView : Type 0 where
   Retired : (retired : RetiredView) → EndView
   Starved : (dead : DeadView) → EndView
 
-abbrev pub end_view : {K : Type 0} → (K → KindState) → Ended K → EndView
+abbrev pub end_view : {K L : Type 0} → (K → KindState) → Ended K L → EndView
 end_view state (ended.Killed dead) = Killed dead
 end_view state (ended.Retired retired) = Retired (retired_view state retired)
 end_view state (ended.Starved dead) = Starved dead

@@ -10,7 +10,7 @@ ghost use Rattle.act_serve.specs.Turns.{EndpointsFit, EndpointsStay, TakesLetter
 ghost use Rattle.act_serve.specs.declared.letter.Received.TheVariants.{Nothing};
 
 use crate::turn::{ExecLines, ExecPasses, Passed, give_reply, pass_gate};
-use act_actor::Live;
+use act_actor::{Live, RunLog};
 use act_kinds::Actor;
 use act_mailbox::{Endpoint, Letter, Mark, Notes, Replies, ReplyExec};
 use act_types::{ActorId, CallerId, NoMemory, Packet, Reply};
@@ -28,7 +28,7 @@ pub(crate) enum Received {
 }
 
 /// Has a call arrive.
-fn hold<K: Actor>(live: &mut Live<K>, packet: Packet) -> Result<(), NoMemory>
+fn hold<K: Actor, L: RunLog>(live: &mut Live<K, L>, packet: Packet) -> Result<(), NoMemory>
     ensures same { live.new ≡ record live.old { inbox = live.new.inbox } }
     ensures came { OnOk result (IsIn (Call packet) live.old live.new) }
     ensures fed { (callers : List ℕ) (letters : List Letter) →
@@ -58,8 +58,8 @@ fn endpoint_of(
 }
 
 /// The endpoint of a call's caller, where the call can run at once.
-fn endpoint_at_once<K: Actor>(
-    live: &Live<K>,
+fn endpoint_at_once<K: Actor, L: RunLog>(
+    live: &Live<K, L>,
     replies: &[Replies],
     notices: &[Endpoint<ReplyExec>],
     packet: &Packet,
@@ -77,7 +77,11 @@ fn endpoint_at_once<K: Actor>(
 }
 
 /// Runs a call at once, for which the gate was passed.
-fn run_now<K: Actor>(live: &mut Live<K>, packet: Packet, passed: Passed) -> Result<Reply, NoMemory>
+fn run_now<K: Actor, L: RunLog>(
+    live: &mut Live<K, L>,
+    packet: Packet,
+    passed: Passed,
+) -> Result<Reply, NoMemory>
     requires passed { passed.place ≡ length live.old.log }
     requires at_once { RunsAtOnce packet live.old.id live.old.log live.old.inbox }
     ensures ran { IfOk result (λ reply.
@@ -89,9 +93,9 @@ fn run_now<K: Actor>(live: &mut Live<K>, packet: Packet, passed: Passed) -> Resu
 }
 
 /// Runs a call at once and gives its reply, where that can be, and has it arrive else.
-fn take_call<R: Wait, K: Actor, F: Fn(ActorId, u32), N: Notes>(
+fn take_call<R: Wait, K: Actor, F: Fn(ActorId, u32), N: Notes, L: RunLog>(
     rt: &R,
-    live: &mut Live<K>,
+    live: &mut Live<K, L>,
     replies: &[Replies],
     passes: &mut ExecPasses,
     packet: Packet,
@@ -124,14 +128,14 @@ fn take_call<R: Wait, K: Actor, F: Fn(ActorId, u32), N: Notes>(
     let passed = pass_gate(live, pass);
     let reply = run_now(live, packet, passed)?;
     notes.note(Mark::Run(reply.caller));
-    give_reply::<Brand, R, K>(rt, live, replies, passes, at, reply);
+    give_reply::<Brand, R, K, L>(rt, live, replies, passes, at, reply);
     Ok(Received::Ran)
 }
 
 /// Takes the next letter, if it is there. The attempt may miss one that is being put.
-pub(crate) fn take_letter<R: Wait, K: Actor, F: Fn(ActorId, u32), N: Notes>(
+pub(crate) fn take_letter<R: Wait, K: Actor, F: Fn(ActorId, u32), N: Notes, L: RunLog>(
     rt: &R,
-    live: &mut Live<K>,
+    live: &mut Live<K, L>,
     lines: &ExecLines,
     passes: &mut ExecPasses,
     pass: &F,

@@ -14,7 +14,7 @@ ghost use Rattle.act_serve.specs.declared.turn.Turn.TheVariants.{Moved, Idle, St
 ghost use Rattle.act_serve.specs.Served.{end_view, IsUntaken, HasServed};
 
 use crate::letter::{Received, take_letter};
-use act_actor::{Dead, Live, Retired, RunItem};
+use act_actor::{Dead, Live, Retired, RunItem, RunLog};
 use act_kinds::{Actor, Boxed};
 use act_mailbox::{
     Control, ControlExec, Endpoint, IdleBackoff, Mail, MailExec, Mark, NoNotes, Notes, Replies,
@@ -25,27 +25,27 @@ use std::marker::Brand;
 use std::sync::Wait;
 
 /// Gives a notice with the stamp `S`, and tries again while the line is full.
-fn give<S: Stamped, R: Wait>(
+fn give<S: Stamped, R: Wait, L: RunLog>(
     rt: &R,
     line: &Replies,
     pass: &mut ReplyExec,
-    log: &[RunItem],
+    log: &L,
     mut notice: Notice,
 )
     requires pass { pass.old.line ≡ line.now.line }
     requires actor { notice_actor notice ≡ pass.old.actor }
-    requires grown { IsPrefix pass.old.seen log.now }
-    requires place { NamesPlace log.now notice }
+    requires grown { IsPrefix pass.old.seen (L.items log.now) }
+    requires place { NamesPlace (L.items log.now) notice }
     requires alive { All IsNoDeath pass.old.given }
     ensures { pass.new ≡ record pass.old {
       given = pass.old.given ++ notice ∷ [];
       stamps = pass.old.stamps ++ S.stamp ∷ [];
-      seen = log.now;
+      seen = L.items log.now;
     } }
 {
     let mut idle_backoff = IdleBackoff::new();
     for _ in rt.forever() {
-        match line.give_at::<S, R>(rt, pass, log, notice) {
+        match line.give_at::<S, R, L>(rt, pass, log, notice) {
             Ok(()) => return,
             Err(back) => notice = back,
         }
@@ -55,9 +55,9 @@ fn give<S: Stamped, R: Wait>(
 }
 
 /// Gives the reply of a call that ran to the caller whose endpoint this is, with the stamp `S`.
-pub(crate) fn give_reply<S: Stamped, R: Wait, K: Actor>(
+pub(crate) fn give_reply<S: Stamped, R: Wait, K: Actor, L: RunLog>(
     rt: &R,
-    live: &Live<K>,
+    live: &Live<K, L>,
     replies: &[Replies],
     passes: &mut ExecPasses,
     at: usize,
@@ -73,18 +73,18 @@ pub(crate) fn give_reply<S: Stamped, R: Wait, K: Actor>(
         (replied_to live.now.log reply S.stamp endpoint) }
 {
     let endpoint = &mut passes.notices[at];
-    give::<S, R>(
+    give::<S, R, L>(
         rt,
         &replies[endpoint.place],
         &mut endpoint.pass,
-        live.log(),
+        live.run_log(),
         Notice::Answered(reply),
     );
 }
 
 /// The first endpoint whose caller's next call came.
-fn next_endpoint<K: Actor>(
-    live: &Live<K>,
+fn next_endpoint<K: Actor, L: RunLog>(
+    live: &Live<K, L>,
     replies: &[Replies],
     notices: &[Endpoint<ReplyExec>],
 ) -> Option<usize>
@@ -104,8 +104,8 @@ fn next_endpoint<K: Actor>(
 
 /// Runs the caller's next call, for which the gate was passed, if it came and the actor did not
 /// terminate.
-fn run_next<K: Actor>(
-    live: &mut Live<K>,
+fn run_next<K: Actor, L: RunLog>(
+    live: &mut Live<K, L>,
     caller: CallerId,
     passed: Passed,
 ) -> Result<Option<Reply>, NoMemory>
@@ -122,9 +122,9 @@ fn run_next<K: Actor>(
 }
 
 /// Runs the next call of the first caller that has one, and gives its reply. Whether there was one.
-fn run_one<R: Wait, K: Actor, F: Fn(ActorId, u32), N: Notes>(
+fn run_one<R: Wait, K: Actor, F: Fn(ActorId, u32), N: Notes, L: RunLog>(
     rt: &R,
-    live: &mut Live<K>,
+    live: &mut Live<K, L>,
     replies: &[Replies],
     passes: &mut ExecPasses,
     pass: &F,
@@ -155,7 +155,7 @@ fn run_one<R: Wait, K: Actor, F: Fn(ActorId, u32), N: Notes>(
     match run_next(live, replies[place].caller(), passed) {
         Ok(Some(reply)) => {
             notes.note(Mark::Run(reply.caller));
-            give_reply::<Brand, R, K>(rt, live, replies, passes, at, reply);
+            give_reply::<Brand, R, K, L>(rt, live, replies, passes, at, reply);
             Ok(true)
         }
         Ok(None) => Ok(false),
@@ -172,9 +172,9 @@ enum Turn {
 }
 
 /// A turn after the look for a kill: a letter is taken, and a call is run.
-fn take_turn<R: Wait, K: Actor, F: Fn(ActorId, u32), N: Notes>(
+fn take_turn<R: Wait, K: Actor, F: Fn(ActorId, u32), N: Notes, L: RunLog>(
     rt: &R,
-    live: &mut Live<K>,
+    live: &mut Live<K, L>,
     lines: &ExecLines,
     passes: &mut ExecPasses,
     pass: &F,
@@ -211,9 +211,9 @@ fn take_turn<R: Wait, K: Actor, F: Fn(ActorId, u32), N: Notes>(
 }
 
 /// Whether the actor's end came: it terminated, and then no kill is looked for, or a kill is taken.
-fn is_over<R: Wait, K: Actor>(
+fn is_over<R: Wait, K: Actor, L: RunLog>(
     rt: &R,
-    live: &Live<K>,
+    live: &Live<K, L>,
     control: &Control,
     kills: &mut ControlExec,
 ) -> bool
@@ -237,18 +237,18 @@ fn is_over<R: Wait, K: Actor>(
 }
 
 /// Notes the kill that was taken. An actor that terminated looked for none.
-fn note_kill<K: Actor, N: Notes>(live: &Live<K>, notes: &mut N) {
+fn note_kill<K: Actor, N: Notes, L: RunLog>(live: &Live<K, L>, notes: &mut N) {
     if !live.terminated() {
         notes.note(Mark::TakeKill);
     }
 }
 
 /// Gives the actor's death to each caller, with the stamp `S`.
-fn tell_deaths<S: Stamped, R: Wait, N: Notes>(
+fn tell_deaths<S: Stamped, R: Wait, N: Notes, L: RunLog>(
     rt: &R,
     replies: &[Replies],
     passes: &mut ExecPasses,
-    dead: &Dead,
+    dead: &Dead<L>,
     notes: &mut N,
 )
     requires endpoints { All (IsAtItsEndpoint replies.now dead.now.id dead.now.log) passes.old.notices.items }
@@ -258,11 +258,11 @@ fn tell_deaths<S: Stamped, R: Wait, N: Notes>(
 {
     for endpoint in passes.notices.iter_mut() {
         notes.note(Mark::Tell(replies[endpoint.place].caller()));
-        give::<S, R>(
+        give::<S, R, L>(
             rt,
             &replies[endpoint.place],
             &mut endpoint.pass,
-            dead.log(),
+            dead.run_log(),
             Notice::Death(dead.id()),
         );
     }
@@ -270,14 +270,14 @@ fn tell_deaths<S: Stamped, R: Wait, N: Notes>(
 
 /// Serves until the actor terminated, a kill is taken, all is drained, or memory is refused, and notes
 /// what is done.
-pub fn serve_by<R: Wait, K: Actor, F: Fn(ActorId, u32), N: Notes>(
+pub fn serve_by<R: Wait, K: Actor, F: Fn(ActorId, u32), N: Notes, L: RunLog>(
     rt: &R,
-    mut live: Live<K>,
+    mut live: Live<K, L>,
     lines: &ExecLines,
     mut passes: ExecPasses,
     pass: &F,
     notes: &mut N,
-) -> Finished<K>
+) -> Finished<K, L>
     requires callable { F.IsAlwaysCallable pass.now }
     requires passes { PassesOf lines.now live.id live.log passes }
     requires fresh { IsFreshExec lines.now.replies.now live passes }
@@ -289,7 +289,7 @@ pub fn serve_by<R: Wait, K: Actor, F: Fn(ActorId, u32), N: Notes>(
         if is_over(rt, &live, lines.control, &mut passes.kills) {
             note_kill(&live, notes);
             let dead = live.kill();
-            tell_deaths::<Brand, R, N>(rt, lines.replies, &mut passes, &dead, notes);
+            tell_deaths::<Brand, R, N, L>(rt, lines.replies, &mut passes, &dead, notes);
             return Finished {
                 ended: Ended::Killed(dead),
                 passes,
@@ -299,7 +299,7 @@ pub fn serve_by<R: Wait, K: Actor, F: Fn(ActorId, u32), N: Notes>(
             Turn::Moved => idle_backoff.reset(),
             Turn::Starved => {
                 let dead = live.kill();
-                tell_deaths::<Brand, R, N>(rt, lines.replies, &mut passes, &dead, notes);
+                tell_deaths::<Brand, R, N, L>(rt, lines.replies, &mut passes, &dead, notes);
                 return Finished {
                     ended: Ended::Starved(dead),
                     passes,
@@ -324,13 +324,13 @@ pub fn serve_by<R: Wait, K: Actor, F: Fn(ActorId, u32), N: Notes>(
 }
 
 /// The same, where a gate is passed before each run, and nothing is noted.
-pub fn serve<R: Wait, K: Actor, G: Gate>(
+pub fn serve<R: Wait, K: Actor, G: Gate, L: RunLog>(
     rt: &R,
-    live: Live<K>,
+    live: Live<K, L>,
     lines: &ExecLines,
     passes: ExecPasses,
     gate: &G,
-) -> Finished<K>
+) -> Finished<K, L>
     requires passes { PassesOf lines.now live.id live.log passes }
     requires fresh { IsFreshExec lines.now.replies.now live passes }
     ensures { HasServed (K.state live.state) live.id lines.now.replies.now passes (end_view K.state result.ended)
@@ -368,11 +368,14 @@ pub(crate) struct Passed {
 }
 
 /// Passes the gate for the next run.
-pub(crate) fn pass_gate<K: Actor, F: Fn(ActorId, u32)>(live: &Live<K>, pass: &F) -> Passed
+pub(crate) fn pass_gate<K: Actor, F: Fn(ActorId, u32), L: RunLog>(
+    live: &Live<K, L>,
+    pass: &F,
+) -> Passed
     requires { F.IsAlwaysCallable pass.now }
     ensures { result.place ≡ length live.now.log }
 {
-    let place = live.log().len();
+    let place = live.ran();
     pass(live.id(), place as u32);
     Passed { place }
 }
@@ -395,15 +398,15 @@ pub struct ExecPasses {
 
 /// How an actor ended.
 #[derive(Drop)]
-pub enum Ended<K = Boxed> {
-    Killed(Dead),
-    Retired(Retired<K>),
-    Starved(Dead),
+pub enum Ended<K = Boxed, L: RunLog = Vec<RunItem>> {
+    Killed(Dead<L>),
+    Retired(Retired<K, L>),
+    Starved(Dead<L>),
 }
 
 /// What an executor leaves.
 #[derive(Drop)]
-pub struct Finished<K = Boxed> {
-    pub ended: Ended<K>,
+pub struct Finished<K = Boxed, L: RunLog = Vec<RunItem>> {
+    pub ended: Ended<K, L>,
     pub passes: ExecPasses,
 }

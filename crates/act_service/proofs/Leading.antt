@@ -36,9 +36,9 @@ carried tells before later here carries casts led = record {
 
 -- ---- an epoch, made of a run
 
-module _ {C K : Type 0} (tells : C → SessionView → SessionView → Type 0) (state : K → KindState) (casts : List (Cast K)) (codes : List (ℕ × C)) (joined : Joined K) where
+module _ {C K L : Type 0} (tells : C → SessionView → SessionView → Type 0) (state : K → KindState) (casts : List (Cast K)) (codes : List (ℕ × C)) (joined : Joined K L) where
   abbrev pub ends : List EndView
-  ends = map (λ (actor : Finished K). end_view state actor.ended) joined.actors.items
+  ends = map (λ (actor : Finished K L). end_view state actor.ended) joined.actors.items
 
   abbrev pub here : List ActorSpec
   here = map (actor_spec state) casts

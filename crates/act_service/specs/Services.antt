@@ -24,8 +24,8 @@ pub record HaveLed {C : Type 0} (tells : C → SessionView → SessionView → T
   pub known : knows casts epochs
 
 -- this epoch follows those, and left this
-pub record IsNext {C K : Type 0} (tells : C → SessionView → SessionView → Type 0) (state : K → KindState)
-    (casts : List ActorSpec) (epochs : List (Epoch C)) (epoch : Epoch C) (joined : Joined K) : Type 0 where
+pub record IsNext {C K L : Type 0} (tells : C → SessionView → SessionView → Type 0) (state : K → KindState)
+    (casts : List ActorSpec) (epochs : List (Epoch C)) (epoch : Epoch C) (joined : Joined K L) : Type 0 where
   pub before : AreEpochs tells casts epochs
   pub casts_are : epoch.casts ≡ casts_after casts epochs
   pub is : IsEpoch tells epoch
@@ -38,8 +38,8 @@ CarriesOver {C} before later here = (casts : List ActorSpec) (epochs : List (Epo
     here ≡ casts_after casts epochs → before casts epochs → later casts epochs
 
 -- where codes were given for it, the epoch that left this is known with those before it
-abbrev pub BecomesKnown : {C K : Type 0} → (C → SessionView → SessionView → Type 0) → (K → KindState) →
-    Given C → Known C → Joined K → Type 0
+abbrev pub BecomesKnown : {C K L : Type 0} → (C → SessionView → SessionView → Type 0) → (K → KindState) →
+    Given C → Known C → Joined K L → Type 0
 BecomesKnown {C} tells state gave later joined = (casts : List ActorSpec) (epochs : List (Epoch C))
     (epoch : Epoch C) → IsNext tells state casts epochs epoch joined → gave (Some epoch.codes) casts epochs →
     later casts (epochs ++ epoch ∷ [])

@@ -10,7 +10,7 @@ ghost use Rattle.act_service.specs.Faults.{IsEpochFault, IsFaultAt, IsFaultOfCod
 use crate::service::Service;
 use crate::shapes::{Shape, casts_left, copy_shapes};
 use act_actor::Cast;
-use act_executor::{Joined, RunFault, codes_fit, run_callers};
+use act_executor::{Joined, RunFault, codes_fit, run_callers_keeping};
 use act_kinds::Actor;
 use act_serve::Gate;
 use act_types::{CallerId, NoMemory};
@@ -93,7 +93,7 @@ fn next_codes<K: Actor, S: Service<K>>(
 /// Lends the service what an epoch left.
 fn look<K: Actor, S: Service<K>>(
     service: &mut S,
-    joined: &Joined<K>,
+    joined: &Joined<K, S::Log>,
 ) -> Result<(), EpochFault<S::Fault>>
     ensures known { OnOk result
         (BecomesKnown S.One.tells K.state (S.gave service.old) (S.knows service.new) joined.now) }
@@ -123,7 +123,10 @@ fn run_epoch<R: Threads + Wait + Sync, K: Actor + Send, S: Service<K>, G: Gate>(
         (IsUnderWay (S.knows service.new) (S.gave service.new)) (map (actor_spec K.state) casts.items)) }
 {
     let shapes = copy_shapes(alloc, &casts)?;
-    let joined = run_callers(rt, alloc, casts, Vec::new(alloc), codes, gate)?;
+    let plans = Vec::new(alloc);
+    let joined = run_callers_keeping::<R, K, S::One, G, S::Log>(
+        rt, alloc, casts, plans, codes, gate,
+    )?;
     look(service, &joined)?;
     let Joined { owners, actors } = joined;
     drop(owners);
@@ -132,7 +135,7 @@ fn run_epoch<R: Threads + Wait + Sync, K: Actor + Send, S: Service<K>, G: Gate>(
 }
 
 /// Runs epoch after epoch until the service comes to its end, and gives back the actors that are left,
-/// each with the kind that its last epoch left. Each epoch is a run of `run_callers`, by the codes that
+/// each with the kind that its last epoch left. Each epoch is a run of `run_callers_keeping`, by the codes that
 /// the service gives for it. An actor that retired is cast again, with its callers and its limit; one
 /// that died is not. Of an epoch nothing else is kept. The gate is passed with the places of each
 /// epoch's run list, from 0. That the service comes to its end is not promised.

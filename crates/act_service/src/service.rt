@@ -4,7 +4,7 @@ ghost use Rattle.std.specs.Prelude.{option_map, map, OnOk, IfOk};
 ghost use Rattle.act_actor.specs.Casts.{actor_spec};
 ghost use Rattle.act_service.specs.Services.{Known, Given, CarriesOver, BecomesKnown};
 
-use act_actor::Cast;
+use act_actor::{Cast, RunLog};
 use act_drive::Code;
 use act_executor::Joined;
 use act_kinds::Actor;
@@ -15,6 +15,10 @@ use act_types::CallerId;
 pub trait Service<K: Actor> {
     /// The code of a caller.
     type One: Code + Send;
+
+    /// What each actor keeps of the calls that it runs, for `look`: all of them in a `Vec<RunItem>`, or with a `Past`
+    /// how many they are.
+    type Log: RunLog + Send;
 
     /// Why it fails, as where it is refused memory. The actors are gone then. A service that wants them
     /// back keeps what failed, and comes to its end.
@@ -35,8 +39,8 @@ pub trait Service<K: Actor> {
         ensures { IfOk result (λ codes. CarriesOver (knows self.old)
             (gave self.new (option_map (λ codes. codes.items) codes)) (map (actor_spec K.state) casts.now)) };
 
-    /// Looks at what an epoch left, before it is let go: each caller's answers, each actor's run list,
-    /// and how it ended.
-    fn look(&mut self, joined: &Joined<K>) -> Result<(), Self::Fault>
+    /// Looks at what an epoch left, before it is let go: each caller's answers, what each actor kept of
+    /// the calls that it ran, and how it ended.
+    fn look(&mut self, joined: &Joined<K, Self::Log>) -> Result<(), Self::Fault>
         ensures { OnOk result (BecomesKnown Self.One.tells K.state (gave self.old) (knows self.new) joined.now) };
 }

@@ -6,7 +6,7 @@ ghost use Rattle.act_actor.specs.StateViews.{retired_view};
 ghost use Rattle.act_serve.specs.Served.{end_view};
 ghost use Rattle.act_service.specs.Shapes.{shape_of, cast_of_shape, cast_left_by};
 
-use act_actor::{Cast, Retired};
+use act_actor::{Cast, Retired, RunLog};
 use act_kinds::Actor;
 use act_serve::{Ended, Finished};
 use act_types::{ActorId, CallerId, ListOf, NoMemory};
@@ -59,10 +59,10 @@ fn place_of_shape(shapes: &[Shape], actor: ActorId) -> Option<usize>
 }
 
 /// The cast of a retired actor: its shape, and the kind that it left.
-fn cast_of_retired<K: Actor>(
+fn cast_of_retired<K: Actor, L: RunLog>(
     alloc: Global,
     shapes: &[Shape],
-    retired: Retired<K>,
+    retired: Retired<K, L>,
 ) -> Result<Option<Cast<K>>, NoMemory>
     ensures { IfOk result (λ cast.
         option_map (actor_spec K.state) cast ≡ cast_of_shape shapes.now (retired_view K.state retired)) }
@@ -81,10 +81,10 @@ fn cast_of_retired<K: Actor>(
 }
 
 /// The cast that an actor leaves: none where it died.
-fn cast_left<K: Actor>(
+fn cast_left<K: Actor, L: RunLog>(
     alloc: Global,
     shapes: &[Shape],
-    ended: Ended<K>,
+    ended: Ended<K, L>,
 ) -> Result<Option<Cast<K>>, NoMemory>
     ensures { IfOk result (λ cast.
         option_map (actor_spec K.state) cast ≡ cast_left_by shapes.now (end_view K.state ended)) }
@@ -97,10 +97,10 @@ fn cast_left<K: Actor>(
 }
 
 /// The casts of the actors that retired, in their order, each with the kind that it left.
-pub(crate) fn casts_left<K: Actor>(
+pub(crate) fn casts_left<K: Actor, L: RunLog>(
     alloc: Global,
     shapes: &[Shape],
-    actors: Vec<Finished<K>>,
+    actors: Vec<Finished<K, L>>,
 ) -> Result<Vec<Cast<K>>, NoMemory>
     ensures { IfOk result (λ left. map (actor_spec K.state) left.items
         ≡ filter_map (cast_left_by shapes.now) (map (λ actor. end_view K.state actor.ended) actors.items)) }

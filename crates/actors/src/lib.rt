@@ -41,7 +41,7 @@ pub use act_kinds::{
 pub use act_own::{kept_in_each_run, kept_in_each_world};
 
 // One caller, and one actor.
-pub use act_actor::{Cast, Dead, Live, Retired, actors_of, cast_fits, limits_of};
+pub use act_actor::{Cast, Dead, Live, Past, Retired, RunLog, actors_of, cast_fits, limits_of};
 pub use act_owner::{
     Call, Collected, Owner, never_above_the_limit, one_packet_for_good, told_by_notices,
 };
@@ -57,7 +57,7 @@ pub use act_world::{Stage, World, is_memory};
 
 // Threads.
 pub use act_drive::{Code, GaveUp, KillRefusal, Session, WaitRefusal};
-pub use act_executor::{Joined, RunFault, codes_fit, run_callers, run_plans};
+pub use act_executor::{Joined, RunFault, codes_fit, run_callers, run_callers_keeping, run_plans};
 pub use act_plans::plans_fit;
 pub use act_replay::{RecordFault, Recorded, Source, play_of, run_recorded};
 pub use act_rules::{Plan, Step};

@@ -5,7 +5,7 @@ use crate::feed::Feed;
 use crate::round::Round;
 use crate::stop::Stop;
 use crate::teller::Teller;
-use actors::{CallerId, Cast, Joined, NoMemory, Service};
+use actors::{CallerId, Cast, Joined, NoMemory, Past, Service};
 use example_kinds::Bank;
 use std::alloc::Global;
 use std::io::{Read, Write};
@@ -58,6 +58,9 @@ fn write_out<W: Write>(writer: &mut W, text: &str) -> Result<(), Stop> {
 impl<'a, R: Read + Drop, W: Write + Drop> Service<Bank> for Desk<'a, R, W> {
     type One = Teller;
 
+    // Its answers are all that it looks at.
+    type Log = Past;
+
     type Fault = Stop;
 
     fn codes(&mut self, _casts: &[Cast<Bank>]) -> Result<Option<Vec<(CallerId, Teller)>>, Stop> {
@@ -68,7 +71,7 @@ impl<'a, R: Read + Drop, W: Write + Drop> Service<Bank> for Desk<'a, R, W> {
         Ok(Some(tellers(self.alloc, &self.round)?))
     }
 
-    fn look(&mut self, joined: &Joined<Bank>) -> Result<(), Stop> {
+    fn look(&mut self, joined: &Joined<Bank, Past>) -> Result<(), Stop> {
         let text = answers(self.alloc, &self.round, &joined.owners)?;
         write_out(self.writer, text.as_str())
     }

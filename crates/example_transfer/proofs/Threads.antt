@@ -17,9 +17,7 @@ use Rattle.act_rules.proofs.Unique.{map-slice_get}
 use Rattle.actors.specs.PlanEnds.{At, IsPlay}
 use Rattle.act_early.proofs.Worlds.{world}
 use Rattle.actors.specs.Threads.{EndView, Killed, Retired, Starved, end_view, end_id, IfRetired, plan_of, IsJoined, RanAll}
-use Rattle.actors.specs.Ended.{Ended}
 use Rattle.actors.specs.Ended.TheVariants as ended
-use Rattle.actors.specs.Finished.{Finished}
 use Rattle.actors.specs.Threads.{actors_of_casts, cast_at}
 use Rattle.act_plans.proofs.Numbers.{in_one_to}
 use Rattle.actors.specs.Plays.{IsPlayedAsPlanned}
@@ -31,7 +29,7 @@ use Rattle.example_transfer.specs.declared.together.Together.{Together}
 use Rattle.example_transfer.specs.declared.purses.Purses.{Purses}
 use Rattle.example_transfer.specs.Purse.{purse_at}
 use Rattle.example_transfer.specs.Purses.{casts_of, together_of}
-use Rattle.example_transfer.specs.Money.{IsPurse, HoldTogether, purse_of_end, purse_left, AreLeftTogether, HoldOtherwise, IsAnswer, IsKeptInThreads, ends_of}
+use Rattle.example_transfer.specs.Money.{PurseEnd, PurseLeft, IsPurse, HoldTogether, purse_of_end, purse_left, AreLeftTogether, HoldOtherwise, IsAnswer, IsKeptInThreads, ends_of}
 use Rattle.example_transfer.proofs.SamePurse.{same_held}
 
 -- their numbers are those of actors
@@ -86,13 +84,13 @@ leaves casts owners h purse (Retired retired) same p can ran =
 
 -- ---- as the code has it
 
-record IsLeft (a : ℕ) (actors : List (Finished Purse)) (purse : Purse) : Type 0 where
+record IsLeft (a : ℕ) (actors : List PurseLeft) (purse : Purse) : Type 0 where
   left : Purse
   is : purse_left a actors ≡ Some left
   same : left.held ≡ purse.held
 
 -- what is found of an actor leaves its purse
-left_by : (a : ℕ) (actors : List (Finished Purse)) (purse : Purse) (ended : Ended Purse)
+left_by : (a : ℕ) (actors : List PurseLeft) (purse : Purse) (ended : PurseEnd)
     → purse_left a actors ≡ purse_of_end ended → Leaves (end_view purse_at ended) purse → IsLeft a actors purse
 left_by a actors purse (ended.Killed dead) found l = cc
 left_by a actors purse (ended.Starved dead) found l = cc
@@ -101,28 +99,28 @@ left_by a actors purse (ended.Retired retired) found l =
     let same : retired_view purse_at retired ≡ l.retired = cc in
     record { left = retired.state; is = found; same = same_held retired.state purse (ap (λ (r : RetiredView). r.state) same ∙ l.state) }
 
-module _ (casts : List ActorSpec) (plans : List (ℕ × List Step)) (owners : List OwnerView) (actors : List (Finished Purse)) where
+module _ (casts : List ActorSpec) (plans : List (ℕ × List Step)) (owners : List OwnerView) (actors : List PurseLeft) where
   abbrev ends : List EndView
-  ends = map (λ (actor : Finished Purse). end_view purse_at actor.ended) actors
+  ends = map (λ (actor : PurseLeft). end_view purse_at actor.ended) actors
 
   record IsSame (a : ℕ) (end : EndView) : Type 0 where
-    actor : Finished Purse
-    found : find (λ (x : Finished Purse). end_id (end_view purse_at x.ended) == a) actors ≡ Some actor
+    actor : PurseLeft
+    found : find (λ (x : PurseLeft). end_id (end_view purse_at x.ended) == a) actors ≡ Some actor
     is : end_view purse_at actor.ended ≡ end
 
   found_as : (a : ℕ) (end : EndView) → find (λ (x : EndView). end_id x == a) ends ≡ Some end → IsSame a end
-  found_as a end e = go (find (λ (actor : Finished Purse). end_id (end_view purse_at actor.ended) == a) actors) refl
+  found_as a end e = go (find (λ (actor : PurseLeft). end_id (end_view purse_at actor.ended) == a) actors) refl
     where
       viewed : find (λ (x : EndView). end_id x == a) ends
-          ≡ option_map (λ (actor : Finished Purse). end_view purse_at actor.ended) (find (λ (actor : Finished Purse). end_id (end_view purse_at actor.ended) == a) actors)
-      viewed = find-map (λ (x : EndView). end_id x == a) (λ (actor : Finished Purse). end_view purse_at actor.ended) actors
+          ≡ option_map (λ (actor : PurseLeft). end_view purse_at actor.ended) (find (λ (actor : PurseLeft). end_id (end_view purse_at actor.ended) == a) actors)
+      viewed = find-map (λ (x : EndView). end_id x == a) (λ (actor : PurseLeft). end_view purse_at actor.ended) actors
 
-      go : (o : Option (Finished Purse)) → find (λ (actor : Finished Purse). end_id (end_view purse_at actor.ended) == a) actors ≡ o → IsSame a end
+      go : (o : Option PurseLeft) → find (λ (actor : PurseLeft). end_id (end_view purse_at actor.ended) == a) actors ≡ o → IsSame a end
       go None is =
-          let bad : None ≡ Some end = sym (viewed ∙ ap (option_map (λ (actor : Finished Purse). end_view purse_at actor.ended)) is) ∙ e in cc
+          let bad : None ≡ Some end = sym (viewed ∙ ap (option_map (λ (actor : PurseLeft). end_view purse_at actor.ended)) is) ∙ e in cc
       go (Some actor) is =
           let here : Some (end_view purse_at actor.ended) ≡ Some end =
-          sym (viewed ∙ ap (option_map (λ (actor : Finished Purse). end_view purse_at actor.ended)) is) ∙ e in
+          sym (viewed ∙ ap (option_map (λ (actor : PurseLeft). end_view purse_at actor.ended)) is) ∙ e in
           record { actor = actor; found = is; is = cc }
 
   left_so : IsJoined casts plans owners ends → (early : At) → IsPlay casts (λ c. plan_of c plans) early → EndsAsThreads plans early owners ends
@@ -136,7 +134,7 @@ module _ (casts : List ActorSpec) (plans : List (ℕ × List Step)) (owners : Li
       let ran = all_in (λ (x : EndView). IfRetired x (RanAll casts owners)) ends end.end joined.retired end.inside in
       let gone : Leaves end.end purse = leaves casts owners early.history purse end.end same mine can ran in
       let found = found_as a end.end end.is in
-      left_by a actors purse found.actor.ended (ap (option_and_then (λ (x : Finished Purse). purse_of_end x.ended)) found.found)
+      left_by a actors purse found.actor.ended (ap (option_and_then (λ (x : PurseLeft). purse_of_end x.ended)) found.found)
       (subst (λ (x : EndView). Leaves x purse) (sym found.is) gone)
 
   left_together : (t : Together) → IsJoined casts plans owners ends → (early : At) → IsPlay casts (λ c. plan_of c plans) early → EndsAsThreads plans early owners ends
@@ -159,7 +157,7 @@ kept_in_threads purses t plans same always = λ owners actors joined played.
     (record { one = (omega arith, omega arith); other = (omega arith, omega arith) })
 
 -- a run with what was opened is one
-pub kept_in_run : (purses : Purses) (plans : List (ℕ × List Step)) (owners : List OwnerView) (actors : List (Finished Purse)) (opened : List ActorSpec)
+pub kept_in_run : (purses : Purses) (plans : List (ℕ × List Step)) (owners : List OwnerView) (actors : List PurseLeft) (opened : List ActorSpec)
     → opened ≡ casts_of purses → IsKeptInThreads purses plans → IsJoined opened plans owners (ends_of actors) → IsPlayedAsPlanned opened plans owners (ends_of actors)
     → AreLeftTogether (together_of purses) actors
 kept_in_run purses plans owners actors opened same kept joined played =

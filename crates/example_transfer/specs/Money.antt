@@ -13,6 +13,7 @@ use Rattle.actors.specs.PlanEnds.{LeadsToEnd}
 use Rattle.actors.specs.Ended.{Ended}
 use Rattle.actors.specs.Ended.TheVariants.{Killed, Retired, Starved}
 use Rattle.actors.specs.Finished.{Finished}
+use Rattle.actors.specs.RunItem.{RunItem}
 use Rattle.example_transfer.specs.declared.purse.Purse.{Purse}
 use Rattle.example_transfer.specs.declared.together.Together.{Together}
 use Rattle.example_transfer.specs.declared.checked.Verdict.{Verdict}
@@ -49,23 +50,30 @@ IsPurseIn h a None = (purse : Purse) → IsPurse h a purse → ⊥
 
 -- ---- after a run in threads
 
+-- how an actor ended that is a purse, and what it left: each keeps its run list
+abbrev pub PurseEnd : Type 0
+PurseEnd = Ended Purse (Vec RunItem)
+
+abbrev pub PurseLeft : Type 0
+PurseLeft = Finished Purse (Vec RunItem)
+
 -- how the actors ended
-abbrev pub ends_of : List (Finished Purse) → List EndView
+abbrev pub ends_of : List PurseLeft → List EndView
 ends_of actors = map (λ actor. end_view purse_at actor.ended) actors
 
 -- the purse of an actor that retired
-abbrev pub purse_of_end : Ended Purse → Option Purse
+abbrev pub purse_of_end : PurseEnd → Option Purse
 purse_of_end (Killed dead) = None
 purse_of_end (Retired retired) = Some retired.state
 purse_of_end (Starved dead) = None
 
 -- the purse with which this actor retired
-abbrev pub purse_left : ℕ → List (Finished Purse) → Option Purse
+abbrev pub purse_left : ℕ → List PurseLeft → Option Purse
 purse_left a actors = option_and_then (λ actor. purse_of_end actor.ended)
     (find (λ actor. end_id (end_view purse_at actor.ended) == a) actors)
 
 -- both retired, and the two purses hold the sum together
-pub record AreLeftTogether (together : Together) (actors : List (Finished Purse)) : Type 0 where
+pub record AreLeftTogether (together : Together) (actors : List PurseLeft) : Type 0 where
   pub one : Purse
   pub other : Purse
   pub one_is : purse_left together.one actors ≡ Some one
@@ -81,7 +89,7 @@ IsChange purses plans events = LeadsToEnd (casts_of purses) (λ c. plan_of c pla
 
 -- whatever a run of the plans in threads leaves, the purses hold together what they held at first
 abbrev pub IsKeptInThreads : Purses → List (ℕ × List Step) → Type 0
-IsKeptInThreads purses plans = (owners : List OwnerView) (actors : List (Finished Purse)) →
+IsKeptInThreads purses plans = (owners : List OwnerView) (actors : List PurseLeft) →
     IsJoined (casts_of purses) plans owners (ends_of actors) →
     IsPlayedAsPlanned (casts_of purses) plans owners (ends_of actors) → AreLeftTogether (together_of purses) actors
 

@@ -8,7 +8,7 @@ use super::rows::Word::{Int, Txt, Unit};
 use super::rows::{
     Verb, Why, Word, actor, answer_of, assert_is, assert_reads, caller, method, value_of,
 };
-use act_actor::{Arrival, Cast, Live, Retired, actors_of, cast_fits, limits_of};
+use act_actor::{Arrival, Cast, Live, Past, Retired, RunLog, actors_of, cast_fits, limits_of};
 use act_kinds::{Actor, Boxed, Counter, ListKind, Table};
 use act_types::{
     ActorId, CallerId, FutureId, ListOf, Method, NoMemory, Packet, ReleaseNote, Reply, Settled,
@@ -138,9 +138,9 @@ fn opened<K: Actor>(alloc: Global, kind: K) -> Result<Live<K>, NoMemory> {
 }
 
 /// Brings a call, of which this is told.
-fn assert_arrives<K: Actor>(
+fn assert_arrives<K: Actor, L: RunLog>(
     rt: &impl Abort,
-    live: &mut Live<K>,
+    live: &mut Live<K, L>,
     name: &str,
     packet: Packet,
     arrival: Arrival,
@@ -174,10 +174,10 @@ fn assert_reply(
 }
 
 /// Brings a call, which hasn't come before.
-fn arrive_new<K: Actor>(
+fn arrive_new<K: Actor, L: RunLog>(
     rt: &impl Abort,
     alloc: Global,
-    live: &mut Live<K>,
+    live: &mut Live<K, L>,
     row: &Row,
 ) -> Result<(), NoMemory> {
     let packet = packet_of(alloc, row)?;
@@ -186,10 +186,10 @@ fn arrive_new<K: Actor>(
 }
 
 /// Runs the call that comes next, which is this one, or none.
-fn assert_runs<K: Actor>(
+fn assert_runs<K: Actor, L: RunLog>(
     rt: &impl Abort,
     alloc: Global,
-    live: &mut Live<K>,
+    live: &mut Live<K, L>,
     row: &Row,
     runs: bool,
 ) -> Result<(), NoMemory> {
@@ -198,10 +198,10 @@ fn assert_runs<K: Actor>(
 }
 
 /// Brings each call, which hasn't come before.
-fn arrive_each<K: Actor>(
+fn arrive_each<K: Actor, L: RunLog>(
     rt: &impl Abort,
     alloc: Global,
-    live: &mut Live<K>,
+    live: &mut Live<K, L>,
     rows: &[Row],
 ) -> Result<(), NoMemory> {
     for row in rows {
@@ -211,15 +211,15 @@ fn arrive_each<K: Actor>(
 }
 
 /// Brings each call, and runs the next one where it came.
-fn play<K: Actor>(
+fn play<K: Actor, L: RunLog>(
     rt: &impl Abort,
     alloc: Global,
-    live: &mut Live<K>,
+    live: &mut Live<K, L>,
     rows: &[Row],
 ) -> Result<(), NoMemory> {
     arrive_each(rt, alloc, live, rows)?;
     for row in rows {
-        let is_next = row.1 as usize == live.log().len();
+        let is_next = row.1 as usize == live.ran();
         let has_next = live.has_next(CallerId::new(1).unwrap());
         assert_is(rt, row.0, &has_next, &is_next);
         assert_runs(rt, alloc, live, row, is_next)?;
@@ -228,10 +228,10 @@ fn play<K: Actor>(
 }
 
 /// Runs a call at once where it may, as it is to be told.
-fn run_at_once<K: Actor>(
+fn run_at_once<K: Actor, L: RunLog>(
     rt: &impl Abort,
     alloc: Global,
-    live: &mut Live<K>,
+    live: &mut Live<K, L>,
     row: &Row,
     runs: bool,
 ) -> Result<(), NoMemory> {
@@ -245,14 +245,14 @@ fn run_at_once<K: Actor>(
 }
 
 /// Two actors hold no call, and have logs of one length and one state.
-fn assert_alike<K: Actor>(
+fn assert_alike<K: Actor, L: RunLog, M: RunLog>(
     rt: &impl Abort,
     alloc: Global,
-    live: &Live<K>,
-    other: &Live<K>,
+    live: &Live<K, L>,
+    other: &Live<K, M>,
 ) -> Result<(), NoMemory> {
-    let shown = (live.holds_none(), other.holds_none(), live.log().len());
-    assert_is(rt, "both actors", &shown, &(true, true, other.log().len()));
+    let shown = (live.holds_none(), other.holds_none(), live.ran());
+    assert_is(rt, "both actors", &shown, &(true, true, other.ran()));
     let text = text_of(rt, alloc, other)?;
     let done = assert_text(rt, alloc, live, text.as_str());
     drop(text);
@@ -328,10 +328,10 @@ fn not_at_once_elsewhere(rt: HostRuntime) -> Result<(), Fail> {
 }
 
 /// Runs a `terminate` at once, after which no call runs so.
-fn end_at_once<K: Actor>(
+fn end_at_once<K: Actor, L: RunLog>(
     rt: &impl Abort,
     alloc: Global,
-    live: &mut Live<K>,
+    live: &mut Live<K, L>,
 ) -> Result<(), NoMemory> {
     run_at_once(rt, alloc, live, &FIRST_END, true)?;
     assert_is(rt, FIRST_END.0, &live.terminated(), &true);
@@ -349,10 +349,10 @@ fn not_at_once_after_a_terminate(rt: HostRuntime) -> Result<(), Fail> {
 
 /// Plays these calls, after which the actor is killed, and keeps its name and the log of those that
 /// ran.
-fn play_and_kill<K: Actor>(
+fn play_and_kill<K: Actor, L: RunLog>(
     rt: &impl Abort,
     alloc: Global,
-    mut live: Live<K>,
+    mut live: Live<K, L>,
     rows: &[Row],
     ran: usize,
     text: &str,
@@ -369,10 +369,15 @@ fn play_and_kill<K: Actor>(
 }
 
 /// A killed actor keeps its name and its log.
-fn assert_killed<K: Actor>(rt: &impl Abort, live: Live<K>, ran: usize) {
+fn assert_killed<K: Actor, L: RunLog>(rt: &impl Abort, live: Live<K, L>, ran: usize) {
     let id = live.id();
     let dead = live.kill();
-    assert_is(rt, "killed", &(dead.id(), dead.log().len()), &(id, ran));
+    assert_is(
+        rt,
+        "killed",
+        &(dead.id(), dead.run_log().count()),
+        &(id, ran),
+    );
     drop(dead);
 }
 
@@ -403,6 +408,33 @@ fn opened_later(rt: HostRuntime) -> Result<(), Fail> {
 fn killed_with_calls_held(rt: HostRuntime) -> Result<(), Fail> {
     let live = opened(rt.alloc(), Counter::open())?;
     play_and_kill(&rt, rt.alloc(), live, &A_GAP, 1, "is counter 2")?;
+    Ok(())
+}
+
+/// Actor 1 with this kind, and with caller 1 alone. It keeps none of the calls that it runs.
+fn opened_for_none<K: Actor>(alloc: Global, kind: K) -> Result<Live<K, Past>, NoMemory> {
+    let callers = [CallerId::new(1).unwrap()];
+    Live::open_keeping(alloc, ActorId::new(1).unwrap(), &callers, kind)
+}
+
+#[test]
+fn calls_that_are_not_kept(rt: HostRuntime) -> Result<(), Fail> {
+    let alloc = rt.alloc();
+    let table: Boxed = Box::new(alloc, Table::open(alloc))?;
+    let live = opened_for_none(alloc, table)?;
+    play_and_kill(&rt, alloc, live, &FAILED_ARGUMENTS, 4, "is table")?;
+    let live = opened_for_none(alloc, counted()?)?;
+    play_and_kill(&rt, alloc, live, &FROM_FIVE, 2, "is counter 7")?;
+    Ok(())
+}
+
+#[test]
+fn none_kept_and_terminated(rt: HostRuntime) -> Result<(), Fail> {
+    let mut live = opened_for_none(rt.alloc(), Counter::open())?;
+    let done = end_at_once(&rt, rt.alloc(), &mut live);
+    assert_is(&rt, "ran", &live.ran(), &1);
+    drop(live);
+    done?;
     Ok(())
 }
 
@@ -674,7 +706,11 @@ fn actors_that_name_a_caller(rt: HostRuntime) -> Result<(), Fail> {
 }
 
 /// The state's text, which is asked for once more where memory is refused.
-fn text_of<K: Actor>(rt: &impl Abort, alloc: Global, live: &Live<K>) -> Result<String, NoMemory> {
+fn text_of<K: Actor, L: RunLog>(
+    rt: &impl Abort,
+    alloc: Global,
+    live: &Live<K, L>,
+) -> Result<String, NoMemory> {
     let mut text = String::new(alloc);
     text.push_str("is ")?;
     if live.state_text(&mut text).is_err() {
@@ -684,10 +720,10 @@ fn text_of<K: Actor>(rt: &impl Abort, alloc: Global, live: &Live<K>) -> Result<S
     Ok(text)
 }
 
-fn assert_text<K: Actor>(
+fn assert_text<K: Actor, L: RunLog>(
     rt: &impl Abort,
     alloc: Global,
-    live: &Live<K>,
+    live: &Live<K, L>,
     wanted: &str,
 ) -> Result<(), NoMemory> {
     let text = text_of(rt, alloc, live)?;

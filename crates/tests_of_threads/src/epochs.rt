@@ -12,7 +12,7 @@
 use crate::executor::scene::{Kind, Role, actor, caller, casts_of};
 use crate::rows::assert_is;
 use crate::told::push_joined;
-use act_actor::{Cast, cast_fits};
+use act_actor::{Cast, RunItem, cast_fits};
 use act_drive::{Code, GaveUp, Session};
 use act_executor::{Joined, NoGate};
 use act_kinds::{Actor, Boxed};
@@ -90,6 +90,8 @@ fn chores_of(alloc: Global, chores: Day) -> Result<Vec<(CallerId, Chore)>, NoMem
 
 impl Service<Boxed> for Days {
     type One = Chore;
+
+    type Log = Vec<RunItem>;
 
     type Fault = DayFault;
 

@@ -7,7 +7,7 @@ pub returns-in_default : goal.returns-in_default
 returns-in_default g c =
     let before = string_bytes c.args.text.now in
     let state = g.K.Actor.state in
-    let ends = map (λ (actor : Finished _). end_view state actor.ended) c.args.actors.now in
+    let ends = map (λ (actor : Finished _ _). end_view state actor.ended) c.args.actors.now in
     let number : c.unwrap-actor.result ≡ c.args.number = rw c.unwrap-actor.ensures at c.new.ensures.value in
     let none = no_end ends c.unwrap-actor.result c.args.number number (sym c.end_of.ensures ∙ ap (λ found. option_map (end_view state) (option_copied found)) c.in_default.is) in
     sym (append-nil before) ∙ ap (λ (lines : List ℕ). before ++ lines) (sym none)
@@ -15,7 +15,7 @@ returns-in_default g c =
 pub returns : goal.returns
 returns g c =
     let state = g.K.Actor.state in
-    let ends = map (λ (actor : Finished _). end_view state actor.ended) c.args.actors.now in
+    let ends = map (λ (actor : Finished _ _). end_view state actor.ended) c.args.actors.now in
     let number : c.unwrap-actor.result ≡ c.args.number = rw c.unwrap-actor.ensures at c.new.ensures.value in
     let a = c.unwrap-actor.result in
     let seen = end_view state c.in-Some.ended.now in

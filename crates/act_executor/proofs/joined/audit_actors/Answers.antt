@@ -11,7 +11,7 @@ audit_notices-requires-clause-sit g c =
     let x = c.index_mut-actor.result.now in
     let lt : i < length first = omega (arith, c.len-at-end.ensures, c.args.actors.now.ok) in
     let same : left_of (get_or first i x) ≡ left_of x = same_place left_of c.loop-at.actors.items first i x lt inv.same_actors c.index_mut-actor.ensures.value in
-    subst (λ (l : List (Endpoint ReplyExecView)). All (SitsAtReplies c.args.replies.now) l) (ap (λ (l : ActorLeft _). l.notices) same) (c.requires.sit i x lt)
+    subst (λ (l : List (Endpoint ReplyExecView)). All (SitsAtReplies c.args.replies.now) l) (ap (λ (l : ActorLeft _ _). l.notices) same) (c.requires.sit i x lt)
 
 pub audit_notices-requires-clause-lines : goal.audit_notices-requires-clause-lines
 audit_notices-requires-clause-lines g c = c.requires.lines ∙ ap (map (λ (d : Driven). d.passes.collects.line)) (sym c.loop-at.invariant.same)
@@ -26,10 +26,10 @@ loop-at-preserved g c =
     let lt : i < length first = omega (arith, c.len-at-end.ensures, c.args.actors.now.ok) in
     let same : left_of (get_or first i x) ≡ left_of x = same_place left_of c.loop-at.actors.items first i x lt inv.same_actors c.index_mut-actor.ensures.value in
     let told : All (NoticeTold callers) x.passes.notices.items = subst (λ (l : List Driven). All (NoticeTold l) x.passes.notices.items) inv.same c.audit_notices.ensures.told in
-    let told_first : All (NoticeTold callers) (get_or first i x).passes.notices.items = subst (λ (l : List (Endpoint ReplyExecView)). All (NoticeTold callers) l) (sym (ap (λ (l : ActorLeft _). l.notices) same)) told in
+    let told_first : All (NoticeTold callers) (get_or first i x).passes.notices.items = subst (λ (l : List (Endpoint ReplyExecView)). All (NoticeTold callers) l) (sym (ap (λ (l : ActorLeft _ _). l.notices) same)) told in
     let given : left_of (record x { passes = record x.passes { notices = c.audit_notices.new.endpoints } }) ≡ left_of x = λ k. record { ended = x.ended; letters = x.passes.letters; kills = x.passes.kills; notices = c.audit_notices.ensures.same_endpoints k } in
     record {
       same_actors = map-set_same left_of c.loop-at.actors.items i (record x { passes = record x.passes { notices = c.audit_notices.new.endpoints } }) x (given ∙ ap left_of c.index_mut-actor.ensures.value) ∙ inv.same_actors;
       same = c.audit_notices.ensures.same ∙ inv.same;
-      told = told_next (λ (f : Finished _). All (NoticeTold callers) f.passes.notices.items) first i x inv.told (any_default first i x lt) told_first;
+      told = told_next (λ (f : Finished _ _). All (NoticeTold callers) f.passes.notices.items) first i x inv.told (any_default first i x lt) told_first;
     }

@@ -32,9 +32,9 @@ loop-caller-preserved g c =
     let one = c.in-Some.caller in
     let rest = into_iter_items c.next.new.self in
     let P : Driven → Type 0 = CallerTold first in
-    let letters : All (LetterTold first) one.passes.letters.items = subst (λ (l : List (Finished _)). All (LetterTold l) one.passes.letters.items) inv.same c.audit_letters.ensures.told in
+    let letters : All (LetterTold first) one.passes.letters.items = subst (λ (l : List (Finished _ _)). All (LetterTold l) one.passes.letters.items) inv.same c.audit_letters.ensures.told in
     let between = c.audit_letters.ensures.same ∙ inv.same in
-    let kills : All (KillTold first) one.passes.kills.items = subst (λ (l : List (Finished _)). All (KillTold l) one.passes.kills.items) between c.audit_kills.ensures.told in
+    let kills : All (KillTold first) one.passes.kills.items = subst (λ (l : List (Finished _ _)). All (KillTold l) one.passes.kills.items) between c.audit_kills.ensures.told in
     record {
       same = c.audit_kills.ensures.same ∙ between;
       sit = all_tail (HasEndpoints c.args.lines.now) _ _ (subst (λ (l : List Driven). All (HasEndpoints c.args.lines.now) l) c.in-Some.ensures.steps.0 inv.sit);

@@ -12,7 +12,7 @@ loop-endpoint-init g c =
     }
 
 pub audit_kill-requires-clause-lines : goal.audit_kill-requires-clause-lines
-audit_kill-requires-clause-lines g c = c.requires.lines ∙ ap (map (λ (f : Finished _). f.passes.kills.line)) (sym c.loop-endpoint.invariant.same)
+audit_kill-requires-clause-lines g c = c.requires.lines ∙ ap (map (λ (f : Finished _ _). f.passes.kills.line)) (sym c.loop-endpoint.invariant.same)
 
 pub audit_kill-requires-clause-sits : goal.audit_kill-requires-clause-sits
 audit_kill-requires-clause-sits g c = all_head (SitsAtControl c.args.controls.now) _ _ (subst (λ (l : List (Endpoint _)). All (SitsAtControl c.args.controls.now) l) c.in-Some.ensures.steps.0 c.loop-endpoint.invariant.sit)
@@ -21,7 +21,7 @@ pub loop-endpoint-preserved : goal.loop-endpoint-preserved
 loop-endpoint-preserved g c =
     let inv = c.loop-endpoint.invariant in
     let P : Endpoint _ → Type 0 = KillTold c.args.actors.now.items in
-    let here : P c.in-Some.endpoint = subst (λ (l : List (Finished _)). KillTold l c.in-Some.endpoint) inv.same c.audit_kill.ensures.told in
+    let here : P c.in-Some.endpoint = subst (λ (l : List (Finished _ _)). KillTold l c.in-Some.endpoint) inv.same c.audit_kill.ensures.told in
     record {
       same = c.audit_kill.ensures.same ∙ inv.same;
       sit = all_tail (SitsAtControl c.args.controls.now) _ _ (subst (λ (l : List (Endpoint _)). All (SitsAtControl c.args.controls.now) l) c.in-Some.ensures.steps.0 inv.sit);

@@ -12,7 +12,7 @@ loop-endpoint-init g c =
     }
 
 pub audit_letter-requires-clause-lines : goal.audit_letter-requires-clause-lines
-audit_letter-requires-clause-lines g c = c.requires.lines ∙ ap (map (λ (f : Finished _). f.passes.letters.line)) (sym c.loop-endpoint.invariant.same)
+audit_letter-requires-clause-lines g c = c.requires.lines ∙ ap (map (λ (f : Finished _ _). f.passes.letters.line)) (sym c.loop-endpoint.invariant.same)
 
 pub audit_letter-requires-clause-sits : goal.audit_letter-requires-clause-sits
 audit_letter-requires-clause-sits g c = all_head (SitsAtMail c.args.mails.now) _ _ (subst (λ (l : List (Endpoint _)). All (SitsAtMail c.args.mails.now) l) c.in-Some.ensures.steps.0 c.loop-endpoint.invariant.sit)
@@ -21,7 +21,7 @@ pub loop-endpoint-preserved : goal.loop-endpoint-preserved
 loop-endpoint-preserved g c =
     let inv = c.loop-endpoint.invariant in
     let P : Endpoint _ → Type 0 = LetterTold c.args.actors.now.items in
-    let here : P c.in-Some.endpoint = subst (λ (l : List (Finished _)). LetterTold l c.in-Some.endpoint) inv.same c.audit_letter.ensures.told in
+    let here : P c.in-Some.endpoint = subst (λ (l : List (Finished _ _)). LetterTold l c.in-Some.endpoint) inv.same c.audit_letter.ensures.told in
     record {
       same = c.audit_letter.ensures.same ∙ inv.same;
       sit = all_tail (SitsAtMail c.args.mails.now) _ _ (subst (λ (l : List (Endpoint _)). All (SitsAtMail c.args.mails.now) l) c.in-Some.ensures.steps.0 inv.sit);

@@ -4,7 +4,7 @@ use Rattle.act_executor.proofs.Tasks.{each_first}
 use Rattle.act_executor.proofs.run.run_tasks.Goals as goal
 
 pub returns-clause-actors : goal.returns-clause-actors
-returns-clause-actors g c = subst (λ (l : List (Finished _)). Each (IsServedBy g.K.Actor.state) c.args.servings.items l) (sym c.in_ok-actors.ensures) (each_first (IsServedBy g.K.Actor.state) c.args.servings.items c.in_ok-served.served.items c.in_ok-served.ensures.first)
+returns-clause-actors g c = subst (λ (l : List (Finished _ _)). Each (IsServedBy g.K.Actor.state) c.args.servings.items l) (sym c.in_ok-actors.ensures) (each_first (IsServedBy g.K.Actor.state) c.args.servings.items c.in_ok-served.served.items c.in_ok-served.ensures.first)
 
 pub returns-clause-callers : goal.returns-clause-callers
 returns-clause-callers g c = subst (λ (l : List Driven). Each (IsDrivenTo g.D.Conduct.does) c.args.drivings.items l) (sym c.in_ok-callers.ensures) (each_first (IsDrivenTo g.D.Conduct.does) c.args.drivings.items c.in_ok-served.driven.items c.in_ok-served.ensures.second)

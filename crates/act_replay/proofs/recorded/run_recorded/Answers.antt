@@ -12,5 +12,5 @@ returns-in-Err-clause-fault g c =
 
 pub returns-in-Ok-clause-played : goal.returns-in-Ok-clause-played
 returns-in-Ok-clause-played g c =
-    subst (λ (casts : List ActorSpec). IsPlayOf casts c.in-Ok.events.items c.in_ok-ran.ran.0.owners.items (map (λ (actor : Finished _). end_view g.K.Actor.state actor.ended) c.in_ok-ran.ran.0.actors.items))
+    subst (λ (casts : List ActorSpec). IsPlayOf casts c.in-Ok.events.items c.in_ok-ran.ran.0.owners.items (map (λ (actor : Finished _ _). end_view g.K.Actor.state actor.ended) c.in_ok-ran.ran.0.actors.items))
     c.requires.twins c.in-Ok.ensures.played

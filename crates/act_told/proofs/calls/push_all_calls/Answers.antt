@@ -4,7 +4,7 @@ use Rattle.act_told.proofs.calls.push_all_calls.Goals as goal
 
 pub loop-owner-preserved : goal.loop-owner-preserved
 loop-owner-preserved g c =
-    let ends = map (λ (actor : Finished _). end_view g.K.Actor.state actor.ended) c.args.actors.now in
+    let ends = map (λ (actor : Finished _ _). end_view g.K.Actor.state actor.ended) c.args.actors.now in
     let inv = c.loop-owner.invariant in
     let owner = c.owner-item.result in let calls = c.loop-owner.calls in
     let more = c.in_ok-push_calls.ensures ∙ ap (λ t. calls ++ calls_from ends owner (length t) 0 owner.calls) c.as_slice-start.ensures in

@@ -4,7 +4,7 @@ use Rattle.act_told.proofs.calls.push_calls.Goals as goal
 
 pub loop-number-preserved : goal.loop-number-preserved
 loop-number-preserved g c =
-    let ends = map (λ (actor : Finished _). end_view g.K.Actor.state actor.ended) c.args.actors.now in
+    let ends = map (λ (actor : Finished _ _). end_view g.K.Actor.state actor.ended) c.args.actors.now in
     let owner = c.args.owner.now in let call = c.in-Some.call.now in
     call_more ends owner c.args.start c.loop-number.number call c.loop-number.calls c.push.new.self _
     (sym (c.in-Some.ensures ∙ ap (λ k. call_at owner.calls k) c.new-k.ensures))

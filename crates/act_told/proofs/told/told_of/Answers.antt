@@ -4,7 +4,7 @@ use Rattle.act_told.proofs.told.told_of.Goals as goal
 
 pub returns : goal.returns
 returns g c =
-    let view = λ (actor : Finished _). end_view g.K.Actor.state actor.ended in
+    let view = λ (actor : Finished _ _). end_view g.K.Actor.state actor.ended in
     let owners = c.args.joined.now.owners.items in let actors = c.args.joined.now.actors.items in
     let owners_at = c.as_slice-owners.result.now in let actors_at = c.as_slice-actors.result.now in
     told_is owners (map view actors) c.push_all_calls.new.calls c.in_ok-starts.starts.items (length c.as_slice-all.result.now)

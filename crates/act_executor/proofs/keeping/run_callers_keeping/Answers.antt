@@ -1,7 +1,7 @@
 use Rattle.act_executor.proofs.Common.{◌≡◌, ℕ, map, sym, subst, actor_spec, RunFault, code_of, does_code, plan_view, IsFault, IsThreadFault}
 use Rattle.act_executor.proofs.Faults.{err_only, of_threads}
 use Rattle.act_executor.proofs.Joining.{is_joined_by, is_played_by, is_played_of_steps}
-use Rattle.act_executor.proofs.by_code.run_callers.Goals as goal
+use Rattle.act_executor.proofs.keeping.run_callers_keeping.Goals as goal
 
 pub returns-in_err-prepared-clause-fault : goal.returns-in_err-prepared-clause-fault
 returns-in_err-prepared-clause-fault g c =
