@@ -20,6 +20,7 @@ pub record AreBoth (specs : List ActorSpec) (plans : ℕ → List Step) (e l : A
   pub goes : (c : ℕ) → Follows plans c e
   pub quiescent : IsQuiescent plans e
 
+-- a play of the plans is a world as the early one and the late one are, and follows the plans as the early one does
 pub with_play : (specs : List ActorSpec) (plans : ℕ → List Step) (play early late : At) → AreBoth specs plans early late → IsPlay specs plans play
     → AreWorlds specs plans play early late
 with_play specs plans play early late both is = record {
@@ -112,6 +113,7 @@ event_ahead specs plans (event.Retire b) before early late w ahead was m a = ahe
 
 -- ---- all of it
 
+-- where a play of the plans matches the quiescent early play and the late one, the early one is ahead of it
 pub ahead : (specs : List ActorSpec) (plans : ℕ → List Step) (early late : At) → AreBoth specs plans early late → (play : At) → IsPlay specs plans play
     → Matches play.history early.history late.history → IsAhead play early
 ahead specs plans early late both play Opens m = record { steps = λ c. omega arith; runs = λ a. (runs_of a early.history, refl) }

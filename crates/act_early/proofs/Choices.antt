@@ -6,6 +6,7 @@ use Rattle.act_early.proofs.Common.{All_weaker, Grows, added_grows, calls_grow, 
 use Rattle.act_early.proofs.Common.{held_submission, IsSound, is_reply, is_heard, choices_of}
 use Rattle.act_rules.specs.declared.history.Post.TheVariants.{Death as DeathPost}
 
+-- functions that agree on each item of a list map it to the same list
 pub map-same_at : {A B : Type 0} (f g : A → B) (xs : List A) → ((place : ℕ) (x : A) → slice_get xs place ≡ Some x → f x ≡ g x) → map f xs ≡ map g xs
 map-same_at f g [] each = refl
 map-same_at {B = B} f g (x ∷ xs) each = ap (λ (y : B). y ∷ map f xs) (each zero x refl)
@@ -48,6 +49,7 @@ no_reply_more (x ∷ xs) o e = refl
 pub kept_first : (h : History) (c k : ℕ) (call : Submission) → slice_get (calls_of c h) k ≡ Some call → kept_at (kept_of c h) k ≡ first_answer h c (k, call)
 kept_first h c k call at = kept_at_is h c k ∙ ap (kept_by h c k) at
 
+-- growing without collecting doesn't change, in a sound history, whether the reply of a call that ran was kept
 pub heard_quiet : (h g : History) (a place : ℕ) (item : RunItem) → Grows h g → IsSound h → g.collected ≡ h.collected
     → slice_get (runs_of a h) place ≡ Some item → is_heard g item ≡ is_heard h item
 heard_quiet h g a place item grows sound same at =
@@ -57,6 +59,7 @@ heard_quiet h g a place item grows sound same at =
     let there = slice_get_front (calls_of c h) (calls_of c g) k call.0 (calls_grow c h g grows) call.1 in
     ap is_reply (kept_first g c k call.0 there ∙ first_same h g c (k, call.0) grows sound.posts same ∙ sym (kept_first h c k call.0 call.1))
 
+-- a collected post that is no reply to a call that ran doesn't change, in a sound history, whether its reply was kept
 pub heard_more : (h g : History) (a place : ℕ) (item : RunItem) (post : Post) → Grows h g → IsSound h → g.collected ≡ h.collected ++ post ∷ []
     → slice_get (runs_of a h) place ≡ Some item
     → ((b : ℕ) → is_reply (answer_in g item.caller item.future b post) ≡ false) → is_heard g item ≡ is_heard h item
@@ -78,6 +81,7 @@ death_no_reply h c k b d a = go ((d == c) && (a == b))
 
 -- ---- the choices
 
+-- an actor's choices are the same where the same ran, and of each of its runs the reply is kept in both or in none
 pub choices_same : (h g : History) (a : ℕ) → g.ran ≡ h.ran
     → ((place : ℕ) (item : RunItem) → slice_get (runs_of a h) place ≡ Some item → is_heard g item ≡ is_heard h item) → choices_of a g ≡ choices_of a h
 choices_same h g a ran heard =

@@ -8,6 +8,7 @@ use Rattle.act_early.proofs.Quiesces.{Quiesces, quiesces_same, quiesces_trans, q
 use Rattle.act_early.proofs.Listed.{all_callers, all_actors, named_caller, IsOpen, IsWay, Comes, for_all}
 use Rattle.act_early.proofs.Stepping.{IsStuck, may_before}
 
+-- the caller, if its plan is done and the actor's cast names it, holds no copy of the actor's handle
 abbrev pub IsClosed : (ℕ → List Step) → At → ℕ → ℕ → Type 0
 IsClosed plans p c a = next_step plans c p ≡ None → names c (cast_of a p.history) ≡ true → copies_of c a p.history ≡ Some 0
 

@@ -3,6 +3,7 @@ use Rattle.act_early.proofs.Common.{◌≡◌, ℕ, zero, suc, ◌+◌, ◌≤�
 use Rattle.act_early.proofs.Common.{arith, length-append, ◌==◌, slice_get, take, eqb-true, append-nil, filter-append, Step, occurrences, IsPrefix, At, steps_of}
 use Rattle.act_early.proofs.Common.{next_step}
 
+-- a pushed list has a number as often as before, and once more where that is the number pushed
 pub occurrences-push : (d c : ℕ) (xs : List ℕ) → occurrences d (xs ++ c ∷ []) ≡ occurrences d xs + cond (c == d) 1 0
 occurrences-push d c xs = rw (filter-append (λ (b : ℕ). b == d) xs (c ∷ []), length-append) (go (c == d))
   where
@@ -15,6 +16,7 @@ take-next [] n x e = cc
 take-next {A = A} (y ∷ xs) zero x e = let same : y ≡ x = cc in ap (λ (z : A). z ∷ []) same
 take-next {A = A} (y ∷ xs) (suc n) x e = ap (λ (l : List A). y ∷ l) (take-next xs n x e)
 
+-- the first n + 1 items of a list are the first n, and then the one at place n
 pub take-at : {A : Type 0} (xs : List A) (n : ℕ) (x : A) → slice_get xs n ≡ Some x → take (n + 1) xs ≡ take n xs ++ x ∷ []
 take-at {A = A} xs n x e = let one : n + 1 ≡ suc n = omega arith in ap (λ (m : ℕ). take m xs) one ∙ take-next xs n x e
 
@@ -22,6 +24,7 @@ take-at {A = A} xs n x e = let one : n + 1 ≡ suc n = omega arith in ap (λ (m 
 abbrev pub done_steps : (ℕ → List Step) → ℕ → At → List Step
 done_steps plans c at = take (steps_of c at) (plans c)
 
+-- once a caller is done with its next step, this is the last of its done ones; another caller's stay as they are
 pub done-push : (plans : ℕ → List Step) (c d : ℕ) (at : At) (step : Step) → next_step plans c at ≡ Some step
     → take (occurrences d (at.stepped ++ c ∷ [])) (plans d) ≡ done_steps plans d at ++ cond (c == d) (step ∷ []) []
 done-push plans c d at step is = ap (λ (n : ℕ). take n (plans d)) (occurrences-push d c at.stepped) ∙ go (c == d) refl
@@ -36,6 +39,7 @@ pub other_next : (plans : ℕ → List Step) (c d : ℕ) (at : At) → (c == d) 
 other_next plans c d at e = ap (λ (n : ℕ). slice_get (plans d) n)
     (occurrences-push d c at.stepped ∙ rw e (let same : steps_of d at + 0 ≡ steps_of d at = omega arith in same))
 
+-- the first m items of a list are a prefix of its first n, where m is at most n
 pub take-prefix : {A : Type 0} (xs : List A) (m n : ℕ) → m ≤ n → IsPrefix (take m xs) (take n xs)
 take-prefix xs zero n le = (take n xs, refl)
 take-prefix [] (suc m) zero le = ([], refl)
@@ -43,11 +47,13 @@ take-prefix [] (suc m) (suc n) le = ([], refl)
 take-prefix (x ∷ xs) (suc m) zero le = absurd (omega arith)
 take-prefix {A = A} (x ∷ xs) (suc m) (suc n) le = let rest = take-prefix xs m n (omega arith) in (rest.0, ap (λ (l : List A). x ∷ l) rest.1)
 
+-- a place at which a list has no item isn't below its length
 pub past_none : {A : Type 0} (xs : List A) (k : ℕ) → slice_get xs k ≡ None → length xs ≤ k
 past_none [] k e = omega arith
 past_none (x ∷ xs) zero e = cc
 past_none (x ∷ xs) (suc k) e = let n = past_none xs k e in omega (arith, n)
 
+-- the first n items of a list that has no more than n are all of it
 pub take-past : {A : Type 0} (xs : List A) (n : ℕ) → length xs ≤ n → take n xs ≡ xs
 take-past [] zero le = refl
 take-past [] (suc n) le = refl

@@ -12,6 +12,7 @@ pub record IsEarlier (h g : History) : Type 0 where
   -- nothing runs at the dead
   pub last : (a : ℕ) → is_dead a h ≡ true → runs_of a g ≡ runs_of a h
 
+-- a history counts as earlier than itself
 pub earlier_same : (h : History) → IsEarlier h h
 earlier_same h = record {
   runs = λ a. whole_front (runs_of a h);
@@ -21,6 +22,7 @@ earlier_same h = record {
   last = λ a e. refl;
 }
 
+-- if a first history is earlier than a second, and this than a third, the first is earlier than the third
 pub earlier_trans : (f g h : History) → IsEarlier f g → IsEarlier g h → IsEarlier f h
 earlier_trans f g h one two = record {
   runs = λ a. front_trans (runs_of a f) (runs_of a g) (runs_of a h) (one.runs a) (two.runs a);
@@ -34,6 +36,7 @@ or_one : (x y : Bool) → x ≡ true → (x || y) ≡ true
 or_one true y e = refl
 or_one false y e = cc
 
+-- a sound history is earlier than the one that an accepted event makes of it
 pub earlier_event : (h : History) (other : Event) → IsSound h → refusal_of h other ≡ None → IsEarlier h (add_event h other)
 earlier_event h other sound accepted =
     let grows = added_grows h other in
@@ -45,6 +48,7 @@ earlier_event h other sound accepted =
       last = λ a e. (ended_stays a (runs_of a h) h other (record { ended = or_one (is_dead a h) (is_retired a h) e; same = refl }) accepted).same;
     }
 
+-- a sound history is earlier than the one after a step that the caller may take
 pub earlier_step : (c : ℕ) (step : Step) (h : History) → IsSound h → MayTake c step h → IsEarlier h (after_step c step h)
 earlier_step c (Submit a method args) h sound may = earlier_event h (event.Submit c a method args) sound may
 earlier_step c (Copy a) h sound may = earlier_event h (event.Copy c a) sound may
@@ -60,6 +64,7 @@ step_runs c (Release a) h = refl
 step_runs c (Kill a) h = refl
 step_runs c (Await k) h = refl
 
+-- a caller's step adds none to the actors that took a kill
 pub step_kills : (c : ℕ) (step : Step) (h : History) → (after_step c step h).killed ≡ h.killed
 step_kills c (Submit a method args) h = refl
 step_kills c (Copy a) h = refl

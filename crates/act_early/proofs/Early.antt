@@ -79,6 +79,7 @@ all_early casts plans = record {
   takes = λ at a early may. early_kill casts plans at a early may;
 }
 
+-- for each play that is ended there is one made of choices alone that ends alike
 pub early_ends : (casts : List ActorSpec) (plans : ℕ → List Step) (late : At) → IsPlay casts plans late → IsEnded plans late
     → (early : At) × IsEarly casts plans early × EndsAlike plans early late.history
 early_ends casts plans late play ended =

@@ -15,6 +15,7 @@ use Rattle.act_early.proofs.Searching.{is_seen, both_of, reached}
 
 -- ---- lists
 
+-- lists of kept answers are the same where they are of one length and keep the same for each future
 pub same_kept : (xs ys : List (Option Answer)) → length xs ≡ length ys → ((k : ℕ) → kept_at xs k ≡ kept_at ys k) → xs ≡ ys
 same_kept [] [] long at = refl
 same_kept [] (y ∷ ys) long at = absurd (omega (arith, long))
@@ -44,6 +45,7 @@ length-enumerate_from n (x ∷ xs) = ap suc (length-enumerate_from (n + 1) xs)
 kept_size : (c : ℕ) (h : History) → length (kept_of c h) ≡ length (calls_of c h)
 kept_size c h = length-map (enumerate_from 0 (calls_of c h)) (first_answer h c) ∙ length-enumerate_from 0 (calls_of c h)
 
+-- where a caller made the same calls in two histories, its lists of kept answers are of one length
 pub kept_long : (c : ℕ) (h g : History) → calls_of c h ≡ calls_of c g → length (kept_of c h) ≡ length (kept_of c g)
 kept_long c h g same = kept_size c h ∙ ap (λ (l : List Submission). length l) same ∙ sym (kept_size c g)
 
@@ -116,6 +118,7 @@ ends_alike casts plans early late both r ended f = record {
         let cast : is_some (cast_of a early.history) ≡ true = ap (λ (o : Option ActorSpec). is_some o) (same_cast a) ∙ both.late.cast a retired in
         rw (cast, live a retired, drained a retired) refl
 
+-- for each ended play that loses replies only where it may, a whole search has seen a play that ends alike
 pub enough : (casts : List ActorSpec) (plans : ℕ → List Step) (may_lose : ℕ → Bool) (Seen : At → Type 0) (late : At)
     → IsWholeSearch casts plans may_lose Seen → IsPlay casts plans late → IsEnded plans late → LosesOnly may_lose late.history
     → (early : At) × Seen early × EndsAlike plans early late.history

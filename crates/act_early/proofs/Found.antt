@@ -18,6 +18,7 @@ listed casts plans events ok keeps over =
     let at = list_play casts plans events ok keeps in
     (at.0, record { play = at.1; is = at.2; ended = record { done = at.3; over = subst IsOver (sym at.2) over } })
 
+-- a whole search has seen an end like that of accepted events that keep to plans, are over and lose only what may be
 pub found : (casts : List ActorSpec) (plans : ℕ → List Step) (may_lose : ℕ → Bool) (seen : List At) (events : List Event)
     → IsWholeSearch casts plans may_lose (Contains seen) → All IsOk (outcomes (opening casts) events) → KeepsToPlans casts plans events
     → IsOver (history casts events) → LosesOnly may_lose (history casts events)

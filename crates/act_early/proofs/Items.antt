@@ -11,6 +11,7 @@ pub record IsReady (a c : ℕ) (h : History) (item : RunItem) : Type 0 where
   pub next : IsNext a c h item
   pub known : list_all (is_known (kept_of c h)) next.call.1.args ≡ true
 
+-- in a sound history the call that an actor runs next for a caller is ready: its arguments are known
 pub ready : (a c : ℕ) (h : History) (item : RunItem) → IsSound h → next_item a c h ≡ Some item → IsReady a c h item
 ready a c h item sound e = record { next = next; known = subst (λ (call : ℕ × Submission). list_all (is_known (kept_of c h)) call.1.args ≡ true) same letter.2 }
   where
@@ -59,6 +60,7 @@ runs_next a c play early call front at =
 some_same : {A : Type 0} (x y : A) → Some x ≡ Some y → x ≡ y
 some_same x y e = cc
 
+-- where the early play has the play's runs, and a caller's calls and answers, this caller's next run is the ready one
 pub same_item : (a c : ℕ) (play early : History) (item other : RunItem) → IsSound early → IsReady a c play item → IsPrefix (runs_of a play) (runs_of a early)
     → IsPrefix (calls_of c play) (calls_of c early) → Extends (kept_of c play) (kept_of c early)
     → slice_get (runs_of a early) (length (runs_of a play)) ≡ Some other → other.caller ≡ c → other ≡ item

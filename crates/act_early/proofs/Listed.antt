@@ -5,10 +5,12 @@ use Rattle.act_early.proofs.Worlds.{or_second}
 
 -- ---- all callers and all actors
 
+-- the callers that the casts name, cast by cast; one that two casts name is there twice
 abbrev pub all_callers : List ActorSpec → List ℕ
 all_callers [] = []
 all_callers (cast ∷ casts) = cast.callers ++ all_callers casts
 
+-- the actors of all casts, in order
 abbrev pub all_actors : List ActorSpec → List ℕ
 all_actors casts = map (λ (cast : ActorSpec). cast.actor) casts
 
@@ -55,6 +57,7 @@ actor_listed c a (cast ∷ casts) e = go (cast.actor == a) (actor_listed c a cas
     go true rest e = refl
     go false rest e = rest e
 
+-- what holds of each number of a list holds of any number that the list contains
 pub all_listed : (P : ℕ → Type 0) (xs : List ℕ) (x : ℕ) → AllByRecursion P xs → contains x xs ≡ true → P x
 all_listed P [] x all e = cc
 all_listed P (y ∷ xs) x all e = go (y == x) refl (all_listed P xs x all.1) e
@@ -76,9 +79,11 @@ pub record IsWay (specs : List ActorSpec) (plans : ℕ → List Step) (Goes : At
   pub joins : (p q r : At) → Goes p q → Goes q r → Goes p r
   pub opens : (p q : At) → Goes p q → IsOpen specs plans q
 
+-- one can go on from there, in this way, to a play of which this holds
 abbrev pub Comes : (At → At → Type 0) → (At → Type 0) → At → Type 0
 Comes Goes P p = (q : At) × Goes p q × P q
 
+-- if from any open play one can go on to where this holds of a number, and it stays so, one can for a whole list
 pub for_each : (specs : List ActorSpec) (plans : ℕ → List Step) (Goes : At → At → Type 0) (P : At → ℕ → Type 0) → IsWay specs plans Goes
     → ((p q : At) → Goes p q → (x : ℕ) → P p x → P q x) → ((p : At) → IsOpen specs plans p → (x : ℕ) → Comes Goes (λ q. P q x) p)
     → (xs : List ℕ) (p : At) → IsOpen specs plans p → Comes Goes (λ q. AllByRecursion (P q) xs) p

@@ -281,6 +281,7 @@ all_on specs plans before (other ∷ events) p play is ok left =
     (subst (λ (g : History). All IsOk (outcomes g events)) (sym (one_after specs before other)) rest) one.1.left in
     (next.0, record { play = next.1.play; is = next.1.is ∙ ap (history specs) (append_assoc before (other ∷ []) events); done = next.1.done })
 
+-- accepted events that keep to plans are a play of these plans, and each plan is done
 pub list_play : (casts : List ActorSpec) (plans : ℕ → List Step) (events : List Event) → All IsOk (outcomes (opening casts) events)
     → KeepsToPlans casts plans events
     → (at : At) × IsPlay casts plans at × (at.history ≡ history casts events) × ((c : ℕ) → next_step plans c at ≡ None)

@@ -25,9 +25,11 @@ pub record IsAhead (play early : At) : Type 0 where
 
 -- ---- what follows of being ahead
 
+-- what a function gives of a prefix is a prefix of what it gives of the whole list
 pub IsPrefix-filter_map : {A B : Type 0} (f : A → Option B) (xs ys : List A) → IsPrefix xs ys → IsPrefix (filter_map f xs) (filter_map f ys)
 IsPrefix-filter_map f xs ys p = (filter_map f p.0, sym (filter_map-append f xs p.0) ∙ ap (filter_map f) p.1)
 
+-- where a caller follows its plan in two plays, its calls in the one where it isn't further are a prefix of the other's
 pub calls_ahead : (plans : ℕ → List Step) (c : ℕ) (play early : At) → Follows plans c play → Follows plans c early → steps_of c play ≤ steps_of c early
     → IsPrefix (calls_of c play.history) (calls_of c early.history)
 calls_ahead plans c play early f g le =
@@ -52,6 +54,7 @@ dead_ahead a play early late m ahead dead =
 
 -- ---- what was heard
 
+-- the choice at the place of a run is the run's caller, and whether its reply was kept
 pub choice_at : (h : History) (a place : ℕ) (item : RunItem) → slice_get (runs_of a h) place ≡ Some item
     → slice_get (choices_of a h) place ≡ Some (item.caller, is_heard h item)
 choice_at h a place item at = slice_get-map (λ (i : RunItem). (i.caller, is_heard h i)) (runs_of a h) place
@@ -175,6 +178,7 @@ death_ahead specs plans play early late c k w m ahead e = go (is_reply (Some som
     go true alive = absurd (none alive)
     go false died = some.1 ∙ ap (λ (x : Answer). Some x) (reply_died some.0 died)
 
+-- where the play matches the early and the late one, and the early one is ahead, this keeps each answer of the play
 pub kept_ahead : (specs : List ActorSpec) (plans : ℕ → List Step) (play early late : At) (c : ℕ) → AreWorlds specs plans play early late
     → Matches play.history early.history late.history → IsAhead play early
     → Extends (kept_of c play.history) (kept_of c early.history)

@@ -137,6 +137,7 @@ opened_none : (x : Bool) (P : Type 0) → cond x (Some ((1 + 0) - 0)) None ≡ S
 opened_none true P e = cc
 opened_none false P e = cc
 
+-- in a play of plans a caller that released all its copies of a handle sent its note, which counts its calls there
 pub notes_sent : (casts : List ActorSpec) (plans : ℕ → List Step) (p : At) → IsPlay casts plans p → NotesSent p.history
 notes_sent casts plans p play = play_keeps NotesSent notes_sent_step casts plans p
     (λ c a e. opened_none (names c (cast_of a (opening casts))) (has_letter (NoteLetter c a 0) [] ≡ true) e) play

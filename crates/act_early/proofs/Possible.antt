@@ -36,6 +36,7 @@ lives plans a play early r quiescent live =
 same_cast : (a : ℕ) (play early : At) → IsReached a play early → cast_of a early.history ≡ cast_of a play.history
 same_cast a play early r = ap (λ (l : List ActorSpec). find (λ (cast : ActorSpec). cast.actor == a) l) r.casts
 
+-- a run that isn't refused in the play isn't refused in a quiescent play that has reached it at the actor
 pub may_run : (plans : ℕ → List Step) (a c : ℕ) (play early : At) → IsReached a play early → IsQuiescent plans early
     → refusal_of play.history (event.Run a c) ≡ None → refusal_of early.history (event.Run a c) ≡ None
 may_run plans a c play early r quiescent e =
@@ -45,6 +46,7 @@ may_run plans a c play early r quiescent e =
     let named : names c (cast_of a early.history) ≡ true = ap (λ (o : Option ActorSpec). names c o) (same_cast a play early r) ∙ needed.1 in
     rw (caller, named, lives plans a play early r quiescent needed.2) refl
 
+-- what a living actor is ready to run in the play is next in a sound quiescent play that has reached it there
 pub runs_alike : (plans : ℕ → List Step) (a c : ℕ) (item : RunItem) (play early : At) → IsSound early.history → IsReached a play early
     → IsQuiescent plans early → is_ended a play.history ≡ false → IsReady a c play.history item → next_item a c early.history ≡ Some item
 runs_alike plans a c item play early sound r quiescent live is =
@@ -97,6 +99,7 @@ any_front p xs ys f e = subst (λ (l : List Step). list_any p l ≡ true) f.1 (l
     first true y e = refl
     first false y e = cc
 
+-- an actor whose kill isn't refused in the play isn't refused it in a quiescent play that has reached it there
 pub may_kill : (specs : List ActorSpec) (plans : ℕ → List Step) (a : ℕ) (play early : At) → IsPlay specs plans play → IsPlay specs plans early
     → IsReached a play early → IsQuiescent plans early
     → refusal_of play.history (event.TakeKill a) ≡ None → refusal_of early.history (event.TakeKill a) ≡ None

@@ -9,6 +9,7 @@ use Rattle.act_early.proofs.Counting.{done_steps, done-push, other_next}
 
 -- ---- what steps say
 
+-- the call that a step submits, where it submits one
 abbrev pub submission_in : Step → Option Submission
 submission_in (Submit a method args) = Some (record { actor = a; method = method; args = args })
 submission_in (Copy a) = None
@@ -16,6 +17,7 @@ submission_in (Release a) = None
 submission_in (Kill a) = None
 submission_in (Await k) = None
 
+-- whether the step copies the actor's handle
 abbrev pub is_copy_of : ℕ → Step → Bool
 is_copy_of a (Submit b method args) = false
 is_copy_of a (Copy b) = b == a
@@ -23,6 +25,7 @@ is_copy_of a (Release b) = false
 is_copy_of a (Kill b) = false
 is_copy_of a (Await k) = false
 
+-- whether the step releases a copy of the actor's handle
 abbrev pub is_release_of : ℕ → Step → Bool
 is_release_of a (Submit b method args) = false
 is_release_of a (Copy b) = false
@@ -48,6 +51,7 @@ no_call : (calls : List Submission) (x : Bool) (step : Step) → submission_in s
 no_call calls false step e = sym (append-nil calls)
 no_call calls true step e = rw e (sym (append-nil calls))
 
+-- to a caller's calls a step adds its call, at the end, if it is this caller's and submits one, and else none
 pub submitted_one : (c d : ℕ) (step : Step) (h : History)
     → calls_of d (after_step c step h) ≡ calls_of d h ++ filter_map submission_in (cond (c == d) (step ∷ []) [])
 submitted_one c d (Submit a method args) h = under-push d c h.submitted (record { actor = a; method = method; args = args }) ∙ go (c == d)
@@ -61,6 +65,7 @@ submitted_one c d (Release a) h = no_call (calls_of d h) (c == d) (Release a) re
 submitted_one c d (Kill a) h = no_call (calls_of d h) (c == d) (Kill a) refl
 submitted_one c d (Await k) h = no_call (calls_of d h) (c == d) (Await k) refl
 
+-- to the copies that a caller made of a handle a step adds one if it is this caller's and copies that, else none
 pub copied_one : (c d a : ℕ) (step : Step) (h : History)
     → count_pairs d a (after_step c step h).copied ≡ count_pairs d a h.copied + length (filter (is_copy_of a) (cond (c == d) (step ∷ []) []))
 copied_one c d a (Submit b method args) h = no_pair _ (c == d) (is_copy_of a) (Submit b method args) refl
@@ -70,6 +75,7 @@ copied_one c d a (Release b) h = no_pair _ (c == d) (is_copy_of a) (Release b) r
 copied_one c d a (Kill b) h = no_pair _ (c == d) (is_copy_of a) (Kill b) refl
 copied_one c d a (Await k) h = no_pair _ (c == d) (is_copy_of a) (Await k) refl
 
+-- to the copies that a caller released of a handle a step adds one if it is this caller's and releases that, else none
 pub released_one : (c d a : ℕ) (step : Step) (h : History)
     → count_pairs d a (after_step c step h).released ≡ count_pairs d a h.released + length (filter (is_release_of a) (cond (c == d) (step ∷ []) []))
 released_one c d a (Submit b method args) h = no_pair _ (c == d) (is_release_of a) (Submit b method args) refl
@@ -87,6 +93,7 @@ pub record IsIdle (h g : History) : Type 0 where
   pub released : g.released ≡ h.released
   pub asked : g.asked ≡ h.asked
 
+-- an event that is no caller's step submits, copies and releases nothing, and asks no kill
 pub free_idle : (h : History) (other : Event) → is_free other ≡ true → IsIdle h (add_event h other)
 free_idle h (event.Submit c a method args) free = cc
 free_idle h (event.Copy c a) free = cc
@@ -171,6 +178,7 @@ idle_follows plans d at g idle f = record {
   released = rw idle.released f.released;
 }
 
+-- in a play of plans each caller made the calls and copies of its done steps, and, until its plan is done, the releases
 pub follows : (casts : List ActorSpec) (plans : ℕ → List Step) (at : At) → IsPlay casts plans at → (d : ℕ) → Follows plans d at
 follows casts plans at Opens d = record { calls = refl; copied = λ a. refl; released = λ a step next. refl }
 follows casts plans at (Takes before c step play is may) d = taken_follows plans c d step before is (follows casts plans before play d)

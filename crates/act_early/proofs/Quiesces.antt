@@ -19,6 +19,7 @@ pub record Quiesces (specs : List ActorSpec) (plans : ℕ → List Step) (p q : 
   pub collected : IsPrefix p.history.collected q.history.collected
   pub arrived : IsPrefix p.history.arrived q.history.arrived
 
+-- a play in which no actor retired goes on to itself without a choice
 pub quiesces_same : (specs : List ActorSpec) (plans : ℕ → List Step) (p : At) → IsPlay specs plans p → p.history.retired ≡ [] → Quiesces specs plans p p
 quiesces_same specs plans p play live = record {
   play = play;
@@ -31,6 +32,7 @@ quiesces_same specs plans p play live = record {
   arrived = whole_front p.history.arrived;
 }
 
+-- to go on without a choice, and then once more, is to go on without a choice
 pub quiesces_trans : (specs : List ActorSpec) (plans : ℕ → List Step) (p q r : At) → Quiesces specs plans p q → Quiesces specs plans q r → Quiesces specs plans p r
 quiesces_trans specs plans p q r one two = record {
   play = two.play;
@@ -96,6 +98,7 @@ quiet_quiesces specs plans other p q play live e is goes =
       arrived = grows.arrived;
     })
 
+-- while no actor retired, to take a plan's next step, where it may be taken, is to go on without a choice
 pub step_quiesces : (specs : List ActorSpec) (plans : ℕ → List Step) (c : ℕ) (step : Step) (p : At) → IsPlay specs plans p → p.history.retired ≡ []
     → next_step plans c p ≡ Some step → MayTake c step p.history → Quiesces specs plans p (taken c step p)
 step_quiesces specs plans c (Submit a method args) p play live next may =
@@ -118,6 +121,7 @@ step_quiesces specs plans c (Await k) p play live next may = record {
   arrived = whole_front p.history.arrived;
 }
 
+-- while no actor retired, to leave out a next step that kills one's dead actor is to go on without a choice
 pub skip_quiesces : (specs : List ActorSpec) (plans : ℕ → List Step) (c a : ℕ) (p : At) → IsPlay specs plans p → p.history.retired ≡ []
     → next_step plans c p ≡ Some (Kill a) → names c (cast_of a p.history) ≡ true → is_dead a p.history ≡ true → Quiesces specs plans p (skipped c p)
 skip_quiesces specs plans c a p play live next named dead = record {

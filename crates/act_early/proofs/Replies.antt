@@ -8,10 +8,12 @@ use Rattle.act_rules.specs.declared.history.Post.TheVariants.{Death as DeathPost
 
 -- ---- replies
 
+-- where there is a reply there is an answer
 pub reply_some : (o : Option Answer) → is_reply o ≡ true → (answer : Answer) × (o ≡ Some answer)
 reply_some None e = cc
 reply_some (Some answer) e = (answer, refl)
 
+-- an answer that is a reply isn't a death
 pub reply_alive : (answer : Answer) → is_reply (Some answer) ≡ true → answer ≢ Err ActorDied
 reply_alive answer e died = let bad : is_reply (Some (Err ActorDied)) ≡ true = subst (λ (x : Answer). is_reply (Some x) ≡ true) died e in cc
 
@@ -29,6 +31,7 @@ fault_died (Dependency k) e = cc
 fault_died ActorDied e = refl
 fault_died (Own name) e = cc
 
+-- an answer that is no reply is a death
 pub reply_died : (answer : Answer) → is_reply (Some answer) ≡ false → answer ≡ Err ActorDied
 reply_died (Ok value) e = cc
 reply_died (Err fault) e = ap (λ (f : Fault). Err f) (fault_died fault e)
@@ -83,6 +86,7 @@ front_whole {A = A} xs ys f short = go f.0 refl
     go (x ∷ rest) e = let bad : length xs + length (x ∷ rest) ≤ length xs =
         subst (λ (r : List A). length xs + length r ≤ length xs) e long in absurd (omega arith)
 
+-- a prefix is no longer than the whole list
 pub front_short : {A : Type 0} (xs ys : List A) → IsPrefix xs ys → length xs ≤ length ys
 front_short {A = A} xs ys f = let sum : length (xs ++ f.0) ≡ length xs + length f.0 =
     length-append xs f.0 in subst (λ (l : List A). length xs ≤ length l) f.1 (omega arith)

@@ -78,6 +78,7 @@ same_truth true y f g = sym (f refl)
 same_truth false true f g = g refl
 same_truth false false f g = refl
 
+-- where a quiescent play ends as an ended one did, there is an ended play with just that end, who retired included
 pub retired_play : (casts : List ActorSpec) (plans : ℕ → List Step) (early late : At) → IsPlay casts plans early → IsQuiescent plans early
     → IsPlay casts plans late → IsEnded plans late → EndsAlike plans early late.history
     → (end : At) × IsPlay casts plans end × IsEnded plans end × IsSameEnd end.history late.history

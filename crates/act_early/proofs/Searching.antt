@@ -44,6 +44,7 @@ pub is_ahead : (specs : List ActorSpec) (plans : ℕ → List Step) (play early 
     → IsEarlier play.history late.history → Exactly play early late.history → IsAhead play early
 is_ahead specs plans play early late is both before x = ahead specs plans early late both play is (matches play early late.history before x)
 
+-- a quiescent play with exactly the choices of a front of the late one has reached that front at each actor
 pub reached : (specs : List ActorSpec) (plans : ℕ → List Step) (play early late : At) → IsPlay specs plans play → AreBoth specs plans early late
     → IsEarlier play.history late.history → Exactly play early late.history → (a : ℕ) → IsReached a play early
 reached specs plans play early late is both before x a = record {

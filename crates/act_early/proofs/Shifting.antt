@@ -34,18 +34,23 @@ collected_after casts before other post has =
 
 -- ---- lists
 
+-- lists that are the same have the same first item
 pub head_same : {A : Type 0} (x y : A) (xs ys : List A) → ◌≡◌ {A = List A} (x ∷ xs) (y ∷ ys) → x ≡ y
 head_same x y xs ys e = cc
 
+-- lists that are the same have the same items behind the first
 pub tail_same : {A : Type 0} (x y : A) (xs ys : List A) → ◌≡◌ {A = List A} (x ∷ xs) (y ∷ ys) → xs ≡ ys
 tail_same x y xs ys e = cc
 
+-- where none of some events is a step of the caller's, none of those behind the first is
 pub others_rest : (c : ℕ) (other : Event) (events : List Event) → AreOthers c (other ∷ events) → AreOthers c events
 others_rest c other events all i d within = all (suc i) d (omega arith)
 
+-- where none of some events is a step of the caller's, the first of them isn't
 pub others_first : (c : ℕ) (other : Event) (events : List Event) → AreOthers c (other ∷ events) → is_step_by c other ≡ false
 others_first c other events all = all 0 other (omega arith)
 
+-- an empty list of events has none of a caller's steps
 pub none_others : (c : ℕ) → AreOthers c []
 none_others c i d within = absurd (omega arith)
 

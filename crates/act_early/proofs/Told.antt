@@ -41,6 +41,7 @@ stage_alike a one other casts dead retired runs =
     ∙ ap (λ (b : Bool). stage_from (cast_of a other) (is_dead a other) b (runs_of a one)) retired
     ∙ ap (λ (items : List RunItem). stage_from (cast_of a other) (is_dead a other) (is_retired a other) items) runs
 
+-- histories with the same casts and the same end have the same summary
 pub same_told : (one other : History) → one.casts ≡ other.casts → IsSameEnd one other → summary one ≡ summary other
 same_told one other casts same =
     told_alike one other same.calls same.kept (λ a _ _. stage_alike a one other casts (same.dead a) (same.retired a) (same.runs a)) same.runs
@@ -84,6 +85,7 @@ named_actor a (cast ∷ casts) e = go (cast.actor == a) (named_actor a casts) e
 pub at_rest : (h : History) → AllEnded (record h { retired = map (λ cast. cast.actor) h.casts })
 at_rest h a low high there = or_second (is_dead a h) (contains a (map (λ cast. cast.actor) h.casts)) (named_actor a h.casts there)
 
+-- where a play ends as an ended one did, the same is told of it, once its actors retired, as of that one
 pub alike_told : (casts : List ActorSpec) (plans : ℕ → List Step) (early late : At) → IsPlay casts plans early → IsPlay casts plans late → IsEnded plans late
     → EndsAlike plans early late.history → told_at_rest early.history ≡ summary late.history
 alike_told casts plans early late play goes ended ends =

@@ -27,6 +27,7 @@ numbered_from a m (x ∷ xs) n call e = go (x.actor == a) refl n (λ (i : ℕ). 
     go true is (suc n) rest e = let r = rest n e in record { place = suc r.place; is = r.is ∙ omega arith; number = rw is (ap suc r.number) }
     go false is n rest e = let r = rest n e in record { place = suc r.place; is = r.is ∙ omega arith; number = rw is r.number }
 
+-- a call's number is its place among its caller's calls to the actor
 pub number_is : (a n : ℕ) (calls : List Submission) (call : ℕ × Submission) → slice_get (calls_to a calls) n ≡ Some call → number_of a call.0 calls ≡ n
 number_is a n calls call e =
     let r = numbered_from a 0 calls n call e in

@@ -113,6 +113,7 @@ submit_alike c a method args h g same extends e =
     allowed : (b : Bool) (o p : Option SubmitRefusal) → b ≡ true → o ≡ None → p ≡ None → needs b NoCaller (option_map SubmitRefused (option_or o p)) ≡ None
     allowed b o p x y z = rw (x, y, z) refl
 
+-- a caller still may take a step where its calls, copies and limits are the same and its kept answers stay
 pub may_take : (c : ℕ) (step : Step) (h g : History) → IsAlike c h g → Extends (kept_of c h) (kept_of c g) → MayTake c step h → MayTake c step g
 may_take c (Submit a method args) h g same extends may = submit_alike c a method args h g same extends may
 may_take c (Copy a) h g same extends may = copy_alike c a h g same may

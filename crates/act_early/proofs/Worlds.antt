@@ -9,6 +9,7 @@ use Rattle.act_rules.specs.declared.event.Event.TheVariants as event
 
 -- ---- what each event keeps holds of every play
 
+-- what each accepted event keeps is kept by a step that the caller may take
 pub step_keeps : (P : History → Type 0) → IsKept P → (c : ℕ) (step : Step) (h : History) → P h → MayTake c step h → P (after_step c step h)
 step_keeps P kept c (Submit a method args) h held may = kept h (event.Submit c a method args) held may
 step_keeps P kept c (Copy a) h held may = kept h (event.Copy c a) held may
@@ -16,6 +17,7 @@ step_keeps P kept c (Release a) h held may = kept h (event.Release c a) held may
 step_keeps P kept c (Kill a) h held may = kept h (event.AskKill c a) held may
 step_keeps P kept c (Await k) h held may = held
 
+-- what holds of the world as it is opened, and each accepted event keeps, holds after each play of plans
 pub play_keeps : (P : History → Type 0) → IsKept P → (casts : List ActorSpec) (plans : ℕ → List Step) (at : At) → P (opening casts) → IsPlay casts plans at
     → P at.history
 play_keeps P kept casts plans at first Opens = first
@@ -28,6 +30,7 @@ play_keeps P kept casts plans at first (Happens before other play free may) = ke
 
 -- ---- a retired actor isn't dead
 
+-- a pushed list contains what it contained before and the number pushed, and no other
 pub contains_push : (a b : ℕ) (xs : List ℕ) → contains a (xs ++ b ∷ []) ≡ (contains a xs || (b == a))
 contains_push a b xs = list_any-append (λ m. m == a) xs (b ∷ []) ∙ go (contains a xs) (b == a)
   where
@@ -36,14 +39,17 @@ contains_push a b xs = list_any-append (λ m. m == a) xs (b ∷ []) ∙ go (cont
     go false true = refl
     go false false = refl
 
+-- what follows of each of two tests holds where one of them passes
 pub either_of : (x y : Bool) (P : Type 0) → (x || y) ≡ true → (x ≡ true → P) → (y ≡ true → P) → P
 either_of true y P e f g = f refl
 either_of false y P e f g = g e
 
+-- one of two tests passes where the second does
 pub or_second : (x y : Bool) → y ≡ true → (x || y) ≡ true
 or_second true y e = refl
 or_second false y e = e
 
+-- an actor that may take a kill has a cast, hasn't ended, and its kill was asked
 pub take_needs : (h : History) (a : ℕ) → refusal_of h (event.TakeKill a) ≡ None
     → (is_some (cast_of a h) ≡ true) × (is_ended a h ≡ false) × (contains a h.asked ≡ true)
 take_needs h a e =
@@ -51,6 +57,7 @@ take_needs h a e =
     let second = needs-none (not (is_ended a h)) ActorEnded (needs (contains a h.asked) NoKill None) first.1 in
     (first.0, not-true (is_ended a h) second.0, (needs-none (contains a h.asked) NoKill None second.1).0)
 
+-- an actor that may retire has a cast, hasn't ended, and is drained
 pub retire_needs : (h : History) (a : ℕ) → refusal_of h (event.Retire a) ≡ None
     → (is_some (cast_of a h) ≡ true) × (is_ended a h ≡ false) × (is_drained a h ≡ true)
 retire_needs h a e =
@@ -58,6 +65,7 @@ retire_needs h a e =
     let second = needs-none (not (is_ended a h)) ActorEnded (needs (is_drained a h) NotDrained None) first.1 in
     (first.0, not-true (is_ended a h) second.0, (needs-none (is_drained a h) NotDrained None second.1).0)
 
+-- an actor that hasn't ended isn't dead
 pub not_dead : (a : ℕ) (h : History) → is_ended a h ≡ false → is_dead a h ≡ false
 not_dead a h e = go (is_dead a h) (is_retired a h) e
   where
@@ -151,6 +159,7 @@ world_step casts h other w accepted = record {
   cast = retired_cast_step h other w.cast accepted;
 }
 
+-- what a play of plans leaves is a world of its casts: sound, and what retired has a cast and isn't dead
 pub world : (casts : List ActorSpec) (plans : ℕ → List Step) (at : At) → IsPlay casts plans at → IsWorld casts at.history
 world casts plans at play = play_keeps (IsWorld casts) (world_step casts) casts plans at (record {
   sound = world_sound casts [];

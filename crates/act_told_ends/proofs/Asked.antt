@@ -62,6 +62,7 @@ did_released a p (Await k ∷ steps) = did_released a p steps
 
 -- ---- the kill
 
+-- where no two casts are of one actor, a bound caller in a walk can ask the kill that is next, if no step is refused
 pub can_ask : (casts : List ActorSpec) (bound : ℕ → Option (List Step)) (told : Told) (done : ℕ → ℕ) (h : History) (c a : ℕ) (steps : List Step)
     → AllPairs (λ one other. one.actor ≢ other.actor) casts → h.casts ≡ casts → IsWalk bound told done h → bound c ≡ Some steps
     → first_bad (actors_naming c casts) steps ≡ None → slice_get steps (done c) ≡ Some (Kill a) → refusal_of h (event.AskKill c a) ≡ None

@@ -128,6 +128,7 @@ late_found casts bound told events ends =
       played.2,
     )
 
+-- where some events end as is told, so does a play of plans, each plan done; a bound caller's plan is its steps
 pub late_play : (casts : List ActorSpec) (bound : ℕ → Option (List Step)) (told : Told) (events : List Event) → EndsAsTold casts bound told events
     → (plans : ℕ → List Step) × (late : At) × IsLate casts bound told plans late
 late_play casts bound told events ends = let found = late_found casts bound told events ends in (found.0, found.1, found.2)

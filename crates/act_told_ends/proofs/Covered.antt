@@ -97,6 +97,7 @@ bound_calls casts bound told done plans late g p c steps s play is le =
     (subst (λ (l : List Submission). IsPrefix (filter_map submission_of (take (steps_of c p) steps)) l) (sym first.calls)
     (IsPrefix-filter_map submission_of (take (steps_of c p) steps) (take (done c) steps) (take-prefix steps (steps_of c p) (done c) le)))
 
+-- a caller's calls in the play are a prefix of those in the walk that did all that the play did
 pub calls_covered : (casts : List ActorSpec) (bound : ℕ → Option (List Step)) (told : Told) (done : ℕ → ℕ) (plans : ℕ → List Step) (late : At) (g : History)
     (p : At) (c : ℕ) → IsAt casts bound told done plans late g p → IsPrefix (calls_of c p.history) (calls_of c g)
 calls_covered casts bound told done plans late g p c at = go (bound c) refl
@@ -106,6 +107,7 @@ calls_covered casts bound told done plans late g p c at = go (bound c) refl
         (at.setting.walk.calls c) (at.covered.calls c e)
     go (Some steps) e = bound_calls casts bound told done plans late g p c steps at.setting at.play e (at.covered.steps c steps e)
 
+-- an actor's run list in the play is a prefix of that in the walk that did all that the play did
 pub runs_covered : (casts : List ActorSpec) (bound : ℕ → Option (List Step)) (told : Told) (done : ℕ → ℕ) (plans : ℕ → List Step) (late : At) (g : History)
     (p : At) (a : ℕ) → IsAt casts bound told done plans late g p → IsPrefix (runs_of a p.history) (runs_of a g)
 runs_covered casts bound told done plans late g p a at = front_of_front (runs_of a p.history) (runs_of a g) (told.runs a)
@@ -154,6 +156,7 @@ dead_covered casts bound told done plans late g p a at dead =
 
 -- ---- the same casts
 
+-- an actor's cast is the same in two worlds of the same casts
 pub cast_same : (casts : List ActorSpec) (a : ℕ) (h g : History) → IsWorld casts h → IsWorld casts g → cast_of a g ≡ cast_of a h
 cast_same casts a h g w v = ap (λ (l : List ActorSpec). find (λ (cast : ActorSpec). cast.actor == a) l) (v.casts ∙ sym w.casts)
 

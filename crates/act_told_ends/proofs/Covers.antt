@@ -18,6 +18,7 @@ use Rattle.act_told_ends.proofs.Later.{IsLater}
 use Rattle.act_told_ends.proofs.Covered.{IsCovered, runs_covered, dead_covered}
 use Rattle.act_told_ends.proofs.Going.{Case, Here, Goal, run_goes, kill_goes, submits, asks, steps_on, kill_asked}
 
+-- the walk did all that the play did so far, or may go on
 abbrev pub Near : Case → At → Type 0
 Near x q = IsCovered x.bound x.told x.done q x.g ⊎ Goal x
 

@@ -40,9 +40,11 @@ pub record Case : Type 0 where
   pub late : At
   pub g : History
 
+-- the play is there, on its way to the end that is told, and the walk did all that it did so far
 abbrev pub Here : Case → At → Type 0
 Here x p = IsAt x.casts x.bound x.told x.done x.plans x.late x.g p
 
+-- the walk may go on
 abbrev pub Goal : Case → Type 0
 Goal x = MayGoOn x.bound x.told x.done x.g
 

@@ -9,9 +9,11 @@ pub record IsLater (h g : History) : Type 0 where
   pub calls : (c : ℕ) → IsPrefix (calls_of c h) (calls_of c g)
   pub collected : IsPrefix h.collected g.collected
 
+-- a history counts as later than itself
 pub later_same : (h : History) → IsLater h h
 later_same h = record { early = earlier_same h; calls = λ c. whole_front (calls_of c h); collected = whole_front h.collected }
 
+-- if a second history is later than a first, and a third than the second, the third is later than the first
 pub later_trans : (f g h : History) → IsLater f g → IsLater g h → IsLater f h
 later_trans f g h one two = record {
   early = earlier_trans f g h one.early two.early;
@@ -19,6 +21,7 @@ later_trans f g h one two = record {
   collected = front_trans f.collected g.collected h.collected one.collected two.collected;
 }
 
+-- what an accepted event makes of a sound history is later than it
 pub later_event : (h : History) (other : Event) → IsSound h → refusal_of h other ≡ None → IsLater h (add_event h other)
 later_event h other sound may =
     let grows = added_grows h other in

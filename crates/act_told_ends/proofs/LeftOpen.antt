@@ -42,6 +42,7 @@ second_of (inr b) e = b
 abbrev pub is_replaced : Open → ℕ → ℕ → Bool
 is_replaced x c k = is_second ((x.stand c).1 k)
 
+-- of a call whose death is replaced a death is told, and what stands for it may have been the call's reply
 pub replaced : (x : Open) (c k : ℕ) → is_replaced x c k ≡ true → IsReplyForDeath x.casts x.told x.kept c k
 replaced x c k e = second_of ((x.stand c).1 k) e
 
@@ -84,6 +85,7 @@ more_put x xs ys p put more = record {
     nothing : (f : Post → Option Answer) → f p ≡ None → filter_map f ys ++ filter_map f (p ∷ []) ≡ filter_map f ys
     nothing f none = rw none (append-nil (filter_map f ys))
 
+-- the history, but with these posts as those that were collected
 abbrev pub with_collected : History → List Post → History
 with_collected h posts = record h { collected = posts }
 

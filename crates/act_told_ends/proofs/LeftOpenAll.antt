@@ -217,6 +217,7 @@ does_all x c (step ∷ steps) before events s (first, done, later, split, others
 
 -- ---- the law
 
+-- where some events end as is told, some end with any answers that may stand for those that are told
 pub may_be_replies : (casts : List ActorSpec) (bound : ℕ → Option (List Step)) (told : Told) (kept : ℕ → List (Option Answer)) (events : List Event)
     → EndsAsTold casts bound told events → MayStandForKept casts told kept → (others : List Event) × EndsAsTold casts bound (with_kept kept told) others
 may_be_replies casts bound told kept events ends stand = (

@@ -68,6 +68,7 @@ some_first {A = A} {B = B} f (w ∷ xs) (suc i) x y e gives = go (f w) (some_fir
 
 -- ---- the same test, the same choice
 
+-- tests that always agree keep the same items of a list
 pub filter_alike : {A : Type 0} (p q : A → Bool) (xs : List A) → ((x : A) → p x ≡ q x) → filter p xs ≡ filter q xs
 filter_alike p q [] same = refl
 filter_alike {A = A} p q (x ∷ xs) same = ap (λ (b : Bool). cond b (x ∷ filter p xs) (filter p xs)) (same x)

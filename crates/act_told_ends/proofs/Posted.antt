@@ -13,6 +13,7 @@ use Rattle.act_told_ends.proofs.Lists.{push_at, first_in, some_first}
 
 -- ---- each run has its reply posted
 
+-- of each call that an actor ran, the reply is posted to its caller
 abbrev pub RunsPosted : History → Type 0
 RunsPosted h = (a place : ℕ) (item : RunItem) → slice_get (runs_of a h) place ≡ Some item → Contains h.posts (ReplyPost item.caller a place)
 
@@ -50,6 +51,7 @@ run_posted h b c item posted mine a place other at = go (b == a) refl (sym (ap (
             ∙ ap (ReplyPost other.caller a) (sym last.0) in
             subst (λ (p : Post). Contains (h.posts ++ new ∷ []) p) post (Contains-append_right h.posts (new ∷ []) new (0, omega arith, refl))
 
+-- each accepted event keeps that of each call that ran the reply is posted
 pub posted_step : IsKept RunsPosted
 posted_step h (event.Run b c) posted may = go (next_item b c h) refl
   where
@@ -67,6 +69,7 @@ posted_step h (event.TakeKill a) posted may = posted
 posted_step h (event.Tell a c) posted may = more_posted h (add_event h (event.Tell a c)) posted refl (added_grows h (event.Tell a c)).posts
 posted_step h (event.Retire a) posted may = posted
 
+-- whatever events leave, of each call that ran the reply is posted
 pub all_posted : (casts : List ActorSpec) (events : List Event) → RunsPosted (history casts events)
 all_posted casts events = after_all_keeps RunsPosted posted_step (opening casts) events (λ a place item e. cc)
 
@@ -76,6 +79,7 @@ named_cast : (c : ℕ) (o : Option ActorSpec) → contains c (callers_in o) ≡ 
 named_cast c None e = cc
 named_cast c (Some cast) e = (cast, refl)
 
+-- in a sound history whose casts name all who call, a caller that collected its call's reply keeps an answer for it
 pub reply_answers : (h : History) (c a place : ℕ) (item : RunItem) (i : ℕ) → IsSound h → AllNamed h → slice_get h.collected i ≡ Some (ReplyPost c a place)
     → slice_get (runs_of a h) place ≡ Some item → item.caller ≡ c → (answer : Answer) × (kept_at (kept_of c h) item.future ≡ Some answer)
 reply_answers h c a place item i sound names_all has at mine =
@@ -133,6 +137,7 @@ replied h c k b i d a place answer s at gives =
     alive None e = cc
     alive (Some state) e = is_alive answer (answer_alive state (runs_of a h) place answer e)
 
+-- in a sound history an answer that is kept came by a collected reply, or by the collected death of the call's actor
 pub came_by : (h : History) (c k : ℕ) (answer : Answer) → IsSound h → kept_at (kept_of c h) k ≡ Some answer → CameBy h c k answer
 came_by h c k answer sound e = go (slice_get (calls_of c h) k) refl (sym (kept_at_is h c k) ∙ e)
   where

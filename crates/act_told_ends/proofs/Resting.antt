@@ -99,6 +99,7 @@ near_end casts bound told events h ends (Through done g walked through) = record
 }
 near_end casts bound told events h ends (Rests g thing rest) = rest_more casts told g thing (near_end casts bound told events g ends rest)
 
+-- where some events end as is told, a walk at rest is at that end, or may do more for an actor that is told retired
 pub at_the_end : (casts : List ActorSpec) (bound : ℕ → Option (List Step)) (told : Told) (events : List Event) (h : History)
     → EndsAsTold casts bound told events → IsResting casts bound told h → IsEndTold told h ⊎ MayRetire told h
 at_the_end casts bound told events h ends rest = subst (λ (g : History). IsEndTold told g ⊎ MayRetire told g) (sym near.left.left) (go near_there)

@@ -142,6 +142,7 @@ cast_listed a (cast ∷ casts) e = go (cast.actor == a) (cast_listed a casts) e
     go true rest e = refl
     go false rest e = rest e
 
+-- where some events end as is told, others that leave this, with none retired but those told, end so or may go on
 pub retire_on : (casts : List ActorSpec) (bound : ℕ → Option (List Step)) (told : Told) (events walk : List Event)
     → EndsAsTold casts bound told events → All IsOk (outcomes (opening casts) walk) → Leaves told (history casts walk)
     → ((a : ℕ) → is_retired a (history casts walk) ≡ true → told.retired a ≡ true)

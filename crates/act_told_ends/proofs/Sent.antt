@@ -66,6 +66,7 @@ run_sent h b c item sent next = record { arrived = sent.arrived; ran = ran }
             either (inr last) = subst (λ (i : RunItem). has_letter (CallLetter i.caller a i.number) h.mail ≡ true) (sym last.1)
                 (subst (λ (x : ℕ). has_letter (CallLetter item.caller x item.number) h.mail ≡ true) (eqb-true b a is) own)
 
+-- each accepted event keeps that the letters that arrived, and those of the calls that ran, were sent
 pub sent_step : IsKept AreSent
 sent_step h (event.Run b c) sent may = go (next_item b c h) refl
   where

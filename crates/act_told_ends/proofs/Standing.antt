@@ -41,6 +41,7 @@ first_ok h other events ok = accepted_none h other (ok 0 (outcome_of h other) (o
 pub rest_ok : (h : History) (other : Event) (events : List Event) → All IsOk (outcomes h (other ∷ events)) → All IsOk (outcomes (after h other) events)
 rest_ok h other events ok = λ i d within. ok (suc i) d (omega arith)
 
+-- an event that isn't refused leaves the history with what it adds
 pub after_is : (h : History) (other : Event) → refusal_of h other ≡ None → after h other ≡ add_event h other
 after_is h other may = ap (after_by h other) may
 
@@ -282,6 +283,7 @@ does_all x c (step ∷ steps) before events own s (first, done, later, split, ot
 
 -- ---- the law
 
+-- where some events end as is told, some end with any calls that may stand for those that are told
 pub may_stand : (casts : List ActorSpec) (bound : ℕ → Option (List Step)) (told : Told) (calls : ℕ → List Submission) (events : List Event)
     → EndsAsTold casts bound told events → MayStandFor bound told calls → (others : List Event) × EndsAsTold casts bound (with_calls calls told) others
 may_stand casts bound told calls events ends stand = (

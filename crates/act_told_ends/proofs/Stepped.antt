@@ -397,12 +397,14 @@ going casts bound told plans late done h l (Brings before g i may walked) =
     let w = going casts bound told plans late before g l walked in
     quiet_going casts bound told before g (event.Deliver i) w refl may refl refl refl (still_killed casts bound told before g w)
 
+-- where some events end as is told, a walk of nothing but what may be done next, and letters, did only what is told
 pub is_one : (casts : List ActorSpec) (bound : ℕ → Option (List Step)) (told : Told) (events : List Event) (done : ℕ → ℕ) (h : History)
     → EndsAsTold casts bound told events → IsWalked casts bound told done h → IsWalk bound told done h
 is_one casts bound told events done h ends walked =
     let found = late_play casts bound told events ends in
     (going casts bound told found.0 found.1 done h found.2 walked).walk
 
+-- where some events end as is told, a walk of nothing but what may be done next, and letters, is through or may go on
 pub goes_on : (casts : List ActorSpec) (bound : ℕ → Option (List Step)) (told : Told) (events : List Event) (done : ℕ → ℕ) (h : History)
     → EndsAsTold casts bound told events → IsWalked casts bound told done h → IsThrough bound told done h ⊎ MayGoOn bound told done h
 goes_on casts bound told events done h ends walked =
@@ -410,6 +412,7 @@ goes_on casts bound told events done h ends walked =
     let w = going casts bound told found.0 found.1 done h found.2 walked in
     stuck_in casts bound told done found.0 found.1 h found.2 w.walk w.world w.posted
 
+-- where a walk of nothing but what may be done next, and letters, is stuck and not through, no events end as is told
 pub refutes : (casts : List ActorSpec) (bound : ℕ → Option (List Step)) (told : Told) (done : ℕ → ℕ) (h : History) → IsWalked casts bound told done h
     → (IsThrough bound told done h → ⊥) → (MayGoOn bound told done h → ⊥) → (events : List Event) → EndsAsTold casts bound told events → ⊥
 refutes casts bound told done h walked not_through stuck events ends = go (goes_on casts bound told events done h ends walked)

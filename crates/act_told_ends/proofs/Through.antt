@@ -142,6 +142,7 @@ world_step casts h other w may = record {
   cast = retired_cast_step h other w.cast may;
 }
 
+-- what any events leave is a world of the casts with which it was opened
 pub world_of : (casts : List ActorSpec) (events : List Event) → IsWorld casts (history casts events)
 world_of casts events = after_all_keeps (IsWorld casts) (world_step casts) (opening casts) events (record {
   sound = world_sound casts [];

@@ -12,6 +12,7 @@ use Rattle.act_told_ends.specs.Untold.{arg_as_run}
 abbrev pub actors : List Submission → List ℕ
 actors calls = map (λ (call : Submission). call.actor) calls
 
+-- lists of calls to the same actors, one by one, are of one length
 pub length_same : (xs ys : List Submission) → actors xs ≡ actors ys → length xs ≡ length ys
 length_same xs ys e = sym (length-map xs (λ (call : Submission). call.actor)) ∙ ap (λ (l : List ℕ). length l) e
     ∙ length-map ys (λ (call : Submission). call.actor)

@@ -127,6 +127,7 @@ told_reply casts bound told plans late g c k answer l v runs reply e alive = som
 
 -- ---- deaths that may be heard
 
+-- a death that may reach a caller may still reach it once the sound history grew
 pub hear_more : (told : Told) (c a : ℕ) (h g : History) → Grows h g → IsSound h → MayHear told c a h → MayHear told c a g
 hear_more told c a h g grows sound hear = record {
   answered = hear.answered;
