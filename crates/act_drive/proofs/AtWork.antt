@@ -77,5 +77,6 @@ work_awaits actors began lines old new k kills steps was waits below answered =
 pub later_seen : (old seen new : SessionView) → old ≡ seen → IsLater old new → IsLater seen new
 later_seen old seen new is later = subst (λ (s : SessionView). IsLater s new) is later
 
+-- a caller that only hears after one view only hears after an equal view
 pub hears_seen : (old seen new : SessionView) → old ≡ seen → OnlyHears old new → OnlyHears seen new
 hears_seen old seen new is hears = subst (λ (s : SessionView). OnlyHears s new) is hears

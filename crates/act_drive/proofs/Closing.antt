@@ -5,6 +5,7 @@ use Rattle.act_drive.proofs.Common.{copies-without_copy, copies-without_copy-oth
 use Rattle.act_drive.proofs.Common.{OnlyReleases}
 use Rattle.act_drive.proofs.Drivers.{stays_same, stays_trans}
 
+-- a caller that only lets handles go, and then again, does only that in all
 pub winds_trans : (one two three : Driver) → OnlyReleases one two → OnlyReleases two three → OnlyReleases one three
 winds_trans one two three a b = record { stay = stays_trans one two three a.stay b.stay; calls = b.calls ∙ a.calls; kills = b.kills ∙ a.kills; heard = λ notice has. b.heard notice (a.heard notice has); handles = λ n. ((b.handles n).0 ∙ (a.handles n).0, omega (arith, (b.handles n).1, (a.handles n).1)) }
 

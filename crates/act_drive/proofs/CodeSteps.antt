@@ -41,6 +41,7 @@ all_below ks n i d all long = elim (leb_tells (suc (get_or ks i d)) n) [
 
 -- ---- what is seen
 
+-- a caller that only hears, and then again, only hears in all
 pub hears_trans : (old mid new : SessionView) → OnlyHears old mid → OnlyHears mid new → OnlyHears old new
 hears_trans old mid new before after = record {
   calls = after.calls ∙ before.calls;
@@ -48,6 +49,7 @@ hears_trans old mid new before after = record {
   kills = after.kills ∙ before.kills;
 }
 
+-- a caller that submits a call, and then only hears, submits just this call in all
 pub submits_hears : (call : Submission) (old mid new : SessionView) → Submits call old mid → OnlyHears mid new → Submits call old new
 submits_hears call old mid new submits hears = record {
   calls = hears.calls ∙ submits.calls;
@@ -64,12 +66,14 @@ waited_more old mid new ks i k long here before after =
     let more : map Await (take (i + 1) ks) ≡ map Await (take i ks) ++ Await k ∷ [] = ap (map Await) (take_more ks i k long ∙ ap (λ (j : ℕ). take i ks ++ j ∷ []) (here k)) ∙ map-append Await (take i ks) (k ∷ []) in
     does_trans old mid new (map Await (take i ks)) (Await k ∷ []) before after ∙ ap (λ (l : List Step). old.did ++ l) (sym more)
 
+-- what is later than a later view of a caller is later than the first one
 pub later_trans : (old mid new : SessionView) → IsLater old mid → IsLater mid new → IsLater old new
 later_trans old mid new before after = record {
   limits = after.limits ∙ before.limits;
   kept = λ k answer has. after.kept k answer (before.kept k answer has);
 }
 
+-- a caller that submits a call, with its passes as they were, is the same caller and forgets no answer
 pub stays_submitted : (old new : Driver) (a : ℕ) (method : Method) (args : List Arg) → new.owner ≡ with_submission old.owner a method args → new.passes ≡ old.passes → Stays old new
 stays_submitted old new a method args is passes = record {
   id = ap (λ (o : OwnerView). o.id) is;
@@ -125,6 +129,7 @@ pub handed_on : {A E : Type 0} (result : Result A E) (e : E) (P : E → Type 0) 
 handed_on (Ok x) e P is holds = tt
 handed_on (Err y) e P is holds = subst P (sym is) holds
 
+-- what holds anyway holds where a result is an error
 pub on_err : {A E : Type 0} (result : Result A E) (P : Type 0) → P → OnErr result P
 on_err (Ok x) P is = tt
 on_err (Err e) P is = is

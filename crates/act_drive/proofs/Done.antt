@@ -81,6 +81,7 @@ posting_none owner a = record { sent = λ k e below. absurd (omega arith); disti
 posting_fresh : (owner : OwnerView) (a : ℕ) (put : List Letter) → put ≡ [] → IsPosting owner a [] put
 posting_fresh owner a put is = subst (λ (l : List Letter). IsPosting owner a [] l) (sym is) (posting_none owner a)
 
+-- a caller as it was opened, with an empty outbox and no flag set, is a caller at work
 pub fresh_calling : (lines : CallerLines) (owner : OwnerView) (passes : CallerPasses) (noted : List Bool) → ((a : ℕ) → get_or noted a false ≡ false) → IsFreshCaller lines owner passes → IsCalling lines (record { owner = owner; passes = passes; outbox = None; noted = noted })
 fresh_calling lines owner passes noted unset fresh =
     let actors = actors_in owner.handles in
@@ -102,6 +103,7 @@ fresh_calling lines owner passes noted unset fresh =
       names = λ k s below d. subst (λ (l : List Asked). All (λ kill. kill.note ≡ record { caller = owner.id; actor = (get_or lines.controls.now (get_or passes.kills.items k s).place d).actor }) l) (sym (fresh.unused.asked k s below)) (λ i e inside. absurd (omega arith));
     }
 
+-- a caller as it was opened, with an empty outbox, is a caller of its actors that did no steps
 pub fresh_follows : (lines : CallerLines) (owner : OwnerView) (passes : CallerPasses) (noted : List Bool) → IsFreshCaller lines owner passes → FollowsSteps lines (actors_in owner.handles) [] (record { owner = owner; passes = passes; outbox = None; noted = noted })
 fresh_follows lines owner passes noted fresh = record {
   calls = ap (λ (o : OwnerView). o.calls) fresh.owner_is;
@@ -117,6 +119,7 @@ have_posted lines driver calling k s below d =
       subst (AllPairs AreTwo) (append-nil (get_or driver.passes.letters.items k s).pass.put) less.distinct,
     )
 
+-- what a caller's thread leaves, put together: it did its plan, or it starved and is through with its actors
 pub driven_of : (lines : CallerLines) (plan : List Step) (starved : Bool) (start new : Driver) → AreDistinct lines.mails.now start.passes.letters.items → IsCalling lines new → Stays start new → (starved ≡ false → HasDone lines (actors_in start.owner.handles) plan new.owner new.passes)
     → (starved ≡ true → All (HasEndedAt lines.controls.now new.owner new.passes) new.passes.kills.items) → (starved ≡ false → IsTracingClosed start.owner lines plan new)
     → HasDriven lines start.owner start.passes plan (record { owner = new.owner; starved = starved; passes = new.passes })

@@ -55,10 +55,12 @@ death_keeps : (owner : OwnerView) (a : ℕ) (listed : Bool) → let later = (if 
 death_keeps owner a false = (refl, refl, refl, refl)
 death_keeps owner a true = (refl, refl, refl, refl)
 
+-- a caller that collects a notice keeps its number, its calls, its handles and its limits
 pub notice_keeps : (owner : OwnerView) (notice : Notice) → ((after_collect owner notice).id ≡ owner.id) × ((after_collect owner notice).calls ≡ owner.calls) × ((after_collect owner notice).handles ≡ owner.handles) × ((after_collect owner notice).limits ≡ owner.limits)
 notice_keeps owner (Answered reply) = reply_keeps owner reply (is_of_call owner reply) (is_some (kept_at owner.kept reply.future))
 notice_keeps owner (Death a) = death_keeps owner a (is_some (copies_in a owner.handles))
 
+-- what was there of a caller stays over a change that adds no copy and no call at actors of which it holds none
 pub change_on : (owner : OwnerView) (change : Change) → length owner.kept ≡ length owner.calls → ((a : ℕ) → copies_held (copies_in a owner.handles) ≡ 0 → (copies_held (copies_in a (after_change owner change).handles) ≡ 0) × (length (calls_to a (after_change owner change).calls) ≡ length (calls_to a owner.calls))) → OwnerGoesOn owner (after_change owner change)
 change_on owner change places ended =
     let grown = step owner change places in
@@ -126,10 +128,12 @@ calling_heard lines old new notice is collects letters kills outbox flags callin
       },
     )
 
+-- a driver with this owner, these passes and this outbox is the one made of them and of its own flags
 pub driver_same : (new : Driver) (o : OwnerView) (p : CallerPasses) (h : Option Letter) → new.owner ≡ o → new.passes ≡ p → new.outbox ≡ h → new ≡ record { owner = o; passes = p; outbox = h; noted = new.noted }
 driver_same new o p h a b c =
     ap (λ (x : OwnerView). record { owner = x; passes = new.passes; outbox = new.outbox; noted = new.noted }) a ∙ ap (λ (x : CallerPasses). record { owner = o; passes = x; outbox = new.outbox; noted = new.noted }) b ∙ ap (λ (x : Option Letter). record { owner = o; passes = p; outbox = x; noted = new.noted }) c
 
+-- with the same number, kept answers, limits and passes it is the same caller, and forgets no answer
 pub stays_same : (old new : Driver) → new.owner.id ≡ old.owner.id → new.owner.kept ≡ old.owner.kept → new.owner.limits ≡ old.owner.limits → new.passes ≡ old.passes → Stays old new
 stays_same old new id kept limits passes = record {
   id = id;
@@ -142,6 +146,7 @@ stays_same old new id kept limits passes = record {
   };
 }
 
+-- a caller that is the same after one change, and after the next, is so after both, and forgets no answer
 pub stays_trans : (one two three : Driver) → Stays one two → Stays two three → Stays one three
 stays_trans one two three a b = record {
   id = b.id ∙ a.id;
@@ -154,12 +159,15 @@ stays_trans one two three a b = record {
   };
 }
 
+-- a caller that doesn't change waits
 pub waits_same : (driver : Driver) → Waits driver driver
 waits_same driver = record { stay = stays_same driver driver refl refl refl refl; calls = refl; handles = refl; kills = refl; heard = λ notice has. has }
 
+-- a caller that waits, and then again, waits in all
 pub waits_trans : (one two three : Driver) → Waits one two → Waits two three → Waits one three
 waits_trans one two three a b = record { stay = stays_trans one two three a.stay b.stay; calls = b.calls ∙ a.calls; handles = b.handles ∙ a.handles; kills = b.kills ∙ a.kills; heard = λ notice has. b.heard notice (a.heard notice has) }
 
+-- a caller at work that only waits, and then again, only waits in all
 pub only_waits_trans : (lines : CallerLines) (one two three : Driver) → OnlyWaits lines one two → OnlyWaits lines two three → OnlyWaits lines one three
 only_waits_trans lines one two three a b = record {
   calling = b.calling;

@@ -33,6 +33,7 @@ more mails taken later endpoints letters others letter heard grown (inl here) = 
 more mails taken later endpoints letters others letter heard grown (inr (inl dead)) = inr (inl (heard (Death (actor_of_letter letter)) dead))
 more mails taken later endpoints letters others letter heard grown (inr (inr apart)) = inr (inr apart)
 
+-- still no due letter is lost where the owner goes on, sends no call, lets no last handle go and forgets no notice
 pub keeps_on : (mails : List MailView) (owner later : OwnerView) (taken more_taken : List Notice) (endpoints : List (Endpoint (PutterView Letter Unit))) (held : List Letter) → OwnerGoesOn owner later → Returns owner later → ((n : Notice) → Contains taken n → Contains more_taken n)
     → IsKeeping mails owner taken endpoints held → IsKeeping mails later more_taken endpoints held
 keeps_on mails owner later taken more_taken endpoints held on back heard keeps = record {
@@ -52,6 +53,7 @@ sent_before [] (suc k) is = is
 sent_before (b ∷ flags) zero is = is
 sent_before (b ∷ flags) (suc k) is = sent_before flags k is
 
+-- after a submission no call is newly marked sent, and of no actor each handle is newly let go
 pub submit_returns : (owner : OwnerView) (a : ℕ) (method : Method) (args : List Arg) → Returns owner (with_submission owner a method args)
 submit_returns owner a method args = record {
   sent = λ k is. sent_before owner.sent k is;
@@ -62,6 +64,7 @@ not_more : (copies : Option ℕ) → option_map (λ n. n + 1) copies ≡ Some 0 
 not_more None is = absurd (cc is)
 not_more (Some n) is = let one : n + 1 ≡ 0 = cc is in absurd (omega (arith, one))
 
+-- after a copy no call is newly marked sent, and of no actor each handle is newly let go
 pub copy_returns : (owner : OwnerView) (a : ℕ) → Returns owner (with_handles owner (with_copy a owner.handles))
 copy_returns owner a = record {
   sent = λ k is. is;

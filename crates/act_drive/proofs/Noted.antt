@@ -17,6 +17,7 @@ noted_on owner later endpoints flags now on same noted a is =
     ap (λ (n : ℕ). Note (record { caller = n; actor = a; after = length (calls_to a owner.calls) })) (sym on.id) ∙ ap (λ (n : ℕ). Note (record { caller = later.id; actor = a; after = n })) (sym ended.1) in
     record { posted = subst (Contains (posted_in endpoints)) last was.posted; ended = ended.0 }
 
+-- where the notes are posted of the actors whose flags are set, so they are by flags that equal these
 pub noted_same : (owner : OwnerView) (endpoints : List (Endpoint (PutterView Letter Unit))) (flags now : List Bool) → now ≡ flags → AreNoted owner endpoints flags → AreNoted owner endpoints now
 noted_same owner endpoints flags now same noted a is = noted a (flag_was flags now a same is)
 

@@ -10,6 +10,7 @@ use Rattle.act_drive.proofs.Noted.{noted_on}
 use Rattle.act_drive.proofs.Drivers.{change_on, posting_on, driver_same}
 use Rattle.act_drive.proofs.OwnChanges.{ended_released}
 
+-- where the handles answer with a value, nothing refused it
 pub ok_of : {X : Type 0} (refusal : Option HandleRefusal) (value x : X) → Ok x ≡ or_else refusal value → refusal ≡ None
 ok_of None value x is = refl
 ok_of (Some r) value x is = absurd (cc is)
@@ -21,6 +22,7 @@ last_of None copies last note is = elim (eqb_tells copies 1) [
   | inr f ↦ absurd (cc (is, ap (λ (b : Bool). or_else None (if b then Some last else None)) f.0))
 ]
 
+-- where there are as many marks of sending as calls, there are after a submission
 pub submit_flags : (owner : OwnerView) (a : ℕ) (method : Method) (args : List Arg) → length owner.sent ≡ length owner.calls → length (with_submission owner a method args).sent ≡ length (with_submission owner a method args).calls
 submit_flags owner a method args flags = omega (arith, flags, length-append owner.sent (false ∷ []), length-append owner.calls (record { actor = a; method = method; args = args } ∷ []))
 

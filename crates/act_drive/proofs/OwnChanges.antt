@@ -11,6 +11,7 @@ use Rattle.act_drive.proofs.Drivers.{change_on, held_on, endpoints_on, driver_sa
 
 -- ---- the owner changes by itself
 
+-- a caller at work is so after a change that collects and sends nothing, lets no last handle go, and regains none
 pub calling_step : (lines : CallerLines) (old new : Driver) (change : Change) → new.owner ≡ after_change old.owner change → new.passes ≡ old.passes → new.outbox ≡ old.outbox → new.noted ≡ old.noted → notices_in (change ∷ []) ≡ [] → length (after_change old.owner change).sent ≡ length (after_change old.owner change).calls
     → ((b : ℕ) → copies_held (copies_in b old.owner.handles) ≡ 0 → (copies_held (copies_in b (after_change old.owner change).handles) ≡ 0) × (length (calls_to b (after_change old.owner change).calls) ≡ length (calls_to b old.owner.calls)))
     → Returns old.owner (after_change old.owner change) → IsCalling lines old → IsCalling lines new
@@ -49,6 +50,7 @@ calls_other b calls call apart =
     ∙ ap (λ (l : List Submission). length l) (filter-append (λ (c : Submission). c.actor == b) calls (call ∷ []) ∙ ap (λ (t : Bool). filter (λ (c : Submission). c.actor == b) calls ++ (if t then call ∷ [] else [])) (ne_eqb call.actor b apart) ∙ append-nil (filter (λ (c : Submission). c.actor == b) calls))
     ∙ sym (calls_to-length b 0 calls)
 
+-- an actor of which no copy is held has none after a submission that isn't refused, and no more calls
 pub ended_submitted : (owner : OwnerView) (a : ℕ) (method : Method) (args : List Arg) → refusal_to_submit owner a args ≡ None → (b : ℕ) → copies_held (copies_in b owner.handles) ≡ 0
     → (copies_held (copies_in b (with_number a owner.handles)) ≡ 0) × (length (calls_to b (owner.calls ++ record { actor = a; method = method; args = args } ∷ [])) ≡ length (calls_to b owner.calls))
 ended_submitted owner a method args accepted b none = (
@@ -56,6 +58,7 @@ ended_submitted owner a method args accepted b none = (
   calls_other b owner.calls (record { actor = a; method = method; args = args }) (λ same. submit_holds (copies_in a owner.handles) (length owner.calls) args (option_or-none _ _ accepted) (ap (λ (n : ℕ). copies_held (copies_in n owner.handles)) same ∙ none)),
 )
 
+-- an actor of which no copy is held has none after a copy that isn't refused, and no more calls
 pub ended_copied : (owner : OwnerView) (a : ℕ) → copy_refusal (copies_in a owner.handles) ≡ None → (b : ℕ) → copies_held (copies_in b owner.handles) ≡ 0 → (copies_held (copies_in b (with_copy a owner.handles)) ≡ 0) × (length (calls_to b owner.calls) ≡ length (calls_to b owner.calls))
 ended_copied owner a accepted b none =
     (ap copies_held (copies-with_copy-other a b owner.handles (λ same. copy_holds (copies_in a owner.handles) accepted (ap (λ (n : ℕ). copies_held (copies_in n owner.handles)) same ∙ none))) ∙ none, refl)
@@ -64,6 +67,7 @@ less_none : (copies : Option ℕ) → copies_held copies ≡ 0 → copies_held (
 less_none None none = refl
 less_none (Some n) none = omega (arith, none)
 
+-- an actor of which no copy is held has none after a release, and no more calls
 pub ended_released : (owner : OwnerView) (a : ℕ) (b : ℕ) → copies_held (copies_in b owner.handles) ≡ 0 → (copies_held (copies_in b (without_copy a owner.handles)) ≡ 0) × (length (calls_to b owner.calls) ≡ length (calls_to b owner.calls))
 ended_released owner a b none =
     elim (eqb_tells a b) [

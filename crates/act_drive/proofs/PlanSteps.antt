@@ -13,6 +13,7 @@ pub done_more : (actors : List ℕ) (p : Progress) (steps : List Step) (step : S
 done_more actors p [] step fine = ap (λ (b : Bool). if b then p else do_step p step) fine
 done_more actors p (one ∷ steps) step fine = done_more actors (if is_refused actors p one then p else do_step p one) steps step fine
 
+-- some steps and one more ask as many kills of an actor as the two ask together
 pub kills_more : (a : ℕ) (steps : List Step) (step : Step) → kills_to a (steps ++ step ∷ []) ≡ kills_to a steps + kills_to a (step ∷ [])
 kills_more a steps step = ap (λ (l : List Step). length l) (filter-append (is_kill_of a) steps (step ∷ [])) ∙ length-append (filter (is_kill_of a) steps) (filter (is_kill_of a) (step ∷ []))
 
@@ -36,6 +37,7 @@ follows_waits lines actors steps old new waits is = record {
   kills = subst (λ (v : List (Endpoint (PutterView Asked ℕ))). All (HasAsked lines.controls.now steps new.passes.collects.taken) v) (sym waits.kills) (kills_on lines.controls.now steps steps old.passes.collects.taken new.passes.collects.taken old.passes.kills.items (λ a. refl) waits.heard is.kills);
 }
 
+-- a caller that waits does one step more, an await, where it isn't refused
 pub await_follows : (lines : CallerLines) (old new : Driver) (k : ℕ) → Waits old new → FollowsBy lines (Await k) old new
 await_follows lines old new k waits actors steps fine is =
     let now = follows_waits lines actors steps old new waits is in
@@ -46,6 +48,7 @@ await_follows lines old new k waits actors steps fine is =
       kills = kills_on lines.controls.now steps (steps ++ Await k ∷ []) _ _ new.passes.kills.items (λ a. no_kill a steps (Await k) refl) (λ n has. has) now.kills;
     }
 
+-- a caller that submits a call, with its passes as they were, does one step more, where it isn't refused
 pub submit_follows : (lines : CallerLines) (old new : Driver) (a : ℕ) (method : Method) (args : List Arg) → new.owner ≡ with_submission old.owner a method args → new.passes ≡ old.passes → FollowsBy lines (Submit a method args) old new
 submit_follows lines old new a method args is passes actors steps fine f =
     let more = done_more actors nothing_done steps (Submit a method args) fine in
@@ -55,6 +58,7 @@ submit_follows lines old new a method args is passes actors steps fine f =
       kills = rw passes (kills_on lines.controls.now steps (steps ++ Submit a method args ∷ []) _ _ old.passes.kills.items (λ b. no_kill b steps (Submit a method args) refl) (λ n has. has) f.kills);
     }
 
+-- a caller that copies a handle, with its passes as they were, does one step more, where it isn't refused
 pub copy_follows : (lines : CallerLines) (old new : Driver) (a : ℕ) → new.owner ≡ with_handles old.owner (with_copy a old.owner.handles) → new.passes ≡ old.passes → FollowsBy lines (Copy a) old new
 copy_follows lines old new a is passes actors steps fine f =
     let p = done_by actors nothing_done steps in

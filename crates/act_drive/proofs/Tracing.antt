@@ -87,6 +87,7 @@ more_at endpoints at endpoint next stamp below here more =
 
 -- ---- nothing was done
 
+-- the trace is kept where owner, letters, kills and notices are as before, and no letter came into the outbox
 pub traces_kept : (lines : CallerLines) (old new : Driver) → new.owner ≡ old.owner → new.passes.letters.items ≡ old.passes.letters.items → new.passes.kills.items ≡ old.passes.kills.items → new.passes.collects ≡ old.passes.collects → ((letter : Letter) → new.outbox ≡ Some letter → old.outbox ≡ Some letter) → Traces lines old new
 traces_kept lines old new is letters kills collects outbox start done was =
     let controls = lines.controls.now in
@@ -155,6 +156,7 @@ tracing_step lines start done next old new step quiet may is passes was does hel
       does = subst (DoesPlan start next) (sym (steps_more was.trace ((now, step) ∷ []))) does;
     }
 
+-- a plan's step is done in the trace by a step that the caller may do, collecting nothing, with the same passes
 pub traces_step : (lines : CallerLines) (old new : Driver) (planned : Step) (step : CallerStep) → ((owner : OwnerView) (before : List CallerStep) → DoesStep owner planned before (before ++ step ∷ [])) → notice_collected step ≡ None → CallerMayDo old.owner step → new.owner ≡ owner_after_steps old.owner (step ∷ []) → new.passes ≡ old.passes → new.outbox ≡ old.outbox → TracesStep lines planned old new
 traces_step lines old new planned step so quiet may is passes outbox start done was =
     let now = caller_clock old.passes in
@@ -322,6 +324,7 @@ traces_awaited lines old new k waits answered start done was = unstepped start l
 closed_steps : (done : List Step) (closing more : List ℕ) → (done ++ map (λ a. Release a) closing) ++ map (λ a. Release a) more ≡ done ++ map (λ a. Release a) (closing ++ more)
 closed_steps done closing more = append_assoc done (map (λ a. Release a) closing) (map (λ a. Release a) more) ∙ ap (λ (l : List Step). done ++ l) (sym (map-append (λ (a : ℕ). Release a) closing more))
 
+-- a trace that goes on with some handles let go, and then with more, goes on with all of them let go
 pub closing_trans : (lines : CallerLines) (old mid new : Driver) → TracesClosing lines old mid → TracesClosing lines mid new → TracesClosing lines old new
 closing_trans lines old mid new one two start done was =
     let first = one start done was in
@@ -353,6 +356,7 @@ unchanged result lines old new same = unchanged_waited result lines old old new 
 
 -- ---- the opening
 
+-- a caller as it was opened, with an empty outbox, has a trace in which no step of a plan was done
 pub fresh_tracing : (lines : CallerLines) (driver : Driver) → IsFreshCaller lines driver.owner driver.passes → driver.outbox ≡ None → IsTracing driver.owner lines [] driver
 fresh_tracing lines driver fresh empty =
     let unused = fresh.unused in

@@ -14,9 +14,11 @@ abbrev pub is_from_these : List ℕ → Option Notice → Bool
 is_from_these actors None = true
 is_from_these actors (Some notice) = contains (notice_actor notice) actors
 
+-- whether a step collects no notice, or one of an actor among these
 abbrev pub is_by_these : List ℕ → CallerStep → Bool
 is_by_these actors step = is_from_these actors (notice_collected step)
 
+-- a caller that may do all of some steps may do those of any prefix of them
 pub may_front : (owner : OwnerView) (before later : List CallerStep) → CallerMayDoAll owner (before ++ later) → CallerMayDoAll owner before
 may_front owner [] later may = tt
 may_front owner (step ∷ before) later may = (may.0, may_front (owner_after_steps owner (step ∷ [])) before later may.1)
@@ -134,6 +136,7 @@ module _ (actors : List ℕ) where
       go true is = more owner (Noticed notice) steps may is rest
       go false is = less owner (Noticed notice) steps is (stranger_ignored owner notice holds is) rest
 
+  -- a caller of these actors alone may do its steps without the notices of others, and ends as with them
   pub still : (owner : OwnerView) (steps : List CallerStep) → HoldsThese owner → CallerMayDoAll owner steps → IsStill owner steps
   still owner [] holds may = record { may = tt; same = refl }
   still owner (KillAsked a ∷ steps) holds may =

@@ -47,6 +47,7 @@ pub record IsCutOf {A B : Type 0} (f : A → B) (whole : List A) (xs rest : List
   pub front_is : xs ≡ map f front
   pub later_is : rest ≡ map f later
 
+-- where a mapped list is cut in two, the list itself is cut so that each part is the image of its own
 pub cut_of : {A B : Type 0} (f : A → B) (whole : List A) (xs rest : List B) → xs ++ rest ≡ map f whole → IsCutOf f whole xs rest
 cut_of f whole [] rest e = record { front = []; later = whole; is = refl; front_is = refl; later_is = e }
 cut_of f [] (x ∷ xs) rest e = cc

@@ -10,9 +10,11 @@ pub record IsIn {A : Type 0} (xs : List A) (x : A) : Type 0 where
   pub place : ℕ
   pub at : slice_get xs place ≡ Some x
 
+-- what is contained in a list stands at a place of it
 pub in_from_contains : {A : Type 0} (xs : List A) (x : A) → Contains xs x → IsIn xs x
 in_from_contains xs x c = record { place = c.0; at = slice_get_read xs (length xs) c.0 x refl c.1 (sym c.2) }
 
+-- what stands in a list is contained in it
 pub contains_from_in : {A : Type 0} (xs : List A) (x : A) → IsIn xs x → Contains xs x
 contains_from_in xs x i = (i.place, slice_get_within xs i.place x i.at, get_or_from_slice_get xs i.place x x i.at)
 
@@ -20,6 +22,7 @@ contains_from_in xs x i = (i.place, slice_get_within xs i.place x i.at, get_or_f
 pub all_in : {A : Type 0} (P : A → Type 0) (xs : List A) (x : A) → All P xs → IsIn xs x → P x
 all_in P xs x all i = All-contains P xs x all (contains_from_in xs x i)
 
+-- what stands in a list and passes stands in the filtered list
 pub in_filter : {A : Type 0} (p : A → Bool) (xs : List A) (x : A) → IsIn xs x → p x ≡ true → IsIn (filter p xs) x
 in_filter p xs x i passes = record { place = _; at = slice_get-filter p xs i.place x i.at passes }
 
@@ -44,6 +47,7 @@ front_by_places {A = A} (x ∷ xs) (y ∷ ys) f =
     let rest : IsPrefix xs ys = front_by_places xs ys (λ k z e. f (suc k) z e) in
     (rest.0, ap (λ (z : A). z ∷ xs ++ rest.0) same ∙ ap (λ (l : List A). y ∷ l) rest.1)
 
+-- the number at place k of a range is its first number and k more
 pub range_at : (from n k m : ℕ) → slice_get (range_with_len from n) k ≡ Some m → m ≡ from + k
 range_at from zero k m e = cc
 range_at from (suc n) zero m e = let same : from ≡ m = cc in omega arith
@@ -55,6 +59,7 @@ pub record IsFound {A : Type 0} (p : A → Bool) (xs : List A) (x : A) : Type 0 
   pub inside : IsIn xs x
   pub passes : p x ≡ true
 
+-- what `find` gives stands in the list, and passes
 pub found_is : {A : Type 0} (p : A → Bool) (xs : List A) (x : A) → find p xs ≡ Some x → IsFound p xs x
 found_is p [] x e = cc
 found_is {A = A} p (y ∷ xs) x e = go (p y) refl (found_is p xs x) e
@@ -93,9 +98,11 @@ any_is {A = A} p (y ∷ xs) e = go (p y) refl (any_is p xs) e
 pub contains_is : (n : ℕ) (ns : List ℕ) → contains n ns ≡ true → IsIn ns n
 contains_is n ns e = let r = any_is (λ (m : ℕ). m == n) ns e in subst (IsIn ns) (eqb-true r.0 n r.1.passes) r.1.inside
 
+-- of a number that stands in a list `contains` is true
 pub is_contained : (n : ℕ) (ns : List ℕ) → IsIn ns n → contains n ns ≡ true
 is_contained n ns i = any_passes_from_place (λ (m : ℕ). m == n) ns i.place n i.at (eq-eqb n n refl)
 
+-- a list with nothing at any place is empty
 pub empty_by_places : {A : Type 0} (xs : List A) → ((k : ℕ) (x : A) → slice_get xs k ≡ Some x → ⊥) → xs ≡ []
 empty_by_places [] f = refl
 empty_by_places (x ∷ xs) f = absurd (f 0 x refl)
@@ -108,10 +115,12 @@ whole_by_length {A = A} xs ys f same = go f.0 f.1
     go [] e = sym (append-nil xs) ∙ e
     go (r ∷ rest) e = let long : length (xs ++ r ∷ rest) ≡ length ys = ap length e in absurd (omega (arith, length-append xs (r ∷ rest)))
 
+-- an enumerated list without its numbers is the list
 pub enumerated : {A : Type 0} (n : ℕ) (xs : List A) → map (λ (pair : ℕ × A). pair.1) (enumerate_from n xs) ≡ xs
 enumerated n [] = refl
 enumerated {A = A} n (x ∷ xs) = ap (λ (l : List A). x ∷ l) (enumerated (n + 1) xs)
 
+-- nothing stands in an empty list
 pub in_none : {A : Type 0} (x : A) → IsIn [] x → ⊥
 in_none x i = let bad : None ≡ Some x = i.at in cc
 

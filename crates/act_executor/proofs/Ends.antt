@@ -243,6 +243,7 @@ module _ {mails : List MailView} {controls : List ControlView} {replies : List R
   pub ends_are : map end_id ends ≡ actors_of_casts casts
   ends_are = map-map end_id (λ (s : ServedView). s.end) served ∙ j.actors
 
+  -- what the threads left is a joined run, where a call that died never ran
   pub joined : CallsThatDiedNeverRan (kept_in owners) (log_in ends) → IsJoined casts plans owners ends
   joined ran = record {
     callers = owners_are;

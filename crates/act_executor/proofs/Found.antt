@@ -81,6 +81,7 @@ pub record IsNaming (casts : List ActorSpec) (c a : ℕ) : Type 0 where
   pub actor : cast.actor ≡ a
   pub names : IsIn cast.callers c
 
+-- where no actor has two casts, an actor among those that name a caller has a cast that is found and names it
 pub naming : (casts : List ActorSpec) (c a : ℕ) → AreCasts casts → IsIn (actors_naming c casts) a → IsNaming casts c a
 naming casts c a fitting i =
     let mapped = map-slice_get (λ (cast : ActorSpec). cast.actor) (filter (λ (cast : ActorSpec). contains c cast.callers) casts) i.place a i.at in

@@ -13,6 +13,7 @@ death_is a (Killed dead) notice i = (one_death a i.place notice i.at, λ fed. re
 death_is a (Retired retired) notice i = let bad : None ≡ Some notice = i.at in cc
 death_is a (Starved dead) notice i = (one_death a i.place notice i.at, λ fed. cc)
 
+-- a reply among what an actor gives a caller is that of the caller's item at its place, with the answer there
 pub reply_given : (opening : KindState) (a c : ℕ) (end : EndView) (reply : Reply) → IsIn (replies_to opening a (end_log end) c ++ deaths a end) (Answered reply) → IsAnswerOf opening a c (end_log end) reply
 reply_given opening a c end reply i = elim (Contains-append_cases (replies_to opening a (end_log end) c) (deaths a end) (Answered reply) (contains_from_in _ _ i)) [
   | inl there ↦ All-contains (IsReplyOf opening a c (end_log end)) (replies_to opening a (end_log end) c) (Answered reply) (replies_answer opening a c (end_log end)) there

@@ -9,6 +9,7 @@ use Rattle.act_causes.specs.Deeds.{Retired}
 use Rattle.act_serve.specs.Served.{EndView, Killed, Retired as RetiredEnd, Starved, replies_to, deaths, places_of, place_of, IsReplyOf}
 use Rattle.act_executor.proofs.Own.{own_step}
 
+-- a notice to this caller, as the rules name it
 abbrev pub post_from : ℕ → Notice → Post
 post_from c (Answered reply) = ReplyPost c reply.actor reply.place
 post_from c (Death a) = DeathPost c a

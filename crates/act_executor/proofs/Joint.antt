@@ -16,9 +16,11 @@ use Rattle.act_executor.proofs.Consistency.{IsSentItem, IsRunAnswer, IsFit}
 
 -- ---- threads by number
 
+-- what the caller of this number left, if its thread is among these
 abbrev pub driven_of : ℕ → List Driven → Option Driven
 driven_of c driven = find (λ d. d.owner.id == c) driven
 
+-- what the actor of this number left, if its thread is among these
 abbrev pub served_of : ℕ → List ServedView → Option ServedView
 served_of a served = find (λ s. end_id s.end == a) served
 
@@ -74,9 +76,11 @@ module _ {mails : List MailView} {controls : List ControlView} {replies : List R
 
   -- ---- look-ups
 
+  -- the owner found under a caller's number is that of its thread, and none where no thread is found
   pub owner_is : (c : ℕ) (o : Option Driven) → driven_of c driven ≡ o → owner_of c owners ≡ option_map (λ (d : Driven). d.owner) o
   owner_is c o e = find-map (λ (owner : OwnerView). owner.id == c) (λ (d : Driven). d.owner) driven ∙ ap (option_map (λ (d : Driven). d.owner)) e
 
+  -- the end found under an actor's number is that of its thread, and none where no thread is found
   pub end_is : (a : ℕ) (o : Option ServedView) → served_of a served ≡ o → end_of a ends ≡ option_map (λ (s : ServedView). s.end) o
   end_is a o e = find-map (λ (end : EndView). end_id end == a) (λ (s : ServedView). s.end) served ∙ ap (option_map (λ (s : ServedView). s.end)) e
 
@@ -87,12 +91,14 @@ module _ {mails : List MailView} {controls : List ControlView} {replies : List R
     pub cast : IsCast casts a
     pub serving : IsServed replies cast.cast s
 
+  -- a thread that served the actor of a number is that actor's thread, with its cast
   pub thread_in : (a : ℕ) (s : ServedView) → IsIn served s → end_id s.end ≡ a → Thread a s
   thread_in a s i id =
       let cast = cast_served j a i.place s i.at id in
       let serving = all_in (λ (x : ServedView). (cast : ActorSpec) → cast_at (end_id x.end) casts ≡ Some cast → IsServed replies cast x) served s j.all_served i cast.cast (subst (λ (n : ℕ). cast_at n casts ≡ Some cast.cast) (sym id) cast.at) in
       record { inside = i; id = id; cast = cast; serving = serving }
 
+  -- the thread that is found under an actor's number is that actor's, with its cast
   pub thread : (a : ℕ) (s : ServedView) → served_of a served ≡ Some s → Thread a s
   thread a s e = let is = found_is (λ (x : ServedView). end_id x.end == a) served s e in thread_in a s is.inside (eqb-true (end_id s.end) a is.passes)
 
@@ -102,6 +108,7 @@ module _ {mails : List MailView} {controls : List ControlView} {replies : List R
     pub id : d.owner.id ≡ c
     pub driving : IsDriven mails controls (actors_naming c casts) (plan_of c plans) d
 
+  -- the thread that is found under a caller's number is that caller's, and did its plan to the end
   pub driver : (c : ℕ) (d : Driven) → driven_of c driven ≡ Some d → Driver c d
   driver c d e =
       let is = found_is (λ (x : Driven). x.owner.id == c) driven d e in

@@ -6,6 +6,7 @@ module _ {S : Type 0} (keep : S → Bool) where
   abbrev pub keep_stamped : ℕ × S → Bool
   keep_stamped x = keep x.1
 
+  -- the steps of what is kept of a trace are what is kept of its steps
   pub kept_steps : (trace : List (ℕ × S)) → steps_in (filter keep_stamped trace) ≡ filter keep (steps_in trace)
   kept_steps [] = refl
   kept_steps (x ∷ trace) = go (keep x.1) (kept_steps trace)
@@ -22,6 +23,7 @@ module _ {S : Type 0} (keep : S → Bool) where
       go true is rest = ap (λ (b : Bool). p x || b) rest
       go false is rest = rest ∙ sym (ap (λ (b : Bool). b || list_any p xs) (none x is))
 
+  -- what is found in a list is found in what is kept of it, where the rest gives nothing
   pub kept_found : {X : Type 0} (part : S → Option X) → ((x : S) → keep x ≡ false → part x ≡ None) → (xs : List S) → filter_map part (filter keep xs) ≡ filter_map part xs
   kept_found part none [] = refl
   kept_found {X} part none (x ∷ xs) = go (keep x) refl (kept_found part none xs)
@@ -37,9 +39,11 @@ module _ {S : Type 0} (keep : S → Bool) where
   pub lost_more : (before : List S) (x : S) → keep x ≡ false → filter keep (before ++ x ∷ []) ≡ filter keep before
   lost_more before x is = filter-append keep before (x ∷ []) ∙ ap (λ (b : Bool). filter keep before ++ cond b (x ∷ []) []) is ∙ append-nil (filter keep before)
 
+  -- a first element that is kept stays first
   pub kept_first : (x : S) (xs : List S) → keep x ≡ true → filter keep (x ∷ xs) ≡ x ∷ filter keep xs
   kept_first x xs is = ap (λ (b : Bool). cond b (x ∷ filter keep xs) (filter keep xs)) is
 
+  -- a first element that isn't kept leaves what is kept of those behind it
   pub lost_first : (x : S) (xs : List S) → keep x ≡ false → filter keep (x ∷ xs) ≡ filter keep xs
   lost_first x xs is = ap (λ (b : Bool). cond b (x ∷ filter keep xs) (filter keep xs)) is
 

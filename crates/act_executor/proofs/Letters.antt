@@ -118,6 +118,7 @@ delivered_part c a (Retired b ∷ deeds) = delivered_part c a deeds
 abbrev pub letter_from : ℕ → ℕ → Letter → Option SentLetter
 letter_from c a letter = cond (caller_of letter == c) (Some (sent_letter a letter)) None
 
+-- the letter of the caller's that the actor takes in the step, if it takes one
 abbrev pub letter_in_step : ℕ → ℕ → ActorStep → Option SentLetter
 letter_in_step c a (LetterTaken letter) = letter_from c a letter
 letter_in_step c a (CallRun item) = None

@@ -3,12 +3,15 @@ use Rattle.act_executor.proofs.Common.{◌≡◌, ℕ, ◌+◌, ◌<◌, suc, ze
 use Rattle.act_executor.proofs.Common.{arith, All, eq-or-lt_of_le, get_or-map, length-map, Each}
 
 module _ {X : Type 0} (P : X → Type 0) where
+  -- what holds of all elements holds of those behind the first
   pub all_tail : (x : X) (xs : List X) → All P (x ∷ xs) → All P xs
   all_tail x xs h k d lt = h (suc k) d (omega arith)
 
+  -- what holds of all elements holds of the first
   pub all_head : (x : X) (xs : List X) → All P (x ∷ xs) → P x
   all_head x xs h = h 0 x (omega arith)
 
+  -- what holds of the first element and of those behind it holds of all
   pub all_cons : (x : X) (xs : List X) → P x → All P xs → All P (x ∷ xs)
   all_cons x xs here h zero d lt = here
   all_cons x xs here h (suc k) d lt = h k d (omega arith)
@@ -54,6 +57,7 @@ same_place f xs ys i x lt same at =
     let short : i < length xs = omega (arith, length-map xs f, length-map ys f, ap length same) in
     sym (get_or-map f ys i x (f x) lt) ∙ sym (ap (λ l. get_or l i (f x)) same) ∙ get_or-map f xs i x (f x) short ∙ ap f (sym at)
 
+-- one element goes over from the end of a list to the front of the next
 pub append_over : {X : Type 0} (xs : List X) (x : X) (rest : List X) → (xs ++ x ∷ []) ++ rest ≡ xs ++ x ∷ rest
 append_over [] x rest = refl
 append_over (y ∷ xs) x rest = ap (λ l. y ∷ l) (append_over xs x rest)

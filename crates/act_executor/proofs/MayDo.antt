@@ -36,6 +36,7 @@ caller_named casts callers c x named =
     each [] all = tt
     each (thread ∷ callers) all = ((λ has. all.0), each callers all.1)
 
+-- where each caller may do the steps of its thread, a caller may do those found under its number
 pub caller_may : (casts : List ActorSpec) (callers : CallerThreads) (c : ℕ) → All (λ thread. CallerMayDoAll (opened_by casts thread.number) (steps_in thread.deeds)) callers → CallerMayDoAll (opened_by casts c) (steps_in (deeds_of c callers))
 caller_may casts callers c may =
     of_thread (λ n deeds. CallerMayDoAll (opened_by casts n) (steps_in deeds)) c tt callers

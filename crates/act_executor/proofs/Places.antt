@@ -13,9 +13,11 @@ module _ {X Y Z : Type 0} (f : X → Z) (g : Y → Z) (xs : List X) (ys : List Y
       let one : Some (f x) ≡ Some (g y) = sym (slice_get-map f xs i ∙ ap (option_map f) at) ∙ ap (λ (l : List Z). slice_get l i) same ∙ slice_get-map g ys i ∙ ap (option_map g) there in
       cc
 
+  -- where one of two lists that agree has an element, the other has one there with the same image
   pub at_other : (i : ℕ) (y : Y) → slice_get ys i ≡ Some y → (x : X) × (slice_get xs i ≡ Some x) × (f x ≡ g y)
   at_other i y there = map-slice_get f xs i (g y) (ap (λ (l : List Z). slice_get l i) same ∙ slice_get-map g ys i ∙ ap (option_map g) there)
 
+  -- lists that agree under two maps are equally long
   pub as_long : length xs ≡ length ys
   as_long = sym (length-map xs f) ∙ ap length same ∙ length-map ys g
 
@@ -35,11 +37,13 @@ all_through {X} {Y} P f ys xs same all k d below =
     let short : k < length xs = omega (arith, length-map ys f, ap length same) in
     subst P (sym (ap (λ (l : List X). get_or l k (f d)) same) ∙ get_or-map f ys k d (f d) below) (all k (f d) short)
 
+-- what holds of all elements holds of the one at a place
 pub all_at : {X : Type 0} (P : X → Type 0) (xs : List X) (i : ℕ) (x : X) → All P xs → slice_get xs i ≡ Some x → P x
 all_at P xs i x all at = subst P (get_or_from_slice_get xs i x x at) (all i x (slice_get_within xs i x at))
 
 -- ---- names that differ
 
+-- where the numbers of any two elements differ, none stands twice in the list of these numbers
 pub map_apart : {X : Type 0} (f : X → ℕ) (xs : List X) → AllPairs (λ one other. f one ≢ f other) xs → CallersDiffer (map f xs)
 map_apart f [] apart i j d below within = absurd (omega arith)
 map_apart {X} f (x ∷ xs) apart i j d below within =

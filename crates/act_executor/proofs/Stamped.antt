@@ -12,6 +12,7 @@ zipped_at {A} {B} R (a ∷ xs) (b ∷ ys) zero x y all e =
     subst (λ (p : A × B). R p.0 p.1) same all.0
 zipped_at R (a ∷ xs) (b ∷ ys) (suc k) x y all e = zipped_at R xs ys k x y all.1 e
 
+-- what holds side by side of two lists holds of a pair that stands in both zipped
 pub zipped : {A B : Type 0} (R : A → B → Type 0) (xs : List A) (ys : List B) (x : A) (y : B) → AllZip R xs ys → IsIn {A = A × B} (zip xs ys) (x, y) → R x y
 zipped R xs ys x y all i = zipped_at R xs ys i.place x y all i.at
 

@@ -9,9 +9,11 @@ use Rattle.act_executor.proofs.Cuts.{pairs_append}
 
 -- ---- numbers: a caller's is even, an actor's odd
 
+-- the number of a caller's thread among the threads of all
 abbrev pub caller_key : ℕ → ℕ
 caller_key c = c + c
 
+-- the number of an actor's thread among the threads of all
 abbrev pub actor_key : ℕ → ℕ
 actor_key a = a + a + 1
 
@@ -34,6 +36,7 @@ key_is (suc t) = elim (key_is t) [
 
 -- ---- steps as deeds
 
+-- a caller's step as a deed
 abbrev pub deed_of_caller : ℕ → CallerStep → Deed
 deed_of_caller c (ChangeMade change) = Changed c change
 deed_of_caller c (KillAsked a) = AskedKill c a
@@ -42,6 +45,7 @@ abbrev pub deed_of_letter : ℕ → Letter → Deed
 deed_of_letter a (Call packet) = TookCall a packet
 deed_of_letter a (Note note) = TookNote a note
 
+-- an actor's step as a deed
 abbrev pub deed_of_actor : ℕ → ActorStep → Deed
 deed_of_actor a (LetterTaken letter) = deed_of_letter a letter
 deed_of_actor a (CallRun item) = Ran a item
@@ -114,6 +118,7 @@ module _ {S : Type 0} (key : ℕ → ℕ) (f : ℕ → S → Deed) where
           ∙ more
           ∙ ap (λ (b : Bool). as_deeds (f t) (deeds_in (cond b (Some thread) (find (λ (x : Thread S). x.number == t) threads)))) (sym other.0)
 
+-- among all threads, a caller's deeds are the steps that its own thread did
 pub deeds_of_caller : (callers : List (Thread CallerStep)) (actors : List (Thread ActorStep)) (c : ℕ) → deeds_of (caller_key c) (all_threads callers actors) ≡ as_deeds (deed_of_caller c) (deeds_of c callers)
 deeds_of_caller callers actors c = at caller_key deed_of_caller caller_keys_differ c callers (threads_as actor_key deed_of_actor actors) none
   where
@@ -121,6 +126,7 @@ deeds_of_caller callers actors c = at caller_key deed_of_caller caller_keys_diff
     none = ap (λ (l : List (Thread Deed)). deeds_of (caller_key c) l) (sym (append-nil (threads_as actor_key deed_of_actor actors)))
         ∙ past actor_key deed_of_actor (caller_key c) actors [] (λ n e. keys_apart c n (sym e))
 
+-- among all threads, an actor's deeds are the steps that its own thread did
 pub deeds_of_actor : (callers : List (Thread CallerStep)) (actors : List (Thread ActorStep)) (a : ℕ) → deeds_of (actor_key a) (all_threads callers actors) ≡ as_deeds (deed_of_actor a) (deeds_of a actors)
 deeds_of_actor callers actors a =
     past caller_key deed_of_caller (actor_key a) callers (threads_as actor_key deed_of_actor actors) (λ n. keys_apart n a)

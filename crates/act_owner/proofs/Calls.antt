@@ -59,6 +59,7 @@ get_before [] x k below = absurd (omega arith)
 get_before (y ∷ xs) x zero below = refl
 get_before (y ∷ xs) x (suc k) below = get_before xs x k (omega arith)
 
+-- a last item that is written over is the new one, and those before it stay
 pub set_last : {X : Type 0} (xs : List X) (x y : X) → slice_set (xs ++ x ∷ []) (length xs) y ≡ xs ++ y ∷ []
 set_last [] x y = refl
 set_last (z ∷ xs) x y = ap (λ rest. z ∷ rest) (set_last xs x y)

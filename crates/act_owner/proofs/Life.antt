@@ -131,6 +131,7 @@ died owner a true places = record {
   places = places_death a owner.calls owner.kept places;
 }
 
+-- over a change each call stays, with its number and with its answer if it has one
 pub step : (owner : OwnerView) (change : Change) → length owner.kept ≡ length owner.calls → Extends owner (after_change owner change)
 step owner (Copied a) places = record { id = refl; calls = λ k _. refl; numbers = λ b k _. refl; kept = λ k _. refl; places = places }
 step owner (Released a) places = record { id = refl; calls = λ k _. refl; numbers = λ b k _. refl; kept = λ k _. refl; places = places }
@@ -141,10 +142,12 @@ step owner (Noticed (Death a)) places = died owner a (is_some (copies_in a owner
 
 -- ---- a life
 
+-- where each call has its place for an answer, so it is after any changes
 pub places_all : (owner : OwnerView) (changes : List Change) → length owner.kept ≡ length owner.calls → length (after_changes owner changes).kept ≡ length (after_changes owner changes).calls
 places_all owner [] places = places
 places_all owner (change ∷ changes) places = places_all (after_change owner change) changes (step owner change places).places
 
+-- over any changes a call that is known stays so, and its packet stays the same
 pub packet_stays_all : (owner : OwnerView) (changes : List Change) (k : ℕ) → length owner.kept ≡ length owner.calls → is_known_at owner k ≡ true → (is_known_at (after_changes owner changes) k ≡ true) × (packet_at (after_changes owner changes) k ≡ packet_at owner k)
 packet_stays_all owner [] k places known = (known, refl)
 packet_stays_all owner (change ∷ changes) k places known =
@@ -153,6 +156,7 @@ packet_stays_all owner (change ∷ changes) k places known =
     let later = packet_stays_all (after_change owner change) changes k grown.places now.0 in
     (later.0, later.1 ∙ now.1)
 
+-- some changes and later ones leave what the later ones make of the caller that the first ones leave
 pub after_all-append : (owner : OwnerView) (changes later : List Change) → after_changes owner (changes ++ later) ≡ after_changes (after_changes owner changes) later
 after_all-append owner [] later = refl
 after_all-append owner (change ∷ changes) later = after_all-append (after_change owner change) changes later

@@ -10,6 +10,7 @@ use Rattle.act_owner.proofs.Life.{Extends, step, found_below}
 
 -- ---- deaths
 
+-- the only answer that says that the actor died is `ActorDied`
 pub is_death-only : (answer : Answer) → is_death answer ≡ true → answer ≡ Err ActorDied
 is_death-only (Ok value) e = cc
 is_death-only (Err ActorDied) e = refl
@@ -46,6 +47,7 @@ sent_stays owner (Sent j) k is = sent_set owner.sent j k is
 sent_stays owner (Noticed (Answered reply)) k is = ap (λ (s : List Bool). unwrap_or (slice_get s k) false) (reply_sent owner reply (is_of_call owner reply) (is_some (kept_at owner.kept reply.future))) ∙ is
 sent_stays owner (Noticed (Death a)) k is = ap (λ (s : List Bool). unwrap_or (slice_get s k) false) (death_sent owner a (is_some (copies_in a owner.handles))) ∙ is
 
+-- over any changes a call that was sent stays so
 pub sent_stays_all : (owner : OwnerView) (changes : List Change) (k : ℕ) → is_sent owner k ≡ true → is_sent (after_changes owner changes) k ≡ true
 sent_stays_all owner [] k is = is
 sent_stays_all owner (change ∷ changes) k is = sent_stays_all (after_change owner change) changes k (sent_stays owner change k is)
@@ -223,6 +225,7 @@ none_dead zero a = refl
 none_dead (suc n) zero = refl
 none_dead (suc n) (suc a) = none_dead n a
 
+-- what a caller keeps and knows as it was opened comes from no notices, since it is nothing
 pub hears_opened : (limits : List (ℕ × Option ℕ)) (id : ℕ) (actors : List ℕ) → Hears (opened_under limits id actors) []
 hears_opened limits id actors = record {
   answers = λ k answer is. absurd (cc is);

@@ -13,6 +13,7 @@ pub record Applied {W : Type 0} (seen : W → WorldView) (event : Event) (old ne
   pub memory : is_memory told ≡ true → TakesMemory event (seen old)
   pub err : OnErr told (new ≡ old)
 
+-- a step of the world applies its event, where want of memory is told as the outcome
 pub applied : {W : Type 0} (seen : W → WorldView) (event : Event) (old new : W) (step : Result Outcome NoMemory) → Steps seen event old new step → Applied seen event old new (result_unwrap_or step (Err refusal.NoMemory))
 applied seen event old new (Ok told) is =
     let wants : is_memory told ≡ true → true ≡ false = λ memory. sym memory ∙ is.told in

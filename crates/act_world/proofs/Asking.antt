@@ -23,6 +23,7 @@ asked_after asked numbers a within all b = unwrap_or-slice_get (slice_set asked 
       ∙ sym (contains-push b a numbers ∙ rw (ne_eqb a b f.1) (or-false (contains b numbers)))
 ]
 
+-- where a caller asks a kill unrefused, what is told and the world with this kill marked follow the rules
 pub ask_follows : (h : History) (old : NetworkView) (slots : List SlotView) (c a place : ℕ) (note : KillNote) (owner : OwnerView) → IsLawful h → Refines h (record { network = old; slots = slots })
     → position (is_owner c) old.owners ≡ Some place → owner ≡ get_or old.owners place owner → Ok note ≡ kill_told owner a → a < length old.asked
     → (Ok Asked ≡ outcome_of h (AskKill c a)) × Refines (after h (AskKill c a)) (record { network = record old { asked = slice_set old.asked a true }; slots = slots })

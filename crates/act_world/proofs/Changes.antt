@@ -35,12 +35,15 @@ no_ok (Err error) P Q is = tt
 
 -- ---- letters and notices
 
+-- a network that stays as it is has no more than one letter or notice more
 pub grown_none : (network : NetworkView) → IsGrown network network
 grown_none network = omega arith
 
+-- with one notice more there is one letter or notice more, at most
 pub grown_reply : (mail : List MailEntry) (old new : List Posted) (notice : Posted) → new ≡ old ++ notice ∷ [] → length mail + length new ≤ length mail + length old + 1
 grown_reply mail old new notice is = omega (arith, ap (λ (all : List Posted). length all) is, length-append old (notice ∷ []))
 
+-- with one letter more there is one letter or notice more, at most
 pub grown_letter : (old new : List MailEntry) (replies : List Posted) (letter : MailEntry) → new ≡ old ++ letter ∷ [] → length new + length replies ≤ length old + length replies + 1
 grown_letter old new replies letter is = omega (arith, ap (λ (all : List MailEntry). length all) is, length-append old (letter ∷ []))
 

@@ -61,6 +61,7 @@ others_stay h c a d lawful apart = record {
   deaths = λ b. refl;
 }
 
+-- where a caller copies a handle unrefused, what is told and the world with its copy follow the rules
 pub copy_follows : (h : History) (old : NetworkView) (slots : List SlotView) (c a place copies : ℕ) (owner new : OwnerView) → IsLawful h → Refines h (record { network = old; slots = slots })
     → position (is_owner c) old.owners ≡ Some place → owner ≡ get_or old.owners place owner → Ok copies ≡ copy_answer a owner.handles → new ≡ with_handles owner (with_copy a owner.handles)
     → (Ok (Copies copies) ≡ outcome_of h (Copy c a)) × Refines (after h (Copy c a)) (record { network = record old { owners = slice_set old.owners place new }; slots = slots })

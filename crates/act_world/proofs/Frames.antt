@@ -51,6 +51,7 @@ pub owner_at_stays : (c : ℕ) (h g : History) (owner : Option OwnerView) → g.
 owner_at_stays c h g None casts same is = is_caller-same h g c casts ∙ is
 owner_at_stays c h g (Some owner) casts same is = (is_caller-same h g c casts ∙ is.0, owner_stays c h g owner casts same is.1)
 
+-- while the casts stay and nothing of any caller changes, the world's callers are what the history tells
 pub owners_stay : (h g : History) (owners : List OwnerView) → g.casts ≡ h.casts → ((c : ℕ) → SameCaller c h g)
     → ((c : ℕ) → IsOwnerAt h c (find (is_owner c) owners)) → (c : ℕ) → IsOwnerAt g c (find (is_owner c) owners)
 owners_stay h g owners casts same all c = owner_at_stays c h g (find (is_owner c) owners) casts (same c) (all c)
@@ -60,6 +61,7 @@ pub owner_here : (h : History) (owners : List OwnerView) (c place : ℕ) (d : Ow
     → (is_caller c h ≡ true) × IsOwnerOf h c (get_or owners place d)
 owner_here h owners c place d all at = subst (IsOwnerAt h c) (find-Some (is_owner c) owners place d at) (all c)
 
+-- who stands at no place among the world's callers is no caller of the history
 pub owner_absent : (h : History) (owners : List OwnerView) (c : ℕ) → ((c : ℕ) → IsOwnerAt h c (find (is_owner c) owners)) → position (is_owner c) owners ≡ None → is_caller c h ≡ false
 owner_absent h owners c all at = subst (IsOwnerAt h c) (find-None (is_owner c) owners at) (all c)
 
@@ -175,6 +177,7 @@ live_stays h g a live lawful grows arrived ran ended is = record {
   notes = λ c n named. is.notes c n (sym (names-same h g c a grows.casts) ∙ named) ∙ ap (has_letter (NoteLetter c a n)) (sym arrived);
 }
 
+-- where nothing arrives, an actor that runs nothing and doesn't end stays where the history says
 pub stage_stays : (h g : History) (a : ℕ) (stage : Option SlotView) → IsLawful h → Grows h g → g.arrived ≡ h.arrived → runs_of a g ≡ runs_of a h → is_dead a g ≡ is_dead a h → is_retired a g ≡ is_retired a h
     → IsStage h a stage → IsStage g a stage
 stage_stays h g a None lawful grows arrived ran dead retired is = cast_of-same h g a grows.casts ∙ is

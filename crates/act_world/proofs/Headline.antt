@@ -81,6 +81,7 @@ no_runs h a (item ∷ items) is lawful uncast =
 
 -- ---- what the world shows is what the history tells
 
+-- a caller's calls are those of its owner in the world, and none where it has no owner there
 pub calls_are : (h : History) (c : ℕ) (owner : Option OwnerView) → IsLawful h → IsOwnerAt h c owner → calls_of c h ≡ option_map_or (λ (o : OwnerView). o.calls) owner []
 calls_are h c None lawful is = no_calls h c (calls_of c h) refl lawful is
 calls_are h c (Some owner) lawful is = sym is.1.calls
@@ -89,6 +90,7 @@ pub kept_are : (h : History) (c : ℕ) (owner : Option OwnerView) → IsLawful h
 kept_are h c None lawful is = ap (λ (calls : List Submission). map (first_answer h c) (enumerate_from 0 calls)) (no_calls h c (calls_of c h) refl lawful is)
 kept_are h c (Some owner) lawful is = sym is.1.kept
 
+-- an actor's run list is that of its slot in the world, and empty where it has no slot there
 pub logs_are : (h : History) (a : ℕ) (slot : Option SlotView) → IsLawful h → IsStage h a slot → runs_of a h ≡ option_map_or slot_log slot []
 logs_are h a None lawful is = no_runs h a (runs_of a h) refl lawful is
 logs_are h a (Some Vacant) lawful is = no_runs h a (runs_of a h) refl lawful is

@@ -14,6 +14,7 @@ use Rattle.act_world.proofs.Tables.{table_is, kept_there}
 
 -- ---- the history after the post was collected
 
+-- the history with one post more that was collected
 abbrev pub heard : History → Post → History
 heard h post = record h { collected = h.collected ++ post ∷ [] }
 
@@ -49,6 +50,7 @@ others h post d apart = record {
     same_sent k None = refl
     same_sent k (Some call) = refl
 
+-- the world with a post's caller put back ties to the history with the post collected, where that caller does
 pub heard_ties : (h : History) (network : NetworkView) (slots : List SlotView) (post : Post) (place : ℕ) (owner new : OwnerView) → IsLawful h → Grows h (heard h post) → Refines h (record { network = network; slots = slots }) → SeesOwner network (caller_of post) place owner → IsOwnerOf (heard h post) (caller_of post) new
     → Refines (heard h post) (record { network = record network { owners = slice_set network.owners place new }; slots = slots })
 heard_ties h network slots post place owner new lawful grows refines sees is =
@@ -69,9 +71,11 @@ collect_unrefused h j post at = rw at refl
 collect_adds : (h : History) (j : ℕ) (post : Post) → slice_get h.posts j ≡ Some post → add_event h (Collect j) ≡ heard h post
 collect_adds h j post at = ap (λ (o : Option Post). record h { collected = and_also h.collected o }) at
 
+-- a history grows where a post of it is collected
 pub heard_grows : (h : History) (j : ℕ) (post : Post) → slice_get h.posts j ≡ Some post → Grows h (heard h post)
 heard_grows h j post at = subst (Grows h) (collect_adds h j post at) (added_grows h (Collect j))
 
+-- the world of the history with a post of it collected, and what that history tells of it, follow the rules
 pub finish : (h : History) (j : ℕ) (post : Post) (told : Outcome) (world : WorldView) → slice_get h.posts j ≡ Some post → told ≡ Ok (did_collect h (Some post)) → Refines (heard h post) world → (told ≡ outcome_of h (Collect j)) × Refines (after h (Collect j)) world
 finish h j post told world at told_is refines =
     let both = accepted_follows h (Collect j) (did h (Collect j)) world (collect_unrefused h j post at) refl (subst (λ (g : History). Refines g world) (sym (collect_adds h j post at)) refines) in
@@ -79,6 +83,7 @@ finish h j post told world at told_is refines =
 
 -- ---- what is asked of each notice
 
+-- where its caller collects this notice, what is told and the world with the caller put back follow the rules
 abbrev pub Collects : History → NetworkView → List SlotView → ℕ → Posted → Type 0
 Collects h network slots j notice = (place : ℕ) (owner new : OwnerView) (told : Outcome) → SeesOwner network notice.caller place owner → told ≡ told_collected notice.caller (collect_result owner notice.notice) → new ≡ after_collect owner notice.notice → KnowsDeath notice.notice owner new
     → (told ≡ outcome_of h (Collect j)) × Refines (after h (Collect j)) (record { network = record network { owners = slice_set network.owners place new }; slots = slots })

@@ -12,6 +12,7 @@ use Rattle.act_world.proofs.Frames.{same_caller, owners_stay, mail_stays, replie
 
 -- ---- one number more in a list
 
+-- a list that ends with a number contains it
 pub contains-last : (a : ℕ) (ns : List ℕ) → contains a (ns ++ a ∷ []) ≡ true
 contains-last a ns = list_any-append (λ m. m == a) ns (a ∷ []) ∙ (let same : (a == a) ≡ true = eq-eqb a a refl in rw same (or-true (contains a ns)))
 

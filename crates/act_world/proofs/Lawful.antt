@@ -64,6 +64,7 @@ few_step h (Retire a) few accepted c = few c
 pub has_letter-more : (letter : Letter) (xs ys : List Letter) → has_letter letter xs ≡ true → has_letter letter (xs ++ ys) ≡ true
 has_letter-more letter xs ys e = rw (list_any-append (is_letter letter) xs ys, e) refl
 
+-- a letter is in a list with one more at its end where it was before or is that one
 pub has_letter-last : (letter other : Letter) (xs : List Letter) → has_letter letter (xs ++ other ∷ []) ≡ (has_letter letter xs || is_letter letter other)
 has_letter-last letter other xs = list_any-append (is_letter letter) xs (other ∷ []) ∙ ap (λ (b : Bool). has_letter letter xs || b) (or-false (is_letter letter other))
 
@@ -157,10 +158,12 @@ came_step h (Retire a) came accepted = came
 
 -- ---- letters and notices are of callers that their actor's cast names
 
+-- the cast of a letter's actor names the letter's caller
 abbrev pub IsNamedLetter : History → Letter → Type 0
 IsNamedLetter h (CallLetter c a n) = names c (cast_of a h) ≡ true
 IsNamedLetter h (NoteLetter c a n) = names c (cast_of a h) ≡ true
 
+-- the cast of a post's actor names the post's caller
 abbrev pub IsNamedPost : History → Post → Type 0
 IsNamedPost h (ReplyPost c a place) = names c (cast_of a h) ≡ true
 IsNamedPost h (DeathPost c a) = names c (cast_of a h) ≡ true
@@ -247,6 +250,7 @@ lawful_step h event lawful accepted = record {
   named = named_step h event lawful.retires.named lawful.named accepted;
 }
 
+-- the history of a world is lawful after any events
 pub world_lawful : (casts : List ActorSpec) (events : List Event) → IsLawful (after_all (opening casts) events)
 world_lawful casts events = after_all_keeps IsLawful lawful_step (opening casts) events (record {
   sound = world_sound casts [];

@@ -23,11 +23,13 @@ filter_rank {A = A} p (y ∷ xs) n x e = go (p y) refl n (λ (m : ℕ). filter_r
     go true passes (suc m) rest e = record { place = suc (rest m e).place; at = (rest m e).at; rank_is = rw passes (ap suc (rest m e).rank_is) }
     go false passes n rest e = record { place = suc (rest n e).place; at = (rest n e).at; rank_is = rw passes (rest n e).rank_is }
 
+-- what is written at a place of a list stands there
 pub get_set-same : {X : Type 0} (xs : List X) (i : ℕ) (x y : X) → slice_get xs i ≡ Some x → slice_get (slice_set xs i y) i ≡ Some y
 get_set-same [] i x y e = cc
 get_set-same (z ∷ xs) zero x y e = refl
 get_set-same (z ∷ xs) (suc i) x y e = get_set-same xs i x y e
 
+-- what is written at one place leaves what stands at another
 pub get_set-other : {X : Type 0} (xs : List X) (i j : ℕ) (y : X) → i ≢ j → slice_get (slice_set xs i y) j ≡ slice_get xs j
 get_set-other [] i j y apart = refl
 get_set-other (z ∷ xs) zero zero y apart = absurd (apart refl)
@@ -35,6 +37,7 @@ get_set-other (z ∷ xs) zero (suc j) y apart = refl
 get_set-other (z ∷ xs) (suc i) zero y apart = refl
 get_set-other (z ∷ xs) (suc i) (suc j) y apart = get_set-other xs i j y (λ e. apart (ap suc e))
 
+-- what stands at a place, written there again, leaves the list as it was
 pub set-same : {X : Type 0} (xs : List X) (i : ℕ) (x : X) → slice_get xs i ≡ Some x → slice_set xs i x ≡ xs
 set-same [] i x e = cc
 set-same {X = X} (z ∷ xs) zero x e = let same : z ≡ x = cc in ap (λ (w : X). w ∷ xs) (sym same)

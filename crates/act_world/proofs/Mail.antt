@@ -72,6 +72,7 @@ letter_cast h (NoteLetter c a n) named none = named_cast c a h named none
 abbrev pub brought : History → Letter → History
 brought h letter = record h { arrived = h.arrived ++ letter ∷ [] }
 
+-- one letter more leaves what an actor holds for a call, if it doesn't change whether the call's letter arrived
 pub held_same : (h : History) (letter : Letter) (a c n : ℕ) → has_letter (CallLetter c a n) (h.arrived ++ letter ∷ []) ≡ has_letter (CallLetter c a n) h.arrived → held_packet h a c n ≡ held_packet (brought h letter) a c n
 held_same h letter a c n same = ap (λ (b : Bool). cond (nat_lt n (ran_count c a h)) None (cond b (packet_by_number h c a n) None)) (sym same)
 

@@ -26,6 +26,7 @@ pub or_else-Ok : {X : Type 0} (refusal : Option HandleRefusal) (value told : X) 
 or_else-Ok None value told e = (refl, cc)
 or_else-Ok (Some refusal) value told e = cc
 
+-- where the handles answer with a refusal, it is what refused
 pub or_else-Err : {X : Type 0} (refusal : Option HandleRefusal) (value : X) (told : HandleRefusal) → Err told ≡ or_else refusal value → refusal ≡ Some told
 or_else-Err None value told e = cc
 or_else-Err (Some refusal) value told e = let same : told ≡ refusal = cc in ap Some (sym same)
@@ -37,6 +38,7 @@ pub record IsHere (h : History) (c : ℕ) (owner : OwnerView) : Type 0 where
   pub caller : is_caller c h ≡ true
   pub is : IsOwnerOf h c owner
 
+-- the caller that stands at its place in the world has what the history tells of it
 pub caller_here : (h : History) (network : NetworkView) (slots : List SlotView) (c place : ℕ) (owner : OwnerView) → Refines h (record { network = network; slots = slots })
     → position (is_owner c) network.owners ≡ Some place → owner ≡ get_or network.owners place owner → IsHere h c owner
 caller_here h network slots c place owner refines at owner_is =
@@ -108,11 +110,14 @@ sent_stays h g c k (Some call) calls mail = rw calls (mail call.actor (number_of
 
 -- ---- the copies of one handle
 
+-- with one pair more of a caller and an actor, these two are counted once more
 pub times-same : (c a : ℕ) (pairs : List (ℕ × ℕ)) → count_pairs c a (pairs ++ (c, a) ∷ []) ≡ count_pairs c a pairs + 1
 times-same c a pairs = times-push c a c a pairs ∙ rw (eq-eqb c c refl, eq-eqb a a refl) refl
 
+-- with one pair more, another caller is counted as often as before, with any actor
 pub times-other_caller : (c a d b : ℕ) (pairs : List (ℕ × ℕ)) → c ≢ d → count_pairs d b (pairs ++ (c, a) ∷ []) ≡ count_pairs d b pairs
 times-other_caller c a d b pairs apart = times-push d b c a pairs ∙ rw (ne_eqb c d apart) (omega arith)
 
+-- with one pair more, its caller is counted with another actor as often as before
 pub times-other_actor : (c a b : ℕ) (pairs : List (ℕ × ℕ)) → a ≢ b → count_pairs c b (pairs ++ (c, a) ∷ []) ≡ count_pairs c b pairs
 times-other_actor c a b pairs apart = times-push c b c a pairs ∙ rw (ne_eqb a b apart, eq-eqb c c refl) (omega arith)

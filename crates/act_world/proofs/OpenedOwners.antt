@@ -189,6 +189,7 @@ caller_named state c [] = refl
 caller_named state c (cast ∷ casts) =
     list_any-append (λ m. m == c) cast.callers (callers_named casts) ∙ ap (λ b. contains c cast.callers || b) (caller_named state c casts)
 
+-- among the marks at the opening, no kill of any actor is marked as asked
 pub nothing_asked : (a : ℕ) → unwrap_or (slice_get (replicate 9 false) a) false ≡ false
 nothing_asked a = none_dead 9 a
 
@@ -205,6 +206,7 @@ owner_opened state c casts differ = record {
   deaths = λ a. none_dead 9 a;
 }
 
+-- where no actor has two casts, the callers opened with these have what the history tells at the opening
 pub owners_opened : {K : Type 0} (state : K → KindState) (casts : List (Cast K)) (owners : List OwnerView) → ActorsDiffer casts → HasOwners casts (callers_named casts) owners → (c : ℕ) → IsOwnerAt (opening (map (actor_spec state) casts)) c (find (is_owner c) owners)
 owners_opened state casts owners differ has c =
     subst (IsOwnerAt (opening (map (actor_spec state) casts)) c) (sym (has c)) (go (contains c (callers_named casts)) (sym (caller_named state c casts)))

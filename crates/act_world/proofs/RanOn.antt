@@ -12,9 +12,11 @@ use Rattle.act_world.proofs.Frames.{packet_stays}
 abbrev pub ran_on : History → ℕ → ℕ → RunItem → History
 ran_on h a c item = after_run a c h (Some item)
 
+-- an item that ran is the last of its actor's run list
 pub runs_here : (h : History) (a c : ℕ) (item : RunItem) → runs_of a (ran_on h a c item) ≡ runs_of a h ++ item ∷ []
 runs_here h a c item = under-push a a h.ran item ∙ ap (λ (b : Bool). runs_of a h ++ cond b (item ∷ []) []) (eq-eqb a a refl)
 
+-- an item that ran leaves the run lists of other actors
 pub runs_other : (h : History) (a b c : ℕ) (item : RunItem) → a ≢ b → runs_of b (ran_on h a c item) ≡ runs_of b h
 runs_other h a b c item apart = under-push b a h.ran item ∙ ap (λ (x : Bool). runs_of b h ++ cond x (item ∷ []) []) (ne_eqb a b apart) ∙ append-nil (runs_of b h)
 

@@ -22,6 +22,7 @@ pub record SeesOwner (network : NetworkView) (c place : ℕ) (owner : OwnerView)
   pub place_is : position (is_owner c) network.owners ≡ Some place
   pub owner_is : owner ≡ get_or network.owners place owner
 
+-- the caller that is seen at its place is one of the history's, and has what the history tells of it
 pub seen_owner : (h : History) (network : NetworkView) (slots : List SlotView) (c place : ℕ) (owner : OwnerView) → Refines h (record { network = network; slots = slots }) → SeesOwner network c place owner → (is_caller c h ≡ true) × IsOwnerOf h c owner
 seen_owner h network slots c place owner refines sees = subst (λ (o : OwnerView). (is_caller c h ≡ true) × IsOwnerOf h c o) (sym sees.owner_is) (owner_here h network.owners c place owner refines.owners sees.place_is)
 
@@ -166,6 +167,7 @@ sent_ties h network slots c k place owner call lawful grows refines sees at =
       asked = refines.asked;
     }
 
+-- where a caller sends a call unrefused, what is told and the world with its letter and mark follow the rules
 pub send_follows : (h : History) (network : NetworkView) (slots : List SlotView) (c k place i : ℕ) (owner new : OwnerView) (address : ℕ × ℕ) (mail : List MailEntry) → IsLawful h → Refines h (record { network = network; slots = slots }) → SeesOwner network c place owner
     → sending_refusal owner k ≡ None → address_at owner.calls k ≡ Some address → new ≡ with_sent owner k → i ≡ length network.mail → mail ≡ network.mail ++ CallEntry (noted c k address) ∷ []
     → (Ok (Mail i) ≡ outcome_of h (Send c k)) × Refines (after h (Send c k)) (record { network = record network { owners = slice_set network.owners place new; mail = mail }; slots = slots })

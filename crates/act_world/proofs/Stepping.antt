@@ -28,12 +28,15 @@ abbrev pub FollowsThere : Event → NetworkView → NetworkView → Outcome → 
 FollowsThere event old new told = (slots : List SlotView) → FollowsRules event (with_slots slots old) (with_slots slots new) told
 
 module _ (event : Event) (old new : NetworkView) where
+  -- a refusal by the rules, other than for want of memory, that changes nothing is a step of the network
   pub refused_there : (refusal : WorldRefusal) → new ≡ old → is_memory (Err refusal) ≡ false → FollowsThere event old old (Err refusal) → StepsThere event old new (Ok (Err refusal))
   refused_there refusal same told follows slots = refused (with_slots slots) event old new refusal same told (follows slots)
 
+  -- an event done by the rules, with one letter or notice more at most, is a step of the network
   pub done_there : (did : Did) → FollowsThere event old new (Ok did) → IsGrown old new → StepsThere event old new (Ok (Ok did))
   done_there did follows grown slots = done (with_slots slots) event old new did (follows slots) grown
 
+  -- an error that changes nothing is a step of the network, if the event takes memory and nothing refuses it
   pub wanting_there : (result : Result Outcome NoMemory) (P : NoMemory → Type 0) → IsErrAnd result P → new ≡ old → IsUnrefusedThere event old → ((slots : List SlotView) → TakesMemory event (with_slots slots old)) → StepsThere event old new result
   wanting_there result P is same unrefused takes slots = wanting (with_slots slots) event old new result P is same (unrefused slots) (takes slots)
 

@@ -159,6 +159,7 @@ others_stay h c a d method args apart = record {
     same : calls_of d (add_event h (Submit c a method args)) ≡ calls_of d h
     same = under-other c d h.submitted (record { actor = a; method = method; args = args }) apart
 
+-- where a caller submits a call unrefused, what is told and the world with the call follow the rules
 pub submit_follows : (h : History) (old : NetworkView) (slots : List SlotView) (c a place k : ℕ) (method : Method) (args : List Arg) (owner new : OwnerView) → IsLawful h → Refines h (record { network = old; slots = slots })
     → position (is_owner c) old.owners ≡ Some place → owner ≡ get_or old.owners place owner → refusal_to_submit owner a args ≡ None → k ≡ length owner.calls → new ≡ with_submission owner a method args
     → (Ok (Future c k) ≡ outcome_of h (Submit c a method args)) × Refines (after h (Submit c a method args)) (record { network = record old { owners = slice_set old.owners place new }; slots = slots })

@@ -12,6 +12,7 @@ table_from n (o ∷ new) (x ∷ calls) G long h =
     let rest : new ≡ map G (enumerate_from (n + 1) calls) = table_from (n + 1) new calls G (omega arith) (λ j y e. let more : n + suc j ≡ (n + 1) + j = omega arith in h (suc j) y e ∙ ap (λ (m : ℕ). Some (G (m, y))) more) in
     ap (λ (answer : Option Answer). answer ∷ new) first ∙ ap (λ (answers : List (Option Answer)). G (n, x) ∷ answers) rest
 
+-- a table as long as the calls, with at each place what the call there gives by it, is the list of what they give
 pub table_is : (new : List (Option Answer)) (calls : List Submission) (G : ℕ × Submission → Option Answer) → length new ≡ length calls → ((j : ℕ) (x : Submission) → slice_get calls j ≡ Some x → slice_get new j ≡ Some (G (j, x))) → new ≡ map G (enumerate_from 0 calls)
 table_is new calls G long h = table_from 0 new calls G long (λ j x e. let z : j ≡ 0 + j = omega arith in h j x e ∙ ap (λ (m : ℕ). Some (G (m, x))) z)
 

@@ -67,6 +67,7 @@ told_ties h network slots a c lawful refines =
       asked = refines.asked;
     }
 
+-- where a dead actor tells a caller its death, what is told and the world with the notice follow the rules
 pub tell_follows : (h : History) (network : NetworkView) (slots : List SlotView) (a c j : ℕ) (slot : SlotView) (replies : List Posted) → IsLawful h → Refines h (record { network = network; slots = slots }) → slice_get slots a ≡ Some slot
     → naming_refusal (find (is_owner c) network.owners) a ≡ None → is_dead_slot slot ≡ true → j ≡ length network.replies → replies ≡ network.replies ++ record { caller = c; notice = Death a } ∷ []
     → (Ok (Told j) ≡ outcome_of h (Tell a c)) × Refines (after h (Tell a c)) (record { network = record network { replies = replies }; slots = slots })
