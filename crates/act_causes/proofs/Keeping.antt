@@ -31,6 +31,7 @@ pub record HasCome (casts : List ActorSpec) (deeds : List Deed) (h : History) (a
   pub came : has_letter (CallLetter packet.caller a packet.number) h.arrived ≡ true
   pub listed : names packet.caller (cast_at a casts) ≡ true
 
+-- what the deed leaves is there: a call sent, a letter arrived, a kill asked, or a death posted
 abbrev pub HasLeft : List ActorSpec → List Deed → History → Deed → Type 0
 HasLeft casts deeds h (Changed c (Copied a)) = Unit {0}
 HasLeft casts deeds h (Changed c (Released a)) = Unit {0}
@@ -195,6 +196,7 @@ told_done h event told e = go (refusal_of h event) refl e
     go None is e = is
     go (Some refusal) is e = cc
 
+-- an accepted event stands for the deed that it is, if that is free and leaves world and history as the deeds then tell
 pub go_on : (casts : List ActorSpec) (deeds : List Deed) (h : History) (deed : Deed) (event : Event) (told : Did) (world : WorldView) → Keeps casts deeds h → IsEventOf h deed event → IsFree casts deeds deed
     → (Ok told ≡ outcome_of h event) × Refines (after h event) world
     → ((c : ℕ) → IsNamed casts c → find (is_owner c) world.network.owners ≡ Some (owner_by casts c (deeds ++ deed ∷ [])))
@@ -234,6 +236,7 @@ go_on casts deeds h deed event told world keeps is free follows owners inboxes r
 pub named_is : (casts : List ActorSpec) (h : History) (c : ℕ) → h.casts ≡ casts → IsNamed casts c → is_caller c h ≡ true
 named_is casts h c same named = subst (λ (l : List ActorSpec). IsNamed l c) (sym same) named
 
+-- an actor's cast in a history of these casts is its cast among them
 pub cast_is : (casts : List ActorSpec) (h : History) (a : ℕ) → h.casts ≡ casts → cast_of a h ≡ cast_at a casts
 cast_is casts h a same = ap (cast_at a) same
 
@@ -258,6 +261,7 @@ pub record IsToldOf (casts : List ActorSpec) (deeds : List Deed) (h : History) (
   pub calls : calls_of c h ≡ (owner_by casts c deeds).calls
   pub kept : kept_of c h ≡ (owner_by casts c deeds).kept
 
+-- in a history that stands for deeds, each caller has the calls and the kept answers that they leave it
 pub told_of : (casts : List ActorSpec) (deeds : List Deed) (h : History) (c : ℕ) → Keeps casts deeds h → IsToldOf casts deeds h c
 told_of casts deeds h c keeps = go (is_named casts c) refl
   where

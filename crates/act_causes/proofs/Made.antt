@@ -91,6 +91,7 @@ pub record AreActorsOf (deeds : List Deed) (h : History) : Type 0 where
   pub killed : (a : ℕ) → contains a h.killed ≡ list_any (is_kill_taken a) deeds
   pub retired : (a : ℕ) → contains a h.retired ≡ list_any (is_end_of a) deeds
 
+-- whether an actor is dead is the same by the deeds and by a history that tells what actors did in them
 pub dead_is : (deeds : List Deed) (h : History) (a : ℕ) → AreActorsOf deeds h → is_dead a h ≡ is_dead_by a deeds
 dead_is deeds h a are =
     ap (λ (b : Bool). b || has_terminated (runs_of a h)) (are.killed a)
@@ -119,6 +120,7 @@ pub record IsNoEnd (deed : Deed) : Type 0 where
   pub kills_none : (a : ℕ) → is_kill_taken a deed ≡ false
   pub ends_none : (a : ℕ) → is_end_of a deed ≡ false
 
+-- where a deed and the history add no run, taken kill or retirement, the history still tells what the actors did
 pub actors_stay : (deeds : List Deed) (deed : Deed) (h g : History) → IsNoEnd deed → g.ran ≡ h.ran → g.killed ≡ h.killed → g.retired ≡ h.retired → AreActorsOf deeds h → AreActorsOf (deeds ++ deed ∷ []) g
 actors_stay deeds deed h g none ran killed retired are = record {
   runs = λ a. ap (under a) ran ∙ are.runs a ∙ sym (log_same a deeds deed (none.runs_none a));

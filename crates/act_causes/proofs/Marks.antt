@@ -12,6 +12,7 @@ use Rattle.act_rules.specs.declared.history.Post.TheVariants.{Reply as ReplyPost
 
 -- ---- each call that ran was replied to
 
+-- the post stands among those of the history
 abbrev pub HasPost : History → Post → Type 0
 HasPost h post = (j : ℕ) × (slice_get h.posts j ≡ Some post)
 

@@ -276,6 +276,7 @@ module _ {A : Type 0} (threads : List (Thread A)) (merged : List (Deed A)) (each
     cuts = λ before later u m y e. record { causes = causes before later u m y e; places = places before later u m y e; own = own before later u m y e };
   }
 
+-- deeds of threads with distinct numbers, in none of which a stamp falls, can be merged into one order by stamp
 pub merge_of : {A : Type 0} (threads : List (Thread A)) → AreApart threads → NeverFall threads → (merged : List (Deed A)) × IsMergeOf threads merged
 merge_of {A = A} threads apart never = (ordered (all_of threads), is_merge threads (ordered (all_of threads)) each (ordered-order (all_of threads)))
   where

@@ -10,6 +10,7 @@ pub record IsFoundAt {X : Type 0} (p : X → Bool) (xs : List X) (x : X) : Type 
   pub is : x ≡ get_or xs place x
   pub below : place < length xs
 
+-- an item that a search finds stands at the first place that passes the test
 pub found_at : {X : Type 0} (p : X → Bool) (xs : List X) (x : X) → find p xs ≡ Some x → IsFoundAt p xs x
 found_at {X = X} p xs x e = go (position p xs) refl
   where

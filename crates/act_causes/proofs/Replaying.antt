@@ -103,6 +103,7 @@ replays casts deeds (deed ∷ later) fitting before caused =
     let next = one_event casts deeds deed before (goes_on casts deeds (history casts before.events) deed fitting before.keeps caused.0) in
     subst (IsReplayed casts) (append_assoc deeds (deed ∷ []) later) (replays casts (deeds ++ deed ∷ []) later fitting next caused.1)
 
+-- deeds, each caused by those before it, can be done as the events of a play, step by step, where the casts fit
 pub play_of : (casts : List ActorSpec) (deeds : List Deed) → SpecsFit casts → AreCaused casts [] deeds → (events : List Event) × IsStepwisePlay casts deeds events
 play_of casts deeds fitting caused =
     let all = replays casts [] deeds fitting (record {

@@ -39,6 +39,7 @@ inboxes_set slots a old new at has all b = elim (eqb_tells a b) [
 ]
 
 module _ (casts : List ActorSpec) (deeds : List Deed) (h : History) (a : ℕ) (keeps : Keeps casts deeds h) where
+  -- an actor that has a cast and hasn't ended by the deeds runs in the world that stands for them
   pub lives : is_some (cast_at a casts) ≡ true → is_ended_by a deeds ≡ false → Lives h keeps.world.slots a
   lives cast on =
       lives_at h keeps.world.slots a (ap (λ (o : Option ActorSpec). is_some o) (cast_is casts h a keeps.casts_are) ∙ cast)

@@ -23,10 +23,12 @@ AreUnrefused owner (change ∷ changes) = IsUnrefused owner change × AreUnrefus
 
 -- ---- the front, the rest, and one more
 
+-- where nothing refuses some changes, nothing refuses the first ones of them
 pub unrefused_front : (owner : OwnerView) (xs ys : List Change) → AreUnrefused owner (xs ++ ys) → AreUnrefused owner xs
 unrefused_front owner [] ys free = tt
 unrefused_front owner (x ∷ xs) ys free = (free.0, unrefused_front (after_change owner x) xs ys free.1)
 
+-- where nothing refuses some changes, nothing refuses the rest of them after the first ones
 pub unrefused_rest : (owner : OwnerView) (xs ys : List Change) → AreUnrefused owner (xs ++ ys) → AreUnrefused (after_changes owner xs) ys
 unrefused_rest owner [] ys free = free
 unrefused_rest owner (x ∷ xs) ys free = unrefused_rest (after_change owner x) xs ys free.1
@@ -45,6 +47,7 @@ ready_known owner k free = go (slice_get owner.calls k) refl free
     go None at e = cc
     go (Some call) at e = rw at (needs-none (list_all (is_known owner.kept) call.args) NotReady _ e).0
 
+-- where each call has a place for its answer: the arguments of one sent by unrefused changes have their answers
 pub sent_known : (owner : OwnerView) (changes : List Change) (k : ℕ) → length owner.kept ≡ length owner.calls → AreUnrefused owner changes → Contains changes (Sent k) → is_known_at (after_changes owner changes) k ≡ true
 sent_known owner [] k places free has = absurd (let below = has.1 in omega arith)
 sent_known owner (change ∷ changes) k places free (zero, below, is) =
@@ -95,6 +98,7 @@ gone_one owner (Sent k) a gone free = record { copies = refl; calls = refl }
 gone_one owner (Noticed (Answered reply)) a gone free = reply_same owner reply a (is_of_call owner reply) (is_some (kept_at owner.kept reply.future))
 gone_one owner (Noticed (Death b)) a gone free = death_same owner a b (is_some (copies_in b owner.handles))
 
+-- a caller that let all copies of an actor's handle go gets none, and calls it no more, by changes that nothing refuses
 pub gone_stays : (owner : OwnerView) (changes : List Change) (a : ℕ) → copies_in a owner.handles ≡ Some 0 → AreUnrefused owner changes
     → (copies_in a (after_changes owner changes).handles ≡ Some 0) × (calls_to a (after_changes owner changes).calls ≡ calls_to a owner.calls)
 gone_stays owner [] a gone free = (gone, refl)

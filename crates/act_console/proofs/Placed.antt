@@ -13,6 +13,7 @@ goes_on line old new whole xs i d lt h so_far =
 pub goes_on_at : {X : Type 0} (line : ℕ → X → List ℕ) (old new whole : List ℕ) (xs : List X) (i : ℕ) (x : X) → i < length xs → x ≡ get_or xs i x → new ≡ old ++ line i x → old ++ numbered_lines line i (drop i xs) ≡ whole → new ++ numbered_lines line (i + 1) (drop (i + 1) xs) ≡ whole
 goes_on_at line old new whole xs i x lt is h so_far = goes_on line old new whole xs i x lt (h ∙ ap (λ (y : _). old ++ line i y) is) so_far
 
+-- where no member is left to be written, what was written is the whole
 pub is_done : {X : Type 0} (line : ℕ → X → List ℕ) (old whole : List ℕ) (xs : List X) (i : ℕ) → length xs ≤ i → old ++ numbered_lines line i (drop i xs) ≡ whole → old ≡ whole
 is_done line old whole xs i le so_far =
     sym (append-nil old) ∙ sym (ap (λ (left : List _). old ++ numbered_lines line i left) (drop_of_length-le xs le)) ∙ so_far

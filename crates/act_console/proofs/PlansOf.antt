@@ -145,6 +145,7 @@ bad_plan_line script c place is known =
     let found = head_found (bad_place script) (line_at script) (has_line script) c place (callers_of_roles script.roles) (ap (λ (l : List (ℕ × ℕ)). slice_get l 0) (sym (rows_same script)) ∙ is) in
     (found.0, after_none (map (λ (s : ℕ × Step × ℕ). s.2) (filter (λ (s : ℕ × Step × ℕ). not (contains s.0 (callers_of_roles script.roles))) script.steps)) (filter_map (λ (c : ℕ). bad_line c script) (callers_of_roles script.roles)) known ∙ found.1, found.2)
 
+-- a script has no bad line where each step is of a caller that a role names, and no plan has a step that is refused
 pub no_bad_line : (script : Script) → first_bad_plan (map actor_spec_of script.roles) (plans_in script) ≡ None
     → slice_get (map (λ (s : ℕ × Step × ℕ). s.2) (filter (λ (s : ℕ × Step × ℕ). not (contains s.0 (callers_of_roles script.roles))) script.steps)) 0 ≡ None
     → slice_get (bad_lines script) 0 ≡ None

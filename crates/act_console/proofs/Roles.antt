@@ -2,6 +2,7 @@
 use Rattle.act_console.proofs.Common.{◌≡◌, ◌≢◌, ◌<◌, List, length, map, get_or, sym, subst, arith, get_or-map, length-map, KindState, Role, ActorSpec, IsLimit}
 use Rattle.act_console.proofs.Common.{actor_spec_of, Cast, CallersDiffer, IsFitting, actor_spec, AreFitting}
 
+-- casts with the actor specifications of roles that fit can be opened
 pub casts_fit : {K : Type 0} (state : K → KindState) (casts : List (Cast K)) (roles : List Role) → map (actor_spec state) casts ≡ map actor_spec_of roles → AreFitting (map actor_spec_of roles) → IsFitting casts
 casts_fit state casts roles same fit =
     let fits : AreFitting (map (actor_spec state) casts) = subst AreFitting (sym same) fit in

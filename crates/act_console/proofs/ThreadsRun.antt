@@ -195,6 +195,7 @@ module _ (roles : List Role) (steps : List (ℕ × Step × ℕ)) (marks : List M
   has_line faults.NoThread told = tt
   has_line faults.NoMemory told = tt
 
+  -- what a run's fault tells is so of its script, if the roles fit: the line of the first fault, or that plans are good
   pub explains : (fault : RunFault) → AreFitting (map actor_spec_of roles) → IsFault casts plans fault → Explains marks fault (with_good_plans 16 8 (Ok (script_of roles steps)))
   explains faults.TooMany fit told = absurd told
   explains (faults.BadPlan c place) fit told = let bad = bad_line_of c place told in (bad.0, bad.2, bad_script roles steps bad.0 fit bad.1)

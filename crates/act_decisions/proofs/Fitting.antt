@@ -66,6 +66,7 @@ unsaid end a past = ap (λ (o : Option ToldActor). option_map_or (λ actor. acto
 pub callers_said : (end : ToldEnd) (a : ℕ) (actor : ToldActor) → slice_get end.actors.items a ≡ Some actor → callers_of end a ≡ actor.callers.items
 callers_said end a actor at = ap (λ (o : Option ToldActor). option_map_or (λ actor. actor.callers.items) o []) at
 
+-- the runs that are told at an actor's number are those of the actor that the data has there
 pub runs_said : (end : ToldEnd) (a : ℕ) (actor : ToldActor) → slice_get end.actors.items a ≡ Some actor → rans_in end a ≡ actor.runs.items
 runs_said end a actor at = ap (λ (o : Option ToldActor). option_map_or (λ actor. actor.runs.items) o []) at
 

@@ -217,8 +217,10 @@ module _ (roles : List Role) (steps : List (ℕ × Step × ℕ)) (rest : List �
             by true e = done.0.calls c ∙ ap (map submission_of_call) (of_caller end c line.0 line.1) ∙ line.2.told e
             by false e = absurd (telling (line.2.untold e))
 
+-- a sayable walk that follows what was read matches steps and lines, where sayable roles and events end as they tell
 pub walks_decide : WalksDecide
 walks_decide roles steps rest end events walk said sayable walk_sayable read so follows = matches roles steps rest end events walk said sayable walk_sayable read so follows
 
+-- no run of what was read is misplaced, where sayable roles and events end as steps and lines tell
 pub none_misplaced : NoRunIsMisplaced
 none_misplaced roles steps rest end events said sayable lined so = misplaced_refutes roles steps rest end events said sayable lined so

@@ -186,6 +186,7 @@ module _ (end : ToldEnd) (steps : List (ℕ × Step × ℕ)) (casts : List Actor
             },
           )
 
+  -- the answers that the data takes may stand for the kept ones, where no run took a call with a value for a failure
   pub kept_may_stand : NoValueIsLost casts end → MayStandForKept casts (with_calls (data_calls end) (told_of h)) data_kept
   kept_may_stand lost c = (chosen_length h (calls_in end c) (kept_of c h), λ k. go k (slice_get (calls_in end c) k) refl)
     where

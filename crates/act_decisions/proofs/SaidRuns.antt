@@ -10,6 +10,7 @@ use Rattle.act_walks.specs.Fits.{rans_in, runs_in, call_of_run, call_of_item}
 use Rattle.act_decisions.specs.LeftBy.{IsSameRun, IsLeftBy}
 use Rattle.act_decisions.specs.Placed.{IsRunIn, item_told, answer_told}
 
+-- what is told to have run and an item that is the same call have one caller and one future
 pub same_call : (run : ToldRun) (item : RunItem) → IsSameRun run item → call_of_run run ≡ call_of_item item
 same_call run item same = λ i. (sym same.caller i, sym same.future i)
 
@@ -57,9 +58,11 @@ module _ (end : ToldEnd) (h : History) (fits : IsLeftBy end h) where
   pub said_runs : (a : ℕ) → runs_in end a ≡ map call_of_item (runs_of a h)
   said_runs a = same_calls (rans_in end a) (runs_of a h) (fits.runs a)
 
+  -- for a call that is told to have run, the actor's run list has the same call at the same place
   pub item_of_said : (a p : ℕ) (run : ToldRun) → IsRunIn end a p run → (item : RunItem) × (slice_get (runs_of a h) p ≡ Some item) × IsSameRun run item
   item_of_said a p run at = item_at (rans_in end a) (runs_of a h) p run (fits.runs a) at
 
+  -- each item of an actor's run list is told as the same call, at the same place
   pub said_of_item : (a p : ℕ) (item : RunItem) → slice_get (runs_of a h) p ≡ Some item → (run : ToldRun) × IsRunIn end a p run × IsSameRun run item
   said_of_item a p item at = run_at (rans_in end a) (runs_of a h) p item (fits.runs a) at
 

@@ -25,6 +25,7 @@ runs_more {C} epochs epoch a =
     flat_map-append (λ (one : Epoch C). log_in one.ends a) epochs (epoch ∷ [])
     ∙ ap (λ (l : List RunItem). runs a epochs ++ l) (append-nil (log_in epoch.ends a))
 
+-- an epoch that opens with the casts that are left joins the others, leaves its own, and its runs come last
 pub goes_on : {C : Type 0} (tells : C → SessionView → SessionView → Type 0) (casts : List ActorSpec) (epochs : List (Epoch C)) (epoch : Epoch C)
     → AreEpochs tells casts epochs → epoch.casts ≡ casts_after casts epochs → IsEpoch tells epoch → GoesOn tells casts epochs epoch
 goes_on tells casts epochs epoch are opens is = record {

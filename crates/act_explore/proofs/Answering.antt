@@ -65,6 +65,7 @@ each_end_weaker casts plans P Q weaker each late is ended losing =
     let so = each late is ended losing in
     record { early = so.early; play = so.play; holds = weaker so.early.history so.holds; ends = so.ends }
 
+-- where the early play for each run in threads has a property, it has each that follows from it
 pub each_run_weaker : (casts : List ActorSpec) (plans : List (ℕ × List Step)) (P Q : History → Type 0) → ((h : History) → P h → Q h) → EachRunHas casts plans P → EachRunHas casts plans Q
 each_run_weaker casts plans P Q weaker each owners ends joined played =
     let so = each owners ends joined played in

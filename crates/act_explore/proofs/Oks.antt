@@ -1,6 +1,7 @@
 -- What holds of the value in an `Ok`.
 use Rattle.std.proofs.Common.{◌≡◌, Result, Ok, Err, IfOk, Option, Some, None, IsSome, IfSome}
 
+-- what follows from what holds of the value in an `Ok` holds of it, too
 pub ok_weaker : {X E : Type 0} (P Q : X → Type 0) (r : Result X E) → ((x : X) → P x → Q x) → IfOk r P → IfOk r Q
 ok_weaker P Q (Ok x) weaker holds = weaker x holds
 ok_weaker P Q (Err e) weaker holds = holds

@@ -80,6 +80,7 @@ module _ {S : Type 0} (step : StepOf S) (written : S → List ℕ) (holds : List
       (ap (λ (o : Option ActorSpec). option_map (λ (one : ActorSpec). one.opening) o) (sym ran.at ∙ ap (λ (b : ℕ). find (λ (cast : ActorSpec). cast.actor == b) casts) named) ∙ opens)
       ran.state
 
+  -- what each step keeps holds, at the end of a joined run, of each actor that opened the kind at this state
   pub run_keeps : (casts : List ActorSpec) (plans : List (ℕ × List Step)) (owners : List OwnerView) (ends : List EndView) → IsJoined casts plans owners ends
       → (a : ℕ) → OpensAt step written casts a start → EndKeeps step written holds opened (end_of a ends)
   run_keeps casts plans owners ends joined a opens = go (end_of a ends) refl

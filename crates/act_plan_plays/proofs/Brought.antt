@@ -80,6 +80,7 @@ brought_more h g new mail arrived same brought = go (refusal_of g (event.Deliver
 
 -- ---- the events that send
 
+-- each sent letter is still brought after an accepted release, once the note that it may send is brought
 pub brought_release : (h : History) (c a : ℕ) → refusal_of h (event.Release c a) ≡ None → IsBrought h → IsBrought (after_post (event.Release c a) h)
 brought_release h c a accepted brought = go (is_last c a h) refl
   where
@@ -99,6 +100,7 @@ brought_release h c a accepted brought = go (is_last c a h) refl
         let says : did h (event.Release c a) ≡ Copies (copies_held (copies_of c a h) - 1) = rw e refl in
         subst (λ (d : Did). IsBrought (after_mail d g)) (sym says) (brought_kept h (event.Release c a) accepted mail brought)
 
+-- each sent letter is still brought after an accepted send, once its own letter is brought
 pub brought_send : (h : History) (c k : ℕ) → refusal_of h (event.Send c k) ≡ None → IsBrought h → IsBrought (after_post (event.Send c k) h)
 brought_send h c k accepted brought = go (slice_get (calls_of c h) k) refl
   where

@@ -55,11 +55,13 @@ behind_same casts h event old new events (Err refusal) behind said reached ok =
 
 -- ---- a letter that is told
 
+-- a world that stands after an event and the delivery of the letter it tells stands after the event with its letter
 pub post_mail : (casts : List ActorSpec) (h : History) (event : Event) (told : Did) (i : ℕ) (world : WorldView) (events : List Event) → told ≡ did h event → told ≡ did_so.Mail i
     → IsBehind casts (after (add_event h event) (Deliver i)) world events → IsBehind casts (after_post event h) world events
 post_mail casts h event told i world events is mail behind =
     subst (λ (d : Did). IsBehind casts (after_mail d (add_event h event)) world events) (sym mail ∙ is) behind
 
+-- where an event tells no letter, a world that stands after it stands after the event with its letter, if any
 pub post_none : (casts : List ActorSpec) (h : History) (event : Event) (told : Did) (world : WorldView) (events : List Event) → told ≡ did h event
     → ((i : ℕ) → told ≡ did_so.Mail i → ⊥) → IsBehind casts (add_event h event) world events → IsBehind casts (after_post event h) world events
 post_none casts h event told world events is none behind =

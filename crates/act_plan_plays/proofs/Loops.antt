@@ -44,6 +44,7 @@ pub each_more : {X : Type 0} (P : X → Type 0) (xs : List X) (i : ℕ) (x : X) 
 each_more {X = X} P xs i x within is holds front =
     subst (All P) (sym (take_more xs i x within)) (All-push P (take i xs) (get_or xs i x) front (subst P is holds))
 
+-- what holds of each item so far holds of each item of the list, where none is left
 pub each_whole : {X : Type 0} (P : X → Type 0) (xs : List X) (n : ℕ) → length xs ≤ n → All P (take n xs) → All P xs
 each_whole P xs n whole front = subst (All P) (take_all n xs whole) front
 

@@ -104,9 +104,11 @@ pub read_is : {X : Type 0} (read items : List X) (n : ℕ) (x : X) → read ≡ 
 read_is {X = X} read items n x same within is =
     ap (λ (l : List X). slice_get l n) (sym same) ∙ slice_get-get_or read n x (ltb-true n (length read) (sym within)) ∙ ap (λ (y : X). Some y) (sym is)
 
+-- a caller's next step is what stands in its plan at the number of steps that it is done with
 pub next_is : (plans : ℕ → List Step) (c n : ℕ) (at : At) (plan : List Step) (next : Option Step) → plans c ≡ plan → n ≡ steps_of c at → slice_get plan n ≡ next → next_step plans c at ≡ next
 next_is plans c n at plan next holds count at_plan = ap (λ (l : List Step). slice_get l (steps_of c at)) holds ∙ ap (slice_get plan) (sym count) ∙ at_plan
 
+-- a caller that is done with as many steps as its plan has, or more, has no next one
 pub next_none : (plans : ℕ → List Step) (c n : ℕ) (at : At) (plan : List Step) → plans c ≡ plan → n ≡ steps_of c at → length plan ≤ n → next_step plans c at ≡ None
 next_none plans c n at plan holds count past = next_is plans c n at plan None holds count (slice_get_past plan n past)
 
@@ -202,6 +204,7 @@ tell_comes casts plans c a j at old world events stands may place collects behin
 
 -- ---- one after the other
 
+-- if a history has the choices of another, and that one those of a third, the first has those of the third
 pub same_trans : (h g k : History) → HaveSameChoices h g → HaveSameChoices g k → HaveSameChoices h k
 same_trans h g k one two = record { choices = λ a. one.choices a ∙ two.choices a; killed = λ a. one.killed a ∙ two.killed a }
 

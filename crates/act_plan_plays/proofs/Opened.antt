@@ -32,6 +32,7 @@ opens casts plans world events asked reached none nobody =
 abbrev pub parts_in : PlanPlayView → Parts
 parts_in seen = record { world = seen.world; events = seen.events; done = seen.done; asked = seen.asked }
 
+-- where a play stands, so do its parts
 pub stands_in : (casts : List ActorSpec) (plans : ℕ → List Step) (at : At) (seen : PlanPlayView) → StandsAt casts plans at seen → Stands casts plans at (parts_in seen)
 stands_in casts plans at seen s = record {
   play = s.play;
@@ -42,6 +43,7 @@ stands_in casts plans at seen s = record {
   brought = s.brought;
 }
 
+-- a play stands where its parts stand and its setups hold the plans
 pub stands_at : (casts : List ActorSpec) (plans : ℕ → List Step) (at : At) (seen : PlanPlayView) → Stands casts plans at (parts_in seen) → HoldPlans casts plans seen.setups → StandsAt casts plans at seen
 stands_at casts plans at seen s hold = record {
   play = s.play;

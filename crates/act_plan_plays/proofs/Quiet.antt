@@ -7,6 +7,7 @@ use Rattle.act_rules.specs.declared.history.Letter.TheVariants.{Note as NoteLett
 
 -- ---- what holds of each part holds of each caller that has one
 
+-- what holds of the caller of each setup holds of any caller that has a setup
 pub part_of : (P : ℕ → Type 0) (setups : List CallerSetup) (c : ℕ) → All (λ (setup : CallerSetup). P setup.caller) setups → Contains (map (λ (setup : CallerSetup). setup.caller) setups) c → P c
 part_of P setups c all (i, below, is) =
     let within : i < length setups = omega (arith, below, length-map setups (λ (setup : CallerSetup). setup.caller)) in

@@ -6,6 +6,7 @@ use Rattle.act_plans.proofs.Common.{list_any_none, passes_at_first, slice_get_wi
 
 -- ---- pairs
 
+-- where a mapped list has no number twice, no two items of the list are mapped to one number
 pub pairs_of_map : {X : Type 0} (f : X → ℕ) (xs : List X) → AllPairs (λ one other. one ≢ other) (map f xs) → AllPairs (λ one other. f one ≢ f other) xs
 pairs_of_map f xs apart i j d before below same =
     apart i j (f d) before (omega (arith, length-map xs f)) (get_or-map f xs i d (f d) (omega arith) ∙ same ∙ sym (get_or-map f xs j d (f d) below))
@@ -23,6 +24,7 @@ found_within p xs x is =
     let here = sym (find_at p xs) ∙ is in
     (slice_get_within xs (position_or_len p xs) x here, get_or_from_slice_get xs (position_or_len p xs) x x here)
 
+-- an item that a search finds passes the test
 pub found_passes : {X : Type 0} (p : X → Bool) (xs : List X) (x : X) → find p xs ≡ Some x → p x ≡ true
 found_passes p xs x is =
     let here = found_within p xs x is in
@@ -33,6 +35,7 @@ found_any p xs x is =
     let here = found_within p xs x is in
     list_any_at p xs (position_or_len p xs) x here.0 (passes_at_first p xs x here.0)
 
+-- what holds of each item of a list holds of the one that a search finds
 pub found_all : {X : Type 0} (P : X → Type 0) (p : X → Bool) (xs : List X) (x : X) → All P xs → find p xs ≡ Some x → P x
 found_all P p xs x all is =
     let here = found_within p xs x is in

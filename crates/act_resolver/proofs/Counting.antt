@@ -55,6 +55,7 @@ field-set_other g xs k i new z other = rw (get-set_other xs k i new other) refl
 get-calls : (rows : List Row) (k : ℕ) (row : Row) → slice_get rows k ≡ Some row → slice_get (calls_of rows) k ≡ Some row.call
 get-calls rows k row found = slice_get-map (λ (r : Row). r.call) rows k ∙ ap (option_map (λ (r : Row). r.call)) found
 
+-- there are as many calls as rows
 pub length-calls : (rows : List Row) → length (calls_of rows) ≡ length rows
 length-calls rows = length-map rows (λ (r : Row). r.call)
 

@@ -81,6 +81,7 @@ serving_refused {S} {read} opening callers lines letters packet before after end
 
 -- ---- an actor that replied
 
+-- an actor that ran a call, and has its reply, went on from where it was by one call at most
 pub goes_on : {S : Type 0} {read : S → KindState} (caller : ℕ) (reply : Reply) (before after : LiveView S) → HasReplied read caller reply before after → ActorGoesOn before after
 goes_on caller reply before after ran = record {
   id = ran.id;
@@ -92,6 +93,7 @@ goes_on caller reply before after ran = record {
 pub one_longer : {S : Type 0} {read : S → KindState} (caller : ℕ) (reply : Reply) (before after : LiveView S) → HasReplied read caller reply before after → length after.log ≡ length before.log + 1
 one_longer caller reply before after ran = ap (λ (l : List RunItem). length l) ran.log ∙ length-append before.log (ran.item ∷ [])
 
+-- each endpoint's pass is still of its line, and gave only what the log shows, once the actor ran one more call
 pub endpoints_on : {S : Type 0} {read : S → KindState} (lines : List RepliesView) (caller : ℕ) (reply : Reply) (before after : LiveView S) (endpoints : List (Endpoint ReplyExecView)) → HasReplied read caller reply before after
     → All (IsAtItsEndpoint lines before.id before.log) endpoints → All (IsAtItsEndpoint lines after.id after.log) endpoints
 endpoints_on lines caller reply before after endpoints ran all k d lt = endpoint_on lines before.id after.id before.log after.log (get_or endpoints k d) ran.id (ran.item ∷ [], sym ran.log) (all k d lt)
@@ -99,14 +101,17 @@ endpoints_on lines caller reply before after endpoints ran all k d lt = endpoint
 -- ---- a reply that was given
 
 module _ (lines : List RepliesView) (endpoints : List (Endpoint ReplyExecView)) (at : ℕ) (endpoint : Endpoint ReplyExecView) (here : (d : Endpoint ReplyExecView) → get_or endpoints at d ≡ endpoint) (reply : Reply) (stamp : ℕ) where
+  -- once a reply was given at one, each endpoint's pass is still of its line, and gave only what the log shows
   pub endpoints_given : (id : ℕ) (log : List RunItem) → All (IsAtItsEndpoint lines id log) endpoints → at < length endpoints → All (IsAtItsEndpoint lines id log) (set endpoints at (replied_to log reply stamp endpoint))
   endpoints_given id log all below =
       All-set (IsAtItsEndpoint lines id log) endpoints at (replied_to log reply stamp endpoint)
       (endpoint_given lines id id log log endpoint.place endpoint.pass (replied_to log reply stamp endpoint).pass (Answered reply) (replied_to log reply stamp endpoint).pass.stamps refl tt (subst (IsAtItsEndpoint lines id log) (here endpoint) (all at endpoint below)) refl) all
 
+  -- once a reply was given at one of them, the endpoints are as before, but for what was given there
   pub bare_given : (log : List RunItem) → map without_given (set endpoints at (replied_to log reply stamp endpoint)) ≡ map without_given endpoints
   bare_given log = map-set_same without_given endpoints at (replied_to log reply stamp endpoint) endpoint (ap without_given (sym (here endpoint)))
 
+  -- an actor that ran a call still serves once the reply is given at its caller's endpoint, where no caller has two
   pub serving_given : {S : Type 0} {read : S → KindState} (opening : KindState) (callers : List ℕ) (letters : List Letter) (caller : ℕ) (before after : LiveView S)
       → HasReplied read caller reply before after → at < length endpoints → caller ≡ caller_at lines endpoint.place → EndpointsDiffer lines endpoints
       → IsServing read opening callers lines letters before endpoints → IsServing read opening callers lines letters after (set endpoints at (replied_to after.log reply stamp endpoint))

@@ -13,6 +13,7 @@ pub data Tells (x y : ℕ) : Type 0 where
   same : (x == y) ≡ true → x ≡ y → Tells x y
   other : (x == y) ≡ false → x ≢ y → Tells x y
 
+-- of any two numbers it can be told whether they are one
 pub tells : (x y : ℕ) → Tells x y
 tells x y = elim (eqb_tells x y) [
   | inl t ↦ same t.0 t.1
@@ -128,6 +129,7 @@ arrived_waits id packet inbox New c n p P is e old new = go (is_packet_of c n pa
 arrived_waits id packet inbox Repeat c n p P is e old new = old e
 arrived_waits id packet inbox Stranger c n p P is e old new = old e
 
+-- an actor fed by letters is fed by one more call, too, whether that arrived or memory was refused for it
 pub fed_arrive : {S : Type 0} (callers : List ℕ) (letters : List Letter) (packet : Packet) (before : LiveView S) (inbox : InboxView) (result : Result Arrival Packet)
     → inbox.lanes ≡ before.inbox.lanes → ((c : ℕ) → note_of inbox c ≡ note_of before.inbox c)
     → IfOk result (λ arrival. arrival ≡ arrival_at before.id before.inbox packet)
@@ -205,6 +207,7 @@ fed_note callers letters note before inbox arrival is lanes held notes h = recor
 
 -- ---- a call runs
 
+-- an actor fed by letters still is once it ran a caller's next call
 pub fed_run : {S : Type 0} (read : S → KindState) (caller : ℕ) (packet : Packet) (before after : LiveView S) → next_of before.inbox caller ≡ Some packet
     → HasRunCall caller packet (live_view read before) (live_view read after)
     → (callers : List ℕ) (letters : List Letter) → IsFed callers letters before → IsFed callers letters after

@@ -18,11 +18,13 @@ none_more {X} p xs n before here k d lt = go (tells k n)
     go (same b e) = ap (λ i. p (get_or xs i d)) e ∙ here d
     go (other b ne) = before k d (omega (arith, lt, ne))
 
+-- the place of an item that passes is found where none before it does
 pub position_here : {X : Type 0} (p : X → Bool) (xs : List X) (i : ℕ) (d : X) → i < length xs → p (get_or xs i d) ≡ true → NoneOf p xs i → Some i ≡ position p xs
 position_here p xs i d lt passes before =
     let at : position_or_len p xs ≡ i = position_or_len_is p xs i d (omega (arith, lt)) (λ k below. before k d below) (λ _. passes) in
     sym (ap (λ n. cond (nat_lt n (length xs)) (Some n) None) at ∙ ap (λ b. cond b (Some i) None) (lt-ltb i (length xs) lt))
 
+-- no place is found in a list of which no item passes
 pub position_nowhere : {X : Type 0} (p : X → Bool) (xs : List X) (n : ℕ) → length xs ≤ n → NoneOf p xs n → None ≡ position p xs
 position_nowhere p [] n le none = refl
 position_nowhere p (x ∷ xs) n le none =

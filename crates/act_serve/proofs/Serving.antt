@@ -119,6 +119,7 @@ serving_run opening callers lines letters caller reply before after endpoints at
   given = λ k d lt. due_all opening lines caller reply before after ran h.follows endpoints at endpoint pass below here mine is differ h.given k d (omega (arith, lt, length-set endpoints at (record { place = endpoint.place; pass = pass })));
 }
 
+-- the caller of the line at a place is the place's caller
 pub caller_here : (lines : List RepliesView) (place : ℕ) (line : RepliesView) → place < length lines → line ≡ get_or lines place line → line.caller ≡ caller_at lines place
 caller_here lines place line below is = ap (λ (l : RepliesView). l.caller) is ∙ sym (get_or-map (λ (l : RepliesView). l.caller) lines place line 0 below)
 
@@ -151,6 +152,7 @@ callers_stay lines old new e = sym (callers_bare lines new) ∙ ap (endpoint_cal
 
 -- ---- letters
 
+-- an actor of which only the inbox changed still serves, with the letters that now feed it
 pub serving_in : {S : Type 0} {read : S → KindState} (opening : KindState) (callers : List ℕ) (lines : List RepliesView) (letters more : List Letter) (before after : LiveView S) (endpoints : List (Endpoint ReplyExecView))
     → after ≡ record before { inbox = after.inbox } → ((who : List ℕ) → IsFed who letters before → IsFed who more after)
     → IsServing read opening callers lines letters before endpoints → IsServing read opening callers lines more after endpoints

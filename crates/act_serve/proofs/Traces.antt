@@ -227,6 +227,7 @@ module _ {S : Type 0} {read : S → KindState} (lines : List RepliesView) (calle
       no_retirement = any_push is_retirement t.trace (exec_clock passes) (CallRun ran.item) refl t.no_retirement;
     }
 
+    -- an actor that was traced so far still is once it ran one more call and its reply was given
     pub traced_run : IsTracedSoFar new.id lines new.log more
     traced_run = subst (λ (y : ℕ × List RunItem). IsTracedSoFar y.0 lines y.1 more) (λ i. (sym ran.id i, sym ran.log i)) ran_on
 

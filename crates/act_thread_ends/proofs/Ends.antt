@@ -162,6 +162,7 @@ module _ (casts : List ActorSpec) (plans : List (ℕ × List Step)) (owners : Li
       let casts_stay = (world casts (λ c. plan_of c plans) early.0 (search.plays early.0 early.1)).casts in
       (early.0, early.1, ends_so early.0 (casts_stay ∙ sym casts_are) early.2)
 
+-- whatever a run of the plans in threads leaves, a whole search saw a play that ends so
 pub seen_end : (casts : List ActorSpec) (plans : List (ℕ × List Step)) (may_lose : ℕ → Bool) (seen : List At) (owners : List OwnerView) (ends : List EndView) → AreOfARun casts plans
     → IsWholeSearch casts (λ c. plan_of c plans) may_lose (Contains seen) → IsJoined casts plans owners ends → IsPlayedAsPlanned casts plans owners ends
     → (early : At) × Contains seen early × EndsAsThreads plans early owners ends

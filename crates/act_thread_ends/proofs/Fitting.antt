@@ -16,6 +16,7 @@ use Rattle.act_plans.specs.Setups.{PlansFit}
 use Rattle.act_executor.specs.Runs.{plan_view}
 use Rattle.act_thread_ends.specs.ThreadEnds.{AreOfARun}
 
+-- casts and plans that fit are those of a run, where the casts' numbers are within the limits
 pub of_a_run : {K : Type 0} (state : K → KindState) (casts : List (Cast K)) (plans : List (ℕ × Vec Step)) → All HasNumbers casts → PlansFit casts plans
     → AreOfARun (map (actor_spec state) casts) (map plan_view plans)
 of_a_run {K = K} state casts plans numbers fit = record {

@@ -24,6 +24,7 @@ pub record IsOwnerLeft (owners : List OwnerView) (c : ℕ) : Type 0 where
   pub id : owner.id ≡ c
   pub is : owner_of c owners ≡ Some owner
 
+-- each caller that a cast of a run names has its owner among those left, if these are of all such, by rising number
 pub owner_left : (casts : List ActorSpec) (plans : List (ℕ × List Step)) (owners : List OwnerView) → AreOfARun casts plans
     → map (λ (owner : OwnerView). owner.id) owners ≡ callers_of_casts casts → (c : ℕ) → is_named casts c ≡ true → IsOwnerLeft owners c
 owner_left casts plans owners of ids c named =

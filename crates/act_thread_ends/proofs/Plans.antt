@@ -52,6 +52,7 @@ step_by casts c (Release a) before done does = does
 step_by casts c (Kill a) before done does = does
 step_by casts c (Await k) before done does = does
 
+-- who does a plan in some events does its steps in them as the law of lists asks
 pub steps_by : (casts : List ActorSpec) (c : ℕ) (plan : List Step) (before events : List Event) → DoesPlanIn casts c plan before events
     → DoesStepsBy casts c plan before events
 steps_by casts c [] before events does = others c events does
@@ -94,6 +95,7 @@ step_caller c h (event.TakeKill a) e is = cc
 step_caller c h (event.Tell a d) e is = cc
 step_caller c h (event.Retire a) e is = cc
 
+-- whether some cast names the caller
 abbrev pub is_named : List ActorSpec → ℕ → Bool
 is_named casts c = list_any (λ (cast : ActorSpec). contains c cast.callers) casts
 
@@ -112,6 +114,7 @@ strangers casts c h (other ∷ events) same none ok =
         let caller : is_named casts c ≡ true = subst (λ (l : List ActorSpec). is_named l c ≡ true) same (step_caller c h other e is) in
         let bad : true ≡ false = sym caller ∙ none in cc
 
+-- a caller that no cast names has an empty plan, where each plan is of one that some cast names
 pub no_plan : (casts : List ActorSpec) (c : ℕ) (plans : List (ℕ × List Step)) → All (λ plan. is_named casts plan.0 ≡ true) plans
     → is_named casts c ≡ false → plan_of c plans ≡ []
 no_plan casts c plans all none = go (find (λ (plan : ℕ × List Step). plan.0 == c) plans) refl

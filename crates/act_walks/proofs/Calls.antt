@@ -62,6 +62,7 @@ pub no_call : (end : ToldEnd) (c n : ℕ) (caller : ToldCaller) (walk : Parts) �
     → ((casts : List ActorSpec) (h : History) (before : List Event) → IsBehind casts h walk.world before → n ≡ length (calls_of c h)) → Moves end (NoCall end c) walk walk false
 no_call end c n caller walk there none count = none_left end c n walk (ap (λ (l : List ToldCall). slice_get l n) (calls_are end c caller there) ∙ none) count
 
+-- a walk that was left as it was didn't move, if what would move it can't be done of what is told
 pub moves_refused : (end : ToldEnd) (none : Nothing) (old new : Parts) → new ≡ old
     → ((casts : List ActorSpec) (told : Told) → IsEndOf end casts told → Stands end casts old → IsWalking end casts told old → none told (done_in old.done) (history casts old.events))
     → Moves end none old new false

@@ -140,6 +140,7 @@ still_live a h g same live = rw (same.killed, same.ran, same.retired) live
 still_named : (a c : ℕ) (h g : History) → IsSame h g → names c (cast_of a h) ≡ true → names c (cast_of a g) ≡ true
 still_named a c h g same named = rw same.casts named
 
+-- where some events end as is told: once an eager walk sent the call that is told to run next, its actor can run it
 pub comes : (casts : List ActorSpec) (bound : ℕ → Option (List Step)) (told : Told) → SomeEnd casts bound told → (done : ℕ → ℕ) (h : History)
     → IsEager casts bound told done h → (a : ℕ) (item : RunItem) → IsNextRun told a h item
     → refusal_of h (event.Send item.caller item.future) ≡ None → HasCome a item.caller (after_post (event.Send item.caller item.future) h)

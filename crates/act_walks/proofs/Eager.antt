@@ -155,6 +155,7 @@ pub without : (casts : List ActorSpec) (bound : ℕ → Option (List Step)) (tol
 without casts bound told s done h e c a steps is next dead =
     record { walked = GoesOn done h (DoesWithout c a steps is next dead) e.walked; brought = e.brought; replied = e.replied; heard = e.heard }
 
+-- where some events end as is told, an eager walk stays so by sending the call told to run next and bringing its letter
 pub sent : (casts : List ActorSpec) (bound : ℕ → Option (List Step)) (told : Told) → SomeEnd casts bound told → (done : ℕ → ℕ) (h : History)
     → IsEager casts bound told done h → (a : ℕ) (item : RunItem) → IsNextRun told a h item
     → refusal_of h (event.Send item.caller item.future) ≡ None → IsEager casts bound told done (after_post (event.Send item.caller item.future) h)

@@ -36,6 +36,7 @@ no_less h (event.TakeKill a) = record { casts = refl; asked = λ b has. has }
 no_less h (event.Tell a c) = record { casts = refl; asked = λ b has. has }
 no_less h (event.Retire a) = record { casts = refl; asked = λ b has. has }
 
+-- where the kills of those told dead are asked, they still are after any event
 pub kills_event : (bound : ℕ → Option (List Step)) (told : Told) (h : History) (other : Event) → KillsAreAsked bound told h
     → KillsAreAsked bound told (add_event h other)
 kills_event bound told h other asked = kept bound told h (add_event h other) (no_less h other) asked

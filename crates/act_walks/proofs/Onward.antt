@@ -43,6 +43,7 @@ stands_post end casts one old new strange does s = record {
 
 -- ---- where some events end as is told
 
+-- a walk keeps to what is told where its history is eager by its counts of steps, and the kills were asked
 pub walking_to : (end : ToldEnd) (casts : List ActorSpec) (told : Told) (done : ℕ → ℕ) (new : Parts) (g : History) → done ≡ done_in new.done → g ≡ history casts new.events
     → IsEager casts (bound_of end) told done g → KillsAreAsked (bound_of end) told g → IsWalking end casts told new
 walking_to end casts told done new g same is eager asked = record {
@@ -73,6 +74,7 @@ done_more c slot n done same at = λ i d. each d i
 pub goes_same : (end : ToldEnd) (walk : Parts) → GoesOn end walk walk
 goes_same end walk = record { stands = λ casts s. s; walks = λ casts told e s w. w }
 
+-- a walk that goes on to a second, which goes on to a third, goes on to the third
 pub goes_trans : (end : ToldEnd) (p q r : Parts) → GoesOn end p q → GoesOn end q r → GoesOn end p r
 goes_trans end p q r one two = record {
   stands = λ casts s. two.stands casts (one.stands casts s);
@@ -83,11 +85,13 @@ goes_trans end p q r one two = record {
 abbrev pub Nothing : Type 1
 Nothing = Told → (ℕ → ℕ) → History → Type 0
 
+-- a walk that stays where it is didn't move, if what would move it can't be done of what is told
 pub moves_none : (end : ToldEnd) (none : Nothing) (walk : Parts)
     → ((casts : List ActorSpec) (told : Told) → IsEndOf end casts told → Stands end casts walk → IsWalking end casts told walk → none told (done_in walk.done) (history casts walk.events))
     → Moves end none walk walk false
 moves_none end none walk holds = record { goes = goes_same end walk; still = λ _ casts told e s w. (refl, holds casts told e s w) }
 
+-- a walk that goes on may be said to have moved
 pub moves_yes : (end : ToldEnd) (none : Nothing) (old new : Parts) → GoesOn end old new → Moves end none old new true
 moves_yes end none old new goes = record { goes = goes; still = λ e. cc }
 
@@ -121,6 +125,7 @@ either_moved false false e = (refl, refl)
 either_moved false true e = cc
 either_moved true two e = cc
 
+-- a walk that tried a row's numbers up to n, and then the next, tried all up to that; it moved if it did in either
 pub moves_row : (end : ToldEnd) (none : ℕ → Nothing) (n m : ℕ) (p q r : Parts) (one two : Bool) → m ≡ n + 1
     → Moves end (λ told done h. (k : ℕ) → 1 ≤ k → k ≤ n → none k told done h) p q one → Moves end (none m) q r two
     → Moves end (λ told done h. (k : ℕ) → 1 ≤ k → k ≤ n + 1 → none k told done h) p r (one || two)
@@ -142,5 +147,6 @@ moves_row end none n m p q r one two is first second = record {
         go (inl lt) = before k from (omega arith)
         go (inr ge) = let same : n + 1 ≡ k = omega arith in subst (λ (x : ℕ). none x told done h) same last
 
+-- a walk that tried no number of a row yet is where it was, and didn't move
 pub row_none : (end : ToldEnd) (none : ℕ → Nothing) (walk : Parts) → Moves end (λ told done h. (k : ℕ) → 1 ≤ k → k ≤ 0 → none k told done h) walk walk false
 row_none end none walk = moves_none end (λ told done h. (k : ℕ) → 1 ≤ k → k ≤ 0 → none k told done h) walk (λ casts told e s w k from upto. absurd (omega arith))

@@ -69,10 +69,12 @@ only_tried (Err refusal) event old new before later is kept same =
 pub rests_none : (may : Told → Type 0) (world : WorldView) (events : List Event) → RestsOn may world world events events
 rests_none may world events = record { only = only_none events; behind = λ casts behind. behind; rests = λ casts told is behind rest. rest }
 
+-- a walk rests on where its world and its events are as before
 pub rests_same : (may : Told → Type 0) {old new : WorldView} {before later : List Event} → new ≡ old → later ≡ before → RestsOn may old new before later
 rests_same may {old = old} {new = new} {before = before} {later = later} world events = subst (λ (w : WorldView). RestsOn may old w before later) (sym world)
     (subst (λ (l : List Event). RestsOn may old old before l) (sym events) (rests_none may old before))
 
+-- a walk that rests on from one world to a second, and from that to a third, rests on from the first to the third
 pub rests_trans : {may : Told → Type 0} {old mid new : WorldView} {before between later : List Event} → RestsOn may old mid before between
     → RestsOn may mid new between later → RestsOn may old new before later
 rests_trans {before = before} {between = between} {later = later} first second = record {
@@ -119,6 +121,7 @@ refused event refusal old new before later tried casts behind may =
     not_ok None e none = cc
     not_ok (Some other) e none = cc
 
+-- an event that was refused still can't happen, where world and events are as before
 pub refused_same : (event : Event) (refusal : WorldRefusal) {old new : WorldView} {before later : List Event} → new ≡ old → later ≡ before
     → Tried event (Err refusal) old new before later → CannotHappen event new later
 refused_same event refusal {old = old} {new = new} {before = before} {later = later} world events tried =
@@ -182,6 +185,7 @@ retire_rests a told old new before later tried kept = record {
 abbrev tells : Bool → Result Bool PlayFault
 tells b = Ok b
 
+-- a call that tells a flag tells false where the flag is false
 pub told_false : (b : Bool) → b ≡ false → tells b ≡ tells false
 told_false b e = ap tells e
 
@@ -208,6 +212,7 @@ hold_more callers i c a world events within is before now d among =
     go (inl there) = before d there
     go (inr same) = subst (λ (x : ℕ). CannotHappen (event.Release x a) world events) (eqb-true c d same) now
 
+-- where world and events are as before, callers that couldn't let a handle of the actor go still can't
 pub hold_same : (callers : List ℕ) (a : ℕ) {old new : WorldView} {before later : List Event} → new ≡ old → later ≡ before → HoldNone callers a old before
     → HoldNone callers a new later
 hold_same callers a {old = old} {new = new} {before = before} {later = later} world events hold =

@@ -72,9 +72,11 @@ pub copied_some : {X : Type 0} (o : Option (Bor X)) → is_some o ≡ is_some (o
 copied_some None = refl
 copied_some (Some x) = refl
 
+-- an item that was read before a list's end stands in an equal list at an equal place
 pub read_at : {X : Type 0} (read items : List X) (n m : ℕ) (x : X) → read ≡ items → n ≡ m → true ≡ nat_lt n (length read) → x ≡ get_or read n x → slice_get items m ≡ Some x
 read_at read items n m x same is within at = subst (λ (k : ℕ). slice_get items k ≡ Some x) is (read_is read items n x same within at)
 
+-- where a list has no such place, an equal list has nothing at an equal place
 pub read_none : {X : Type 0} (read items : List X) (n m : ℕ) → read ≡ items → n ≡ m → false ≡ nat_lt n (length read) → slice_get items m ≡ None
 read_none read items n m same is past =
     subst (λ (k : ℕ). slice_get items k ≡ None) is (subst (λ l. slice_get l n ≡ None) same (slice_get_past read n (ltb-false n (length read) (sym past))))

@@ -134,6 +134,7 @@ goes n item items done one rest =
       kept = omega (arith, out, in_all, one.kept, h.kept);
     }
 
+-- after any run list an account holds what it opened with and what was put in, less what was taken out
 pub holds_what_was_put_in : (n : ℕ) (items : List RunItem) → HoldsWhatWasPutIn n items
 holds_what_was_put_in n [] = record { balance = n; left = refl; kept = refl }
 holds_what_was_put_in n (item ∷ items) =

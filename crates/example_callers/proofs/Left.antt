@@ -123,5 +123,6 @@ module _ (casts : List ActorSpec) (plans : List (ℕ × List Step)) (owners : Li
           kept = omega (arith, put, taken, kept);
         }
 
+-- each account that retired in a joined run holds what it opened with and what callers put in, less what they took out
 pub are_balanced : (casts : List ActorSpec) (plans : List (ℕ × List Step)) (owners : List OwnerView) (ends : List EndView) → IsJoined casts plans owners ends → AreBalanced casts owners ends
 are_balanced casts plans owners ends h a n retired opens is = balanced casts plans owners ends h a n retired opens is

@@ -12,6 +12,7 @@ sum_by_same {A = A} f g (x ∷ xs) same =
     let right : sum_by g (x ∷ xs) ≡ g x + sum_by g xs = sum_by-cons g x xs in
     omega (arith, one, rest, left, right)
 
+-- a sum over a mapped list is one over the list itself, of the terms that it is mapped to
 pub sum_by_map : {A B : Type 0} (f : B → ℕ) (h : A → B) (xs : List A) → sum_by f (map h xs) ≡ sum_by (λ x. f (h x)) xs
 sum_by_map f h [] = refl
 sum_by_map {A = A} f h (x ∷ xs) =
@@ -89,6 +90,7 @@ module _ {A : Type 0} (key : A → ℕ) (f : A → ℕ) where
       go true = sum_by-cons f x (of_key c xs)
       go false = omega arith
 
+  -- the sums over what has each key add up to that over the list, where the keys differ and none is missing
   pub by_keys : (keys : List ℕ) (xs : List A) → AllPairs (λ one other. one ≢ other) keys → All (λ x. contains (key x) keys ≡ true) xs
       → sum_by (λ c. sum_by f (of_key c xs)) keys ≡ sum_by f xs
   by_keys keys [] differ known = sum_by_nothing keys

@@ -44,6 +44,7 @@ grows values told one =
     flat_map-append values told (one ∷ [])
     ∙ ap (λ (last : List Value). flat_map values told ++ last) (append-nil (values one))
 
+-- each step of a queue keeps that what was taken, and then what waits, is what was put, in the same order
 pub order_is_kept : IsKept queue_step IsInOrder
 order_is_kept told items ask in_order =
     let given : Result (List Value × Value) Fault = queue_step items ask.method ask.args in

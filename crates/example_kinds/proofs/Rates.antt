@@ -127,6 +127,7 @@ rate_is_kept most told l ask h =
       rate = counts.most ∙ h.rate;
     }
 
+-- a limiter grants no more than its rate in any stretch without a reset, whatever it ran
 pub never_above_its_rate : (most : ℕ) (items : List RunItem) → NeverAbove most (told_in (limiter_at most) items)
 never_above_its_rate most items =
     let left : Left limiter_step limiter_text (IsWithin most) (limiter_at most) items =

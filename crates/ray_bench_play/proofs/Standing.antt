@@ -12,6 +12,7 @@ stands_on xs ys zs old mid new joined first then =
     subst (λ (l : List Event). StandsAfter l old new) joined
     (λ casts before reached. subst (λ (l : List Event). IsReachedBy casts l new) (append_assoc before xs ys) (then casts (before ++ xs) (first casts before reached)))
 
+-- where a world stands after some events, and another after more from there, that one stands after both lists
 pub stands_both : (xs ys : List Event) (old mid new : WorldView) → StandsAfter xs old mid → StandsAfter ys mid new → StandsAfter (xs ++ ys) old new
 stands_both xs ys old mid new first then casts before reached =
     subst (λ (l : List Event). IsReachedBy casts l new) (append_assoc before xs ys) (then casts (before ++ xs) (first casts before reached))

@@ -13,5 +13,6 @@ grows_more (Some xs) (Some ys) (Some zs) text grows more = (grows.0 ++ text, rw 
 grows_more (Some xs) None new text grows more = absurd grows.1
 grows_more (Some xs) (Some ys) None text grows more = absurd more
 
+-- where some text was written, and then some more, some text was written and nothing else
 pub grows_both : (old mid new : Option (List ℕ)) → Grows old mid → Grows mid new → Grows old new
 grows_both old mid new one two = grows_more old mid new two.0 one two.1
