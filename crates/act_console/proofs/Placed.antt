@@ -18,7 +18,7 @@ pub is_done : {X : Type 0} (line : ℕ → X → List ℕ) (old whole : List ℕ
 is_done line old whole xs i le so_far =
     sym (append-nil old) ∙ sym (ap (λ (left : List _). old ++ numbered_lines line i left) (drop_of_length-le xs le)) ∙ so_far
 
--- the same, where the member is found by its place
+-- writing goes on by one more member, which is found by its place
 pub goes_on_found : {X : Type 0} (line : ℕ → X → List ℕ) (old new whole : List ℕ) (xs : List X) (i : ℕ) → i < length xs → new ≡ old ++ option_map_or (line i) (slice_get xs i) [] → old ++ numbered_lines line i (drop i xs) ≡ whole → new ++ numbered_lines line (i + 1) (drop (i + 1) xs) ≡ whole
 goes_on_found line old new whole [] i lt h so_far = absurd (omega arith)
 goes_on_found line old new whole (x ∷ xs) i lt h so_far =

@@ -5,7 +5,7 @@ use Rattle.act_plan_plays.proofs.Common.{contains, names, cast_of, is_caller, ca
 use Rattle.act_plan_plays.proofs.Common.{named_call, named_caller, notes_sent, Parts, Stands, HoldPlans, IsDone}
 use Rattle.act_rules.specs.declared.history.Letter.TheVariants.{Note as NoteLetter}
 
--- ---- what holds of each part holds of each caller that has one
+-- ---- what holds of each setup's caller holds of each caller that has a setup
 
 -- what holds of the caller of each setup holds of any caller that has a setup
 pub part_of : (P : ℕ → Type 0) (setups : List CallerSetup) (c : ℕ) → All (λ (setup : CallerSetup). P setup.caller) setups → Contains (map (λ (setup : CallerSetup). setup.caller) setups) c → P c

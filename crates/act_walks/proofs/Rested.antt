@@ -195,10 +195,11 @@ tells_none b e = cc
 pub not_first : (n : ℕ) → tells (nat_lt 0 n) ≡ tells false → n ≡ 0
 not_first n e = let none : nat_lt 0 n ≡ false = cc in grind (arith, nat_tests)
 
--- one caller more that can let no handle go
+-- of no callers, none can let a handle go
 pub hold_none : (a : ℕ) (world : WorldView) (events : List Event) → HoldNone [] a world events
 hold_none a world events c e = cc
 
+-- one caller more that can let no handle go
 pub hold_more : (callers : List ℕ) (i c a : ℕ) (world : WorldView) (events : List Event) → i < length callers → c ≡ get_or callers i c
     → HoldNone (take i callers) a world events
     → CannotHappen (event.Release c a) world events → HoldNone (take (i + 1) callers) a world events
