@@ -4,6 +4,7 @@ use Rattle.act_order_plays.proofs.Common.{length-append, Event, Answer, kept_at,
 use Rattle.act_order_plays.proofs.Common.{after, after_all, history, whole_front, front_trans, Grows, added_grows, calls_grow, after_all_keeps}
 use Rattle.act_order_plays.proofs.Common.{after_all-append, HasEnded, ended_stays, kept_stays, IsSound, world_sound}
 
+-- a history grows into itself
 pub grows_not : (h : History) → Grows h h
 grows_not h = record {
   casts = refl;
@@ -35,6 +36,7 @@ pub record Within (h g : History) : Type 0 where
   pub grows : Grows h g
   pub ended : (a : ℕ) → is_ended a h ≡ true → runs_of a g ≡ runs_of a h
 
+-- a sound history is on the way to the one after any further events
 pub within_all : (h : History) (events : List Event) → IsSound h → Within h (after_all h events)
 within_all h events sound = record {
   sound = sound;
@@ -70,9 +72,11 @@ parted {A = A} (y ∷ first) event later (x ∷ ones) rest e =
 
 -- ---- what stays
 
+-- an answer that a caller keeps in a history on the way to another is kept in that one, too
 pub kept_along : (h g : History) (c k : ℕ) (answer : Answer) → Within h g → kept_at (kept_of c h) k ≡ Some answer → kept_at (kept_of c g) k ≡ Some answer
 kept_along h g c k answer way kept = kept_stays h g c k answer way.grows way.sound.posts kept
 
+-- where a history grows into another, each caller has at least as many calls in that one
 pub calls_along : (h g : History) (c : ℕ) → Grows h g → length (calls_of c h) ≤ length (calls_of c g)
 calls_along h g c grows =
     let front = calls_grow c h g grows in

@@ -48,6 +48,7 @@ item_keys told [] (n ∷ ns) are = absurd are
 item_keys told (item ∷ items) [] are = absurd are
 item_keys told (item ∷ items) (n ∷ ns) are = let rest = item_keys told items ns are.1 in let one = are.0.caller in let two = are.0.future in cc
 
+-- where a run list is of these calls, the item of a call stands at the call's place
 pub item_of_call : (told : Told) (items : List RunItem) (ns : List ℕ) (place n : ℕ) → AreItems told items ns → slice_get ns place ≡ Some n →
     (item : RunItem) × (slice_get items place ≡ Some item) × IsItem told n item
 item_of_call told items [] place n are at = absurd (cc)
@@ -147,6 +148,7 @@ not_end Failed item e = rw e refl
 not_end Died item e = rw e refl
 not_end Open item e = rw e refl
 
+-- where a run list is of calls that are told, its last item doesn't end the actor
 pub none_terminated : (told : Told) (items : List RunItem) (ns : List ℕ) → AreItems told items ns → has_terminated items ≡ false
 none_terminated told items ns are = go (slice_get items (length items - 1)) refl
   where

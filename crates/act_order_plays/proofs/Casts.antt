@@ -27,9 +27,11 @@ any_has {A = A} p (y ∷ ys) e = go (p y) refl (any_has p ys) e
     go true is rest e = (y, (zero, refl), is)
     go false is rest e = let r = rest e in (r.0, (suc r.1.0, r.1.1), r.2)
 
+-- the test whether a list contains a number is true of a number that the list has
 pub contains_has : (xs : List ℕ) (n : ℕ) → Has xs n → contains n xs ≡ true
 contains_has xs n has = list_any_has (λ (m : ℕ). m == n) xs n has (eq-eqb n n refl)
 
+-- a list has a number where the test whether it contains it is true
 pub has_contains : (xs : List ℕ) (n : ℕ) → contains n xs ≡ true → Has xs n
 has_contains xs n e = let r = any_has (λ (m : ℕ). m == n) xs e in subst (λ (k : ℕ). Has xs k) (eqb-true r.0 n r.2) r.1
 
@@ -61,9 +63,11 @@ find_cast told a lt =
     (subst (λ (m : ℕ). find (λ (p : ℕ × Actor). p.0 == m) (enumerate_from 0 told.actors) ≡ Some (m, actor_of told a)) z
     (find_at 0 a told.actors (actor_of told a) (actor_at told a lt)))
 
+-- in a history with the casts of what is told, each actor that is told has the cast made of it
 pub cast_of_is : (told : Told) (h : History) (a : ℕ) → h.casts ≡ casts_of told → a < length told.actors → cast_of a h ≡ Some (cast_at told a)
 cast_of_is told h a casts lt = ap (λ (all : List ActorSpec). find (λ (cast : ActorSpec). cast.actor == a) all) casts ∙ find_cast told a lt
 
+-- in a history with the casts of what is told, the casts of its actors name the callers that may call them
 pub names_is : (told : Told) (h : History) (c a : ℕ) → h.casts ≡ casts_of told → a < length told.actors → Has (actor_of told a).callers c →
     names c (cast_of a h) ≡ true
 names_is told h c a casts lt has = rw (cast_of_is told h a casts lt) (contains_has (actor_of told a).callers c has)
@@ -77,6 +81,7 @@ casts_has told a lt =
     ∙ ap (λ (m : ℕ). Some (m, actor_of told a)) z in
     (a, slice_get-map f (enumerate_from 0 told.actors) a ∙ ap (option_map f) there)
 
+-- in a history with the casts of what is told, who may call an actor that is told is a caller
 pub is_caller_is : (told : Told) (h : History) (c a : ℕ) → h.casts ≡ casts_of told → a < length told.actors → Has (actor_of told a).callers c →
     is_caller c h ≡ true
 is_caller_is told h c a casts lt has = rw casts

@@ -145,9 +145,11 @@ good_none told = record {
   runs = λ a. (runs_by told a, refl);
 }
 
+-- one more happening adds its call to those that were submitted, if it is a submission
 pub submits_more : (before : List Happening) (x : Happening) → submits (before ++ x ∷ []) ≡ submits before ++ submits (x ∷ [])
 submits_more before x = filter_map-append _ before (x ∷ [])
 
+-- one more happening adds its call to those that ran, if it is a run
 pub rans_more : (before : List Happening) (x : Happening) → rans (before ++ x ∷ []) ≡ rans before ++ rans (x ∷ [])
 rans_more before x = filter_map-append _ before (x ∷ [])
 
@@ -155,6 +157,7 @@ pub subs_of_more : (told : Told) (before : List Happening) (x : Happening) (c : 
     subs_of told (before ++ x ∷ []) c ≡ subs_of told before c ++ subs_of told (x ∷ []) c
 subs_of_more told before x c = ap (filter (is_by told c)) (submits_more before x) ∙ filter-append (is_by told c) (submits before) (submits (x ∷ []))
 
+-- one more happening adds its call to those to an actor that ran, if it is the run of a call to that actor
 pub rans_of_more : (told : Told) (before : List Happening) (x : Happening) (a : ℕ) →
     rans_of told (before ++ x ∷ []) a ≡ rans_of told before a ++ rans_of told (x ∷ []) a
 rans_of_more told before x a = ap (filter (is_to told a)) (rans_more before x) ∙ filter-append (is_to told a) (rans before) (rans (x ∷ []))
@@ -200,6 +203,7 @@ next_run told before n a fits turn good next = go (is_to told a n) refl
         rans_of_has told before y a (subst (λ (k : ℕ). Has before (Ran k)) early.4.call has)
         (sym (ap (λ (k : ℕ). (call_of told k).actor) early.4.call) ∙ (turn early.0 early.1 early.4.at).here ∙ early.3))
 
+-- in a history that fits and whose runs are in turn, what is good so far stays so with what may happen next
 pub good_more : (told : Told) (before : List Happening) (x : Happening) → Premises told → RunsInTurn told → Good told before → IsNext told before x →
     Good told (before ++ x ∷ [])
 good_more told before x fits turn good next = record {

@@ -18,6 +18,7 @@ collect_fine h j post at = rw at refl
 collected_is : (h : History) (j : ℕ) (post : Post) → slice_get h.posts j ≡ Some post → (add_event h (Collect j)).collected ≡ h.collected ++ post ∷ []
 collected_is h j post at = ap (λ (o : Option Post). and_also h.collected o) at
 
+-- once a right post is collected, the lists of a history still agree with what happened
 pub shape_collect : (told : Told) (before : List Happening) (h : History) (j : ℕ) (post : Post) → Shape told before h → slice_get h.posts j ≡ Some post →
     IsRight told before post → Shape told before (add_event h (Collect j))
 shape_collect told before h j post shape at right = record {

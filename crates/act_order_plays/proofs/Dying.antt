@@ -29,6 +29,7 @@ take_fine h a cast lives asked = rw (cast, lives, asked) refl
 tell_fine : (h : History) (a c : ℕ) → is_caller c h ≡ true → names c (cast_of a h) ≡ true → is_dead a h ≡ true → refusal_of h (Tell a c) ≡ None
 tell_fine h a c caller named dead = rw (caller, named, dead) refl
 
+-- where one actor more is killed, each that is killed was so before, or is that one
 pub killed_or : (killed : List ℕ) (a b : ℕ) → contains b (killed ++ a ∷ []) ≡ true → (contains b killed ≡ true) ⊎ (a ≡ b)
 killed_or killed a b is = elim (has_pushed killed a b (has_contains (killed ++ a ∷ []) b is)) [ inl h ↦ inl (contains_has killed b h) | inr e ↦ inr e ]
 

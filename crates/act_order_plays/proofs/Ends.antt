@@ -11,6 +11,7 @@ use Rattle.act_order_plays.proofs.Stands.{Leads, leads_now, leads_by, Stands}
 use Rattle.act_order_plays.proofs.Dying.{ask_fine, take_fine, killed_or}
 use Rattle.act_order_plays.proofs.Leaving.{Left, left, left_stays}
 
+-- how an actor stands at the end, as it is told
 abbrev pub end_of : Told → ℕ → End
 end_of told a = (actor_of told a).end
 

@@ -19,12 +19,15 @@ ran_in (Answered n) = None
 abbrev pub submits : List Happening → List ℕ
 submits before = filter_map submitted_in before
 
+-- the calls that ran, in the order of the happenings
 abbrev pub rans : List Happening → List ℕ
 rans before = filter_map ran_in before
 
+-- whether a call is this caller's
 abbrev pub is_by : Told → ℕ → ℕ → Bool
 is_by told c n = (call_of told n).caller == c
 
+-- whether a call is to this actor
 abbrev pub is_to : Told → ℕ → ℕ → Bool
 is_to told a n = (call_of told n).actor == a
 
@@ -59,15 +62,19 @@ rans_has before n has = has_filter_map ran_in before (Ran n) n has refl
 pub has_rans : (before : List Happening) (n : ℕ) → Has (rans before) n → Has before (Ran n)
 has_rans before n has = let r = filter_map_has ran_in before n has in subst (λ (x : Happening). Has before x) (ran_is r.0 n r.2) r.1
 
+-- where a call's submission is among what happened, it stands among those that its caller submitted
 pub subs_of_has : (told : Told) (before : List Happening) (n c : ℕ) → Has before (Submitted n) → (call_of told n).caller ≡ c → Has (subs_of told before c) n
 subs_of_has told before n c has is = has_filter (is_by told c) (submits before) n (submits_has before n has) (eq-eqb (call_of told n).caller c is)
 
+-- a call that stands among those that a caller submitted has its submission among what happened
 pub has_subs_of : (told : Told) (before : List Happening) (n c : ℕ) → Has (subs_of told before c) n → Has before (Submitted n)
 has_subs_of told before n c has = has_submits before n (filter_has (is_by told c) (submits before) n has).0
 
+-- where a call's run is among what happened, it stands among those to its actor that ran
 pub rans_of_has : (told : Told) (before : List Happening) (n a : ℕ) → Has before (Ran n) → (call_of told n).actor ≡ a → Has (rans_of told before a) n
 rans_of_has told before n a has is = has_filter (is_to told a) (rans before) n (rans_has before n has) (eq-eqb (call_of told n).actor a is)
 
+-- a call that stands among those to an actor that ran has its run among what happened, and is to that actor
 pub has_rans_of : (told : Told) (before : List Happening) (n a : ℕ) → Has (rans_of told before a) n → Has before (Ran n) × ((call_of told n).actor ≡ a)
 has_rans_of told before n a has =
     let both = filter_has (is_to told a) (rans before) n has in (has_rans before n both.0, eqb-true (call_of told n).actor a both.1)
@@ -92,6 +99,7 @@ call_before told n j y lt less at =
     let same : one.0 ≡ y = cc in
     subst (λ (k : ℕ). (k < n) × SameCaller told k n) same (short, eqb-true (call_of told one.0).caller (call_of told n).caller is.passes)
 
+-- no call stands twice among those of a caller
 pub calls_differ : (told : Told) (c : ℕ) → Differ (calls_by told c)
 calls_differ told c = below_differ (is_by told c) (length told.calls)
 
@@ -100,12 +108,14 @@ pub record IsRunAt (told : Told) (n p : ℕ) (run : Run) : Type 0 where
   pub at : slice_get told.runs p ≡ Some run
   pub call : run.call ≡ n
 
+-- a call that is among those of the run lists has a run there, at a place
 pub run_at : (told : Told) (n : ℕ) → Contains (calls_run told) n → (p : ℕ) × (run : Run) × IsRunAt told n p run
 run_at told n has =
     let h = has_of (calls_run told) n has in
     let r = map-slice_get (λ (run : Run). run.call) told.runs h.0 n h.1 in
     (h.0, r.0, record { at = r.1; call = r.2 })
 
+-- whether a run is of this actor
 abbrev pub is_run_of : ℕ → Run → Bool
 is_run_of a run = run.actor == a
 
@@ -115,6 +125,7 @@ get_taken (suc i) [] k v at = absurd (cc)
 get_taken (suc i) (x ∷ xs) zero v at = (omega arith, at)
 get_taken (suc i) (x ∷ xs) (suc k) v at = let h = get_taken i xs k v at in (omega (arith, h.0), h.1)
 
+-- the first items of a list are a prefix of it
 pub take_front : {A : Type 0} (i : ℕ) (xs : List A) → IsPrefix (take i xs) xs
 take_front zero xs = (xs, refl)
 take_front (suc i) [] = ([], refl)
@@ -124,6 +135,7 @@ take_front (suc i) (x ∷ xs) = let f = take_front i xs in (f.0, ap (λ (l : Lis
 abbrev pub rank : Told → ℕ → ℕ → ℕ
 rank told a p = length (filter (is_run_of a) (take p told.runs))
 
+-- a run's call stands among those of its actor's runs behind as many as the actor ran before it
 pub run_ranks : (told : Told) (p : ℕ) (run : Run) → slice_get told.runs p ≡ Some run →
     slice_get (runs_by told run.actor) (rank told run.actor p) ≡ Some run.call
 run_ranks told p run at =
@@ -196,6 +208,7 @@ apart told turn i j one next at there same = elim (cases_le i j) [
   | inr b ↦ absurd ((turn i one at).once (subst (λ (k : ℕ). Contains (take i (calls_run told)) k) (sym same) (runs_earlier told i j next b there)))
 ]
 
+-- where runs are in turn, no call stands twice among those that an actor ran
 pub runs_differ : (told : Told) (a : ℕ) → RunsInTurn told → Differ (runs_by told a)
 runs_differ told a turn i j x at there =
     let one = map-slice_get (λ (r : Run). r.call) (filter (is_run_of a) told.runs) i x at in

@@ -22,15 +22,19 @@ Seen = History × History
 abbrev pub is_item : ℕ → ℕ → RunItem → Bool
 is_item c k item = (item.caller == c) && (item.future == k)
 
+-- whether a call was submitted: its caller has more calls than come before it
 abbrev pub has_call : Told → History → ℕ → Bool
 has_call told h n = nat_lt (future_of told n) (length (calls_of (call_of told n).caller h))
 
+-- whether a call ran: its actor's run list has an item with its caller and its future
 abbrev pub has_run : Told → History → ℕ → Bool
 has_run told h n = list_any (is_item (call_of told n).caller (future_of told n)) (runs_of (call_of told n).actor h)
 
+-- whether the caller of a call keeps an answer for it
 abbrev pub has_answer : Told → History → ℕ → Bool
 has_answer told h n = is_some (kept_for told n h)
 
+-- whether a happening came so far: a call or a run by the one history, an answer by the other
 abbrev pub has_in : Told → Seen → Happening → Bool
 has_in told seen (Submitted n) = has_call told seen.0 n
 has_in told seen (Ran n) = has_run told seen.0 n

@@ -143,6 +143,7 @@ module _ (told : Told) (events : List Event) (whole : IsWhole told) (play : IsPl
     };
   }
 
+  -- a whole history is in order where some events are a play of it
   pub in_order : IsInOrder told
   in_order = (
     order,

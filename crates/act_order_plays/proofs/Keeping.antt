@@ -48,6 +48,7 @@ sub_at told before n good has =
     (slice_get_front (subs_of told before c) (calls_by told c) there.0 n (good.calls c) there.1) (call_at told n (good.happened (Submitted n) has)) in
     subst (λ (k : ℕ). slice_get (subs_of told before c) k ≡ Some n) same there.1
 
+-- a call that was submitted stands among its caller's in the history, at its future
 pub call_stands : (told : Told) (before : List Happening) (h : History) (n : ℕ) → Good told before → Shape told before h → Has before (Submitted n) →
     slice_get (calls_of (call_of told n).caller h) (future_of told n) ≡ Some (sub_of told n)
 call_stands told before h n good shape has =
@@ -68,6 +69,7 @@ kept_is told before h n good shape has =
 
 -- ---- a call that a caller's number and future name
 
+-- two calls of one caller with one future are the same
 pub same_call : (told : Told) (m n : ℕ) → m < length told.calls → n < length told.calls → (call_of told m).caller ≡ (call_of told n).caller →
     future_of told m ≡ future_of told n → m ≡ n
 same_call told m n first second caller future =

@@ -27,6 +27,7 @@ pub record Left (told : Told) (h : History) : Type 0 where
   pub lasting : (a : ℕ) → has_terminated (runs_of a h) ≡ false
   pub ran_all : (c a : ℕ) → (actor_of told a).end ≡ Retired → ran_count c a h ≡ length (calls_to a (calls_of c h))
 
+-- what is left in one history is left in another with the same casts, calls, runs, collected posts and copies made
 pub left_stays : (told : Told) (h g : History) → SameLists h g → g.copied ≡ h.copied → Left told h → Left told g
 left_stays told h g same copied left = record {
   casts = same.casts ∙ left.casts;

@@ -26,12 +26,14 @@ ran_by told a j n at =
     let place = filter-slice_get (is_run_of a) told.runs j one.0 one.1 in
     (place.place, one.0, eqb-true one.0.actor a place.passes, record { at = place.at; call = one.2 })
 
+-- a call that has a run is among those that ran
 pub run_happened : (told : Told) (n p : ℕ) (run : Run) → IsRunAt told n p run → Contains (calls_run told) n
 run_happened told n p run is =
     let at : slice_get (calls_run told) p ≡ Some run.call =
     slice_get-map (λ (r : Run). r.call) told.runs p ∙ ap (option_map (λ (r : Run). r.call)) is.at in
     contains_of (calls_run told) n (p, at ∙ ap (λ (k : ℕ). Some k) is.call)
 
+-- where what is told is whole, a call that has a run is one of its calls
 pub run_call : (told : Told) (n p : ℕ) (run : Run) → IsWhole told → IsRunAt told n p run → n < length told.calls
 run_call told n p run whole is =
     subst (λ (k : ℕ). k < length told.calls)
@@ -72,6 +74,7 @@ module _ (told : Told) (last : History) (whole : IsWhole told) (sound : IsSound 
       let one = keys_at (run_key told) item_key (runs_by told a) (runs_of a last) j n (sym (leaves.runs a)) at in
       (one.0, one.1, is_of told n one.0 (sym one.2))
 
+  -- where an item of a run list is the run of a call, the call is at the item's place among those told of the actor
   pub run_told : (a j n : ℕ) (item : RunItem) → n < length told.calls → slice_get (runs_of a last) j ≡ Some item → IsOf told n item →
       slice_get (runs_by told a) j ≡ Some n
   run_told a j n item lt at is =

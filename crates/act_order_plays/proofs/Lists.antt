@@ -10,18 +10,23 @@ use Rattle.act_order_plays.proofs.Common.{filter-slice_get}
 abbrev pub Has : {A : Type 0} → List A → A → Type 0
 Has {A} xs x = (k : ℕ) × (slice_get xs k ≡ Some x)
 
+-- what a list contains stands at a place of it
 pub has_of : {A : Type 0} (xs : List A) (x : A) → Contains xs x → Has xs x
 has_of xs x has = (has.0, slice_get-get_or xs has.0 x has.1 ∙ ap Some has.2)
 
+-- what stands at a place of a list is contained in it
 pub contains_of : {A : Type 0} (xs : List A) (x : A) → Has xs x → Contains xs x
 contains_of xs x has = (has.0, slice_get_within xs has.0 x has.1, get_or_from_slice_get xs has.0 x x has.1)
 
+-- what a list has, it has with more items behind it, too
 pub has_more : {A : Type 0} (xs ys : List A) (x : A) → Has xs x → Has (xs ++ ys) x
 has_more xs ys x has = (has.0, slice_get_more xs ys has.0 x has.1)
 
+-- a list has the item that was added at its end
 pub has_last : {A : Type 0} (xs : List A) (x : A) → Has (xs ++ x ∷ []) x
 has_last xs x = (length xs, slice_get_last xs x)
 
+-- where an item is added at the end, what the list has it had before, or it is that item
 pub has_pushed : {A : Type 0} (xs : List A) (y x : A) → Has (xs ++ y ∷ []) x → (Has xs x) ⊎ (y ≡ x)
 has_pushed {A = A} xs y x has = go xs has.0 has.1
   where
@@ -38,9 +43,11 @@ get_pushed [] y (suc i) x e = absurd (cc)
 get_pushed (z ∷ zs) y zero x e = inl e
 get_pushed (z ∷ zs) y (suc i) x e = elim (get_pushed zs y i x e) [ inl h ↦ inl h | inr h ↦ inr (ap (λ (k : ℕ). suc k) h.0, h.1) ]
 
+-- what a list has and passes the test, the filtered list has
 pub has_filter : {A : Type 0} (p : A → Bool) (xs : List A) (x : A) → Has xs x → p x ≡ true → Has (filter p xs) x
 has_filter p xs x has passes = (length (filter p (take has.0 xs)), slice_get-filter p xs has.0 x has.1 passes)
 
+-- what a filtered list has, the whole list has, and it passes the test
 pub filter_has : {A : Type 0} (p : A → Bool) (xs : List A) (x : A) → Has (filter p xs) x → Has xs x × (p x ≡ true)
 filter_has p xs x has = let place = filter-slice_get p xs has.0 x has.1 in ((place.place, place.at), place.passes)
 
@@ -73,9 +80,11 @@ filter_map_has {A = A} {B = B} f (z ∷ zs) y has =
 
 -- ---- lists whose items differ, and their fronts
 
+-- a number is at most another, or above it
 pub cases_le : (m n : ℕ) → (m ≤ n) ⊎ (n < m)
 cases_le m n = elim (cases_lt n m) [ inl a ↦ inr a | inr b ↦ inl b ]
 
+-- no number stands at two places
 abbrev pub Differ : List ℕ → Type 0
 Differ xs = (i j x : ℕ) → slice_get xs i ≡ Some x → slice_get xs j ≡ Some x → i ≡ j
 
@@ -142,6 +151,7 @@ front_has_all xs ys differ front all = front_whole xs ys front (tests (cases_le 
 
 -- ---- the numbers below a bound that pass a test
 
+-- the numbers below a bound that pass a test, by rising number
 abbrev pub below : (ℕ → Bool) → ℕ → List ℕ
 below p n = filter p (range_with_len 0 n)
 
@@ -164,6 +174,7 @@ pub record IsBelow (p : ℕ → Bool) (m j n : ℕ) : Type 0 where
   pub passes : p n ≡ true
   pub place : j ≡ length (below p n)
 
+-- what stands among the numbers below a bound that pass a test is one of them, behind just the lower ones
 pub below_has : (p : ℕ → Bool) (m j n : ℕ) → slice_get (below p m) j ≡ Some n → IsBelow p m j n
 below_has p zero j n e = absurd (cc)
 below_has p (suc m) j n e = go (p m) refl (rw (below_more p m) at e) (below_has p m j n)
@@ -179,5 +190,6 @@ below_has p (suc m) j n e = go (p m) refl (rw (below_more p m) at e) (below_has 
       | inr h ↦ record { less = omega (arith, h.1); passes = ap p (sym h.1) ∙ is; place = h.0 ∙ ap (λ (k : ℕ). length (below p k)) h.1 }
     ]
 
+-- no number stands twice among those below a bound that pass a test
 pub below_differ : (p : ℕ → Bool) (m : ℕ) → Differ (below p m)
 below_differ p m i j x one two = (below_has p m i x one).place ∙ sym (below_has p m j x two).place

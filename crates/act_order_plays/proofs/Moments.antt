@@ -91,6 +91,7 @@ added_run h (Retire b) a = inl refl
 may_run : (h : History) (event : Event) (a : ℕ) → MayRun a h (after h event)
 may_run h event a = after_keeps (MayRun a h) h event (inl refl) (λ accepted. added_run h event a)
 
+-- from a test that is both false and true, anything follows
 pub not_both : {A : Type 0} (b : Bool) → b ≡ false → b ≡ true → A
 not_both true f t = absurd (cc)
 not_both false f t = absurd (cc)

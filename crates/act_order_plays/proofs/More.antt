@@ -8,6 +8,7 @@ use Rattle.act_order_plays.proofs.Causes.{submits_more, rans_more, rans_of_more}
 use Rattle.act_order_plays.proofs.Answering.{Suits, IsTaken}
 use Rattle.act_order_plays.proofs.Stands.{Agree, pair_of, IsDeath, IsRight, Shape, Keeps}
 
+-- a death at an actor that was told is told after one more happening, too
 pub death_more : (told : Told) (before : List Happening) (x : Happening) (a : ℕ) → IsDeath told before a → IsDeath told (before ++ x ∷ []) a
 death_more told before x a death = record { call = death.call; has = has_more before (x ∷ []) _ death.has; died = death.died; actor = death.actor }
 
@@ -20,10 +21,12 @@ right_more told before x (ReplyPost c a place) right = (
 )
 right_more told before x (DeathPost c a) right = death_more told before x a right
 
+-- posts that are right after what happened are so after one more happening, too
 pub rights_more : (told : Told) (before : List Happening) (x : Happening) (posts : List Post) → AllByRecursion (IsRight told before) posts →
     AllByRecursion (IsRight told (before ++ x ∷ [])) posts
 rights_more told before x posts rights = All_weaker (IsRight told before) (IsRight told (before ++ x ∷ [])) posts (right_more told before x) rights
 
+-- kept answers that fit what happened fit one more happening, where they fit the run or the death that it is
 pub keeps_more : (told : Told) (before : List Happening) (x : Happening) (h : History) → Keeps told before h →
     ((n : ℕ) → x ≡ Ran n → IsTaken (call_of told n).outcome → Suits (call_of told n).outcome (kept_for told n h)) →
     ((n : ℕ) → x ≡ Answered n → (call_of told n).outcome ≡ Died → kept_for told n h ≡ Some (Err ActorDied)) → Keeps told (before ++ x ∷ []) h

@@ -44,9 +44,11 @@ places_differ {A = A} t n (x ∷ xs) m i k e f = go (t (n, x)) m i (λ (p q : �
     go true (suc m) (suc i) same from e f = ap (λ (j : ℕ). suc j) (same m i e f)
     go false m i same from e f = same m i e f
 
+-- the futures of those of a caller's calls that are to an actor, in order
 abbrev pub futures_to : ℕ → List Submission → List ℕ
 futures_to a calls = map (λ call. call.0) (calls_to a calls)
 
+-- no future stands twice among those of calls to an actor
 pub futures_differ : (a : ℕ) (calls : List Submission) → Differ (futures_to a calls)
 futures_differ a calls = places_differ (λ (call : ℕ × Submission). call.1.actor == a) 0 calls
 
@@ -93,6 +95,7 @@ map-numbered : (items : List RunItem) → map (λ (p : ℕ × ℕ). p.1) (map nu
 map-numbered [] = refl
 map-numbered (item ∷ items) = ap (λ (l : List ℕ). item.future ∷ l) (map-numbered items)
 
+-- the futures of a caller's calls that an actor ran, in the order of its run list
 abbrev pub futures_ran : ℕ → ℕ → History → List ℕ
 futures_ran c a h = map (λ item. item.future) (items_of c (runs_of a h))
 

@@ -32,6 +32,7 @@ taken_told told order by n m ran takes =
     let early = has_of (take at.0 order) (Answered m) ((by.causes.after at.0 (Ran n) at.1).causes (Answered m) takes) in
     (by.causes.only (Answered m) (contains_of order (Answered m) (early.0, (get_taken at.0 order early.0 (Answered m) early.1).1))).1
 
+-- a whole history within the limits that is in order has events that are a play of it
 pub play_of : (told : Told) (order : List Happening) → IsWhole told → Fits told → IsInOrderBy told order → (events : List Event) × IsPlayOf told events
 play_of told order whole fits by =
     let given = premises told order whole fits by in

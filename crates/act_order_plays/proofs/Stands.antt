@@ -17,14 +17,17 @@ use Rattle.act_order_plays.proofs.Answering.{Suits, method_of, IsTaken, IsItem, 
 abbrev pub Leads : (History → Type 0) → History → Type 0
 Leads P h = (events : List Event) × P (after_all h events)
 
+-- no event is needed to lead to what already holds
 pub leads_now : (P : History → Type 0) (h : History) → P h → Leads P h
 leads_now P h p = ([], p)
 
+-- what events lead to after an accepted event, events lead to from before it
 pub leads_by : (P : History → Type 0) (h : History) (event : Event) → refusal_of h event ≡ None → Leads P (add_event h event) → Leads P h
 leads_by P h event accepted rest =
     let same : add_event h event ≡ after h event = ap (λ (o : Option WorldRefusal). after_by h event o) (sym accepted) in
     (event ∷ rest.0, subst (λ (g : History). P (after_all g rest.0)) same rest.1)
 
+-- where events lead to one thing, and from wherever it holds on to a second, events lead to the second
 pub leads_then : (P Q : History → Type 0) (h : History) → Leads P h → ((g : History) → P g → Leads Q g) → Leads Q h
 leads_then P Q h first then =
     let second = then (after_all h first.0) first.1 in
@@ -32,9 +35,11 @@ leads_then P Q h first then =
 
 -- ---- what stands
 
+-- a call's submission: to its actor, with the method for its outcome and the futures that it takes
 abbrev pub sub_of : Told → ℕ → Submission
 sub_of told n = record { actor = (call_of told n).actor; method = method_of (call_of told n).outcome; args = args_of told n }
 
+-- a call's submission, with its caller
 abbrev pub pair_of : Told → ℕ → ℕ × Submission
 pair_of told n = ((call_of told n).caller, sub_of told n)
 
@@ -52,6 +57,7 @@ pub record IsDeath (told : Told) (before : List Happening) (a : ℕ) : Type 0 wh
   pub died : (call_of told call).outcome ≡ Died
   pub actor : (call_of told call).actor ≡ a
 
+-- a right post is a reply of a call that ran at its place and whose answer is taken, or a death that was told
 abbrev pub IsRight : Told → List Happening → Post → Type 0
 IsRight told before (ReplyPost c a place) = (n : ℕ) × (slice_get (rans_of told before a) place ≡ Some n) × IsTaken (call_of told n).outcome
 IsRight told before (DeathPost c a) = IsDeath told before a
@@ -86,6 +92,7 @@ kept_for_stays h g c k Failed grows sound kept = (kept.0, kept_stays h g c k _ g
 kept_for_stays h g c k Died grows sound kept = kept_stays h g c k _ grows sound kept
 kept_for_stays h g c k Open grows sound kept = tt
 
+-- kept answers that fit what happened still do in a history that grew, where its posts were sound before
 pub keeps_stays : (told : Told) (before : List Happening) (h g : History) → Grows h g → PostsAreSound h → Keeps told before h → Keeps told before g
 keeps_stays told before h g grows sound keeps = record {
   answers = λ n has taken. kept_for_stays h g (call_of told n).caller (future_of told n) (call_of told n).outcome grows sound (keeps.answers n has taken);
@@ -103,6 +110,7 @@ pub record IsLike (h g : History) : Type 0 where
   pub collected : g.collected ≡ h.collected
   pub killed : g.killed ≡ h.killed
 
+-- lists that agree with what happened do so in a sound history that shares them, too
 pub shape_stays : (told : Told) (before : List Happening) (h g : History) → IsLike h g → IsSound g → Shape told before h → Shape told before g
 shape_stays told before h g like sound shape = record {
   casts = like.casts ∙ shape.casts;

@@ -34,6 +34,7 @@ circle_breaks told order circle is round =
     let lt : last.0 < place.0 = omega (arith, last.1, round.more) in
     (is.after place.0 f place.1).once (has_before place.0 order last.0 f last.2 lt)
 
+-- a history that has a fault is in order by no order
 pub fault_breaks : (told : Told) (fault : Fault) (order : List Happening) → IsFault told fault → IsInOrderBy told order → ⊥
 fault_breaks told (Strays i) order f o = f.2 (o.runs i f.0 f.1).here
 fault_breaks told (Again i j) order f o =

@@ -9,9 +9,11 @@ use Rattle.act_orders.proofs.Lists.{found, found_before, has_at, has_before, sam
 use Rattle.act_orders.proofs.Breaking.{call_at}
 use Rattle.act_orders.proofs.Running.{placed_at}
 
+-- what holds is found with no fault added
 pub finds_none : (told : Told) (P : Type 0) (faults : List Fault) → P → Finds told P faults faults
 finds_none told P faults p = record { faults = λ all. all; more = omega arith; clean = λ none. p }
 
+-- what is looked for is found where one fault is added, or where none is and it holds
 pub finds_noted : (told : Told) (P : Type 0) (old new : List Fault) (found : Option Fault) → new ≡ old ++ option_to_list found →
     MatchOption found P (IsFault told) → Finds told P old new
 finds_noted told P old new None e here =
@@ -27,6 +29,7 @@ finds_noted told P old new (Some fault) e here = record {
   clean = λ none. absurd (let l : length (fault ∷ []) ≡ 1 = refl in omega (arith, none, ap length e, length-append old (fault ∷ []), l));
 }
 
+-- where two steps in a row add faults, both together find what follows from what each finds
 pub finds_both : (told : Told) (P Q R : Type 0) (one two three : List Fault) → (P → Q → R) →
     Finds told P one two → Finds told Q two three → Finds told R one three
 finds_both told P Q R one two three join p q = record {
@@ -35,6 +38,7 @@ finds_both told P Q R one two three join p q = record {
   clean = λ none. join (p.clean (omega (arith, q.more, none))) (q.clean none);
 }
 
+-- what follows from what is found is found with the same faults
 pub finds_then : (told : Told) (P Q : Type 0) (old new : List Fault) → (P → Q) → Finds told P old new → Finds told Q old new
 finds_then told P Q old new f p = record { faults = p.faults; more = p.more; clean = λ none. f (p.clean none) }
 
@@ -42,6 +46,7 @@ finds_then told P Q old new f p = record { faults = p.faults; more = p.more; cle
 pub come_none : (told : Told) (waits : List ℕ) → Come told (take 0 waits)
 come_none told waits k has = absurd (omega (arith, has.1))
 
+-- where the answers that are waited for have come up to a place, and the one there has, they have up to the next
 pub come_more : (told : Told) (waits : List ℕ) (i n : ℕ) → i < length waits → get_or waits i 0 ≡ n → Come told (take i waits) →
     Happened told (Answered n) → Come told (take (i + 1) waits)
 come_more told waits i n lt is all here k has =
@@ -53,6 +58,7 @@ come_more told waits i n lt is all here k has =
       | inr d ↦ all k (has_before i waits f.0 k f.2 (omega (arith, f.1, d)))
     ]
 
+-- where the answers that are waited for have come up to a place, and none stands from there on, all have come
 pub come_all : (told : Told) (waits : List ℕ) (i : ℕ) → length waits ≤ i → Come told (take i waits) → Come told waits
 come_all told waits i far all k has =
     let f = found waits k has in let w = slice_get_within waits f.0 k f.1 in
@@ -94,6 +100,7 @@ taken_good told n lt runs come good is k has =
     let died_not : (call_of told n).outcome ≢ Died = λ e. let no : out.Answered ≡ Died = sym is ∙ e in absurd (cc) in
     is_answered (call_of told k).outcome (good is k has) (come (runs.answered (lt, open_not) died_not) k has).1
 
+-- what stands at a place of a list of numbers is one of them
 pub waits_item : (waits : List ℕ) (i : ℕ) → i < length waits → Contains waits (get_or waits i 0)
 waits_item waits i lt = Contains-get_or waits i 0 lt
 

@@ -182,6 +182,7 @@ before_is told n p None is e = absurd (cc)
 before_is told n p (Some q) is e = let same : q ≡ p = cc in
     (subst (λ k. k < n) same is.0, subst (λ k. SameWay told k n) same is.1)
 
+-- at each place below the number of runs stands its run
 pub run_at : (told : Told) (i : ℕ) → i < length told.runs → slice_get told.runs i ≡ Some (run_of told i)
 run_at told i lt = slice_get-get_or told.runs i (record { actor = 0; call = 0 }) lt
 

@@ -62,6 +62,7 @@ module _ (casts : List ActorSpec) (h : History) (f : Facts casts h) where
             future = omega (arith, within, f.few item.caller);
           }
 
+  -- what a caller keeps for a future is good: nothing, a sayable value, or a fault that is no kind's own
   pub kept_fine : (c k : ℕ) → IsGoodKept (kept_at (kept_of c h) k)
   kept_fine c k = go (kept_at (kept_of c h) k) refl
     where
@@ -72,6 +73,7 @@ module _ (casts : List ActorSpec) (h : History) (f : Facts casts h) where
   pub few_actors : (c : ℕ) → AllByRecursion (λ (call : Submission). call.actor ≤ 8) (calls_of c h)
   few_actors c = each_at (λ (call : Submission). call.actor ≤ 8) (calls_of c h) (λ k call e. (call_numbers casts h c k call f e).few)
 
+  -- a number is one that a caller can have, or has no calls
   pub valid_or_none : (c : ℕ) → IsCallerNumber c ⊎ (calls_of c h ≡ [])
   valid_or_none c = go (calls_of c h) refl
     where
@@ -181,6 +183,7 @@ module _ (casts : List ActorSpec) (h : History) (f : Facts casts h) where
         numbered_each IsPlain IsGoodItem (item_as a) 0 (runs_of a h) (item_plain a) (items_fine a),
       )
 
+  -- no line of a summary has a line end in it
   pub lines_lack_ends : AllByRecursion (Lacks 10) (lines_of h)
   lines_lack_ends =
       Each-weaker IsPlain (Lacks 10) (lines_of h) (λ text is. plain_lacks 10 text (omega arith) is)
@@ -422,6 +425,7 @@ module _ (casts : List ActorSpec) (h g : History) (f : Facts casts h) (t : Facts
         ]
       ]
 
+-- two histories of the same roles that scripts can write end alike, but for what the lines that tell both leave open
 pub read_one_way : AreReadOneWay
 read_one_way roles events others said first second bytes one two =
     let casts = map actor_spec_of roles in

@@ -9,6 +9,7 @@ use Rattle.act_types.specs.Texts.{space, with_spaces}
 
 -- ---- what each byte of a text is
 
+-- what holds of each item of two lists holds of each of both joined
 pub Each-append : {A : Type 0} (P : A → Type 0) (xs ys : List A) → AllByRecursion P xs → AllByRecursion P ys → AllByRecursion P (xs ++ ys)
 Each-append P [] ys p q = q
 Each-append P (x ∷ xs) ys p q = (p.0, Each-append P xs ys p.1 q)
@@ -29,12 +30,15 @@ IsWord text = AllByRecursion (λ (x : ℕ). 32 < x) text
 abbrev pub IsPlain : List ℕ → Type 0
 IsPlain text = AllByRecursion (λ (x : ℕ). 32 ≤ x) text
 
+-- each of these texts is a word
 abbrev pub AreWords : List (List ℕ) → Type 0
 AreWords words = AllByRecursion IsWord words
 
+-- a word has no space, and no byte below one
 pub word_lacks : (b : ℕ) (text : List ℕ) → b ≤ 32 → IsWord text → Lacks b text
 word_lacks b text low word = Each-weaker (λ (x : ℕ). 32 < x) (λ (x : ℕ). x ≢ b) text (λ x above same. omega (arith, above, same)) word
 
+-- a word has no byte below a space
 pub word_plain : (text : List ℕ) → IsWord text → IsPlain text
 word_plain text word = Each-weaker (λ (x : ℕ). 32 < x) (λ (x : ℕ). 32 ≤ x) text (λ x above. omega (arith, above)) word
 
@@ -51,9 +55,11 @@ heads a b x y e = cc
 pub tails : (a b : ℕ) (x y : List ℕ) → a ∷ x ≡ b ∷ y → x ≡ y
 tails a b x y e = cc
 
+-- texts whose first bytes a test tells apart differ
 pub apart : (a b : ℕ) (x y : List ℕ) → (a == b) ≡ false → a ∷ x ≢ b ∷ y
 apart a b x y ne e = differ a b ne (heads a b x y e)
 
+-- texts that a comparison tells apart differ
 pub texts_apart : (xs ys : List ℕ) → bytes_eq xs ys ≡ false → xs ≢ ys
 texts_apart xs ys ne same = let bad : true ≡ false = sym ((bytes_decides xs ys).1 same) ∙ ne in cc
 
@@ -65,6 +71,7 @@ lacks_from b (x ∷ text) e =
 
 -- ---- numbers
 
+-- each byte is a digit
 abbrev pub AreDigits : List ℕ → Type 0
 AreDigits text = AllByRecursion (λ (x : ℕ). (48 ≤ x) × (x ≤ 57)) text
 
@@ -86,10 +93,12 @@ onto_digits (suc k) n acc more =
     either true xs ys p q = p
     either false xs ys p q = q
 
+-- a number is written in digits alone
 pub decimal_digits : (n : ℕ) → AreDigits (decimal n)
 unfolding digits
 decimal_digits n = onto_digits 64 n [] tt
 
+-- a number is written as a word
 pub decimal_word : (n : ℕ) → IsWord (decimal n)
 decimal_word n = Each-weaker (λ (x : ℕ). (48 ≤ x) × (x ≤ 57)) (λ (x : ℕ). 32 < x) (decimal n) (λ x d. omega (arith, d.0)) (decimal_digits n)
 
@@ -108,11 +117,13 @@ abbrev pub before : ℕ → List ℕ → List ℕ
 before b [] = []
 before b (x ∷ xs) = cond (x == b) [] (x ∷ before b xs)
 
+-- where a text has no such byte and one follows it, the text in front of the first one is that text
 pub before_cut : (b : ℕ) (word rest : List ℕ) → Lacks b word → before b (word ++ b ∷ rest) ≡ word
 before_cut b [] rest lacks = ap (λ (t : Bool). cond t [] (b ∷ before b rest)) (eq-eqb b b refl)
 before_cut b (x ∷ word) rest lacks =
     ap (λ (t : Bool). cond t [] (x ∷ before b (word ++ b ∷ rest))) (ne_eqb x b lacks.0) ∙ ap (λ (l : List ℕ). x ∷ l) (before_cut b word rest lacks.1)
 
+-- where a text has no such byte, the text in front of the first one is all of it
 pub before_all : (b : ℕ) (word : List ℕ) → Lacks b word → before b word ≡ word
 before_all b [] lacks = refl
 before_all b (x ∷ word) lacks = ap (λ (t : Bool). cond t [] (x ∷ before b word)) (ne_eqb x b lacks.0) ∙ ap (λ (l : List ℕ). x ∷ l) (before_all b word lacks.1)
@@ -143,6 +154,7 @@ lacks_not b (x ∷ front) rest lacks = lacks_not b front rest lacks.1
 
 -- ---- words with a space before each
 
+-- the words one after another, each behind a space
 abbrev pub spaced : List (List ℕ) → List ℕ
 spaced [] = []
 spaced (word ∷ words) = 32 ∷ (word ++ spaced words)
@@ -150,6 +162,7 @@ spaced (word ∷ words) = 32 ∷ (word ++ spaced words)
 pub space_is : (text : List ℕ) → space ++ text ≡ 32 ∷ text
 space_is text = refl
 
+-- `with_spaces` gives the words one after another, each behind a space
 pub spaced_is : (words : List (List ℕ)) → with_spaces words ≡ spaced words
 spaced_is [] = refl
 spaced_is (word ∷ words) = (λ i. space_is word i ++ spaced_is words i)

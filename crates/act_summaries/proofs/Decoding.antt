@@ -29,6 +29,7 @@ use Rattle.act_summaries.proofs.Words.{IsGoodArg, IsGoodAnswer, answer_word, ans
 
 -- ---- a future's line
 
+-- nothing is kept, or a good answer
 abbrev pub IsGoodKept : Option Answer → Type 0
 IsGoodKept None = Unit {0}
 IsGoodKept (Some answer) = IsGoodAnswer answer
@@ -181,6 +182,7 @@ words_lack words all = Each-weaker IsWord (Lacks 32) words (λ word is. word_lac
 pub dotless : (c : ℕ) → Lacks 46 (caller_text c)
 dotless c = (differ 99 46 refl, decimal_lacks c 46 (omega arith))
 
+-- two futures of one name are the same, where the numbers of callers and futures are below 2^64
 pub future_is : (c d j k : ℕ) → c < 2 ^ 64 → d < 2 ^ 64 → j < 2 ^ 64 → k < 2 ^ 64 → future_name c j ≡ future_name d k → (c ≡ d) × (j ≡ k)
 future_is c d j k p q r s e =
     let both = cut 46 (caller_text c) (caller_text d) (decimal j) (decimal k) (dotless c) (dotless d) e in

@@ -66,6 +66,7 @@ contained P n (m ∷ ns) all e = go (m == n) refl e (contained P n ns all.1)
 
 -- ---- casts
 
+-- a number that a caller of a script can have: from 1 to 16
 abbrev pub IsCallerNumber : ℕ → Type 0
 IsCallerNumber c = (1 ≤ c) × (c ≤ 16)
 
@@ -266,6 +267,7 @@ same_step casts h (Run a c) s accepted = go (next_item a c h)
     go (Some item) = s
 same_step casts h event s accepted = s
 
+-- the facts hold of each history of roles and events that a script can write
 pub facts : (roles : List Role) (events : List Event) → list_all is_sayable_role roles ≡ true → list_all is_sayable_event events ≡ true →
     Facts (map actor_spec_of roles) (history (map actor_spec_of roles) events)
 facts roles events said sayable =
@@ -288,6 +290,7 @@ pub record AreNumbers (c a : ℕ) (h : History) : Type 0 where
   pub few : a ≤ 8
   pub cast : is_some (cast_of a h) ≡ true
 
+-- in a good history an actor that has a cast has a number from 1 to 8
 pub cast_good : (h : History) (a : ℕ) → IsGood h → is_some (cast_of a h) ≡ true → (1 ≤ a) × (a ≤ 8)
 cast_good h a s e = go (cast_of a h) refl e
   where

@@ -209,6 +209,7 @@ module _ (bytes : List ℕ) where
             whole = (λ i. cond (skip i) [] (line y) ++ r.whole i);
           }
 
+-- where two histories of the same roles that scripts can write end alike, lines that tell one tell the other
 pub told_alike : AreToldAlike
 told_alike roles events others bytes said first second alike make =
     let casts = map actor_spec_of roles in

@@ -120,6 +120,7 @@ module _ (calls : ℕ → List Call) (ends : ℕ → Option End) where
               runs = runs_told a 0 end.runs (runs_of a h) (items_fine casts h f a) all.1;
             }
 
+-- where lines agree with calls and ends, these fit each history that a script can write and the lines tell
 pub agreed_lines_fit : AgreedLinesFit
 agreed_lines_fit calls ends bytes roles events said sayable agreed told =
     let casts = map actor_spec_of roles in

@@ -18,6 +18,7 @@ word_of Equals = codes "="
 word_of Live = codes "live"
 word_of Retired = codes "retired"
 
+-- the last byte of a mark: `*` for an answer, and `?` for a state
 abbrev pub end_of : Mark → ℕ
 end_of Equals = 42
 end_of Live = 63

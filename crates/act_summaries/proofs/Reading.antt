@@ -78,6 +78,7 @@ open_tells text x y e p q =
     let right = told_at text y o.front o.mark o.is q in
     inr (record { front = o.front; mark = o.mark; left = left.0; right = right.0; line_is = o.is; left_is = left.1; right_is = right.1 })
 
+-- a line that is told as one text, and as another, tells both
 pub tells_both : (text x y : List ℕ) → IsToldAs text x → IsToldAs text y → TellsBoth text x y
 tells_both text x y (inl p) (inl q) = inl (p, q)
 tells_both text x y (inl p) (inr q) = open_tells text x y q.marked (inl p) (inr q)
@@ -112,6 +113,7 @@ told_lacks text told lack (inr filled) =
 
 -- ---- the lines that are not skipped
 
+-- the lines that are not skipped
 abbrev pub shown : List (List ℕ) → List (List ℕ)
 shown texts = filter (λ text. not (is_skipped text)) texts
 

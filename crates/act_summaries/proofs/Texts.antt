@@ -40,6 +40,7 @@ future_name c k = caller_text c ++ 46 ∷ decimal k
 abbrev pub place_text : ℕ → ℕ → List ℕ
 place_text a place = actor_text a ++ 46 ∷ decimal place
 
+-- a future is named as reports name it
 pub name_is : (c k : ℕ) → future_text c k ≡ future_name c k
 name_is c k = append_assoc (caller_text c) (codes ".") (decimal k)
 
@@ -55,12 +56,15 @@ pub kept_is : (o : Option Answer) → kept_text o ≡ 32 ∷ kept_word o
 kept_is None = refl
 kept_is (Some answer) = refl
 
+-- the line of a caller's future, without its end: its name, its actor, and what is kept
 abbrev pub future_as : ℕ → List (Option Answer) → ℕ → Submission → List ℕ
 future_as c kept k call = future_name c k ++ 32 ∷ (actor_text call.actor ++ 32 ∷ kept_word (kept_at kept k))
 
+-- the line of an item of a run list, without its end: its place, its future, its method and its arguments
 abbrev pub item_as : ℕ → ℕ → RunItem → List ℕ
 item_as a place item = place_text a place ++ 32 ∷ (future_name item.caller item.future ++ 32 ∷ (method_text item.method ++ spaced (map settled_text item.args)))
 
+-- the lines of an actor, without their ends: how it stands, and its run list; none where it has no stage
 abbrev pub actor_as : ℕ → List RunItem → Option (List ℕ) → List (List ℕ)
 actor_as a items None = []
 actor_as a items (Some stage) = (actor_text a ++ 32 ∷ stage) ∷ numbered (item_as a) 0 items
@@ -71,6 +75,7 @@ futures h c = numbered (future_as c (kept_of c h)) 0 (calls_of c h)
 abbrev pub actors : History → ℕ → List (List ℕ)
 actors h a = actor_as a (runs_of a h) (stage_of a h)
 
+-- the lines of a summary, without their ends: of the futures of each caller, and then of each actor
 abbrev pub lines_of : History → List (List ℕ)
 lines_of h = flat_map (futures h) (one_to 16) ++ flat_map (actors h) (one_to 8)
 
@@ -111,6 +116,7 @@ each_is : (f : ℕ → List ℕ) (g : ℕ → List (List ℕ)) → ((n : ℕ) �
 each_is f g same [] = refl
 each_is f g same (n ∷ ns) = (λ i. same n i ++ each_is f g same ns i) ∙ sym (flat_map-append line (g n) (flat_map g ns))
 
+-- a summary is the lines of its history, each with its end
 pub summary_is : (h : History) → summary h ≡ flat_map line (lines_of h)
 summary_is h =
     (λ i. each_is (λ c. future_lines c (calls_of c h) (kept_of c h)) (futures h) (λ c. numbered_is (future_line c (kept_of c h)) (future_as c (kept_of c h)) 0 (calls_of c h) (future_line_is c (kept_of c h))) (one_to 16) i
@@ -120,6 +126,7 @@ summary_is h =
 pub caller_word : (c : ℕ) → IsWord (caller_text c)
 caller_word c = (omega arith, decimal_word c)
 
+-- an actor's name is a word
 pub actor_word : (a : ℕ) → IsWord (actor_text a)
 actor_word a = (omega arith, decimal_word a)
 
@@ -129,9 +136,11 @@ caller_dots c = (differ 99 46 refl, decimal_lacks c 46 (omega arith))
 pub actor_dots : (a : ℕ) → Lacks 46 (actor_text a)
 actor_dots a = (differ 97 46 refl, decimal_lacks a 46 (omega arith))
 
+-- a future's name is a word
 pub future_word : (c k : ℕ) → IsWord (future_name c k)
 future_word c k = Each-append (λ (x : ℕ). 32 < x) (caller_text c) (46 ∷ decimal k) (caller_word c) (omega arith, decimal_word k)
 
+-- the name of an item's place is a word
 pub place_word : (a place : ℕ) → IsWord (place_text a place)
 place_word a place = Each-append (λ (x : ℕ). 32 < x) (actor_text a) (46 ∷ decimal place) (actor_word a) (omega arith, decimal_word place)
 
@@ -177,6 +186,7 @@ actors_of h a = go (stage_of a h)
 
 -- ---- the lines of one name
 
+-- whether a line is of the caller or the actor of this name
 abbrev pub is_of : List ℕ → List ℕ → Bool
 is_of name text = belongs owner name text
 

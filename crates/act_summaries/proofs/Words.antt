@@ -46,6 +46,7 @@ begins b text e l r Retired is = r (heads b 114 text (codes "etired") is)
 
 -- ---- methods
 
+-- a sayable method is written as a word
 pub method_word : (m : Method) → is_sayable_method m ≡ true → IsWord (method_text m)
 method_word method.Add h = word_from (method_text method.Add) refl
 method_word method.Get h = word_from (method_text method.Get) refl
@@ -62,6 +63,7 @@ method_word method.Len h = word_from (method_text method.Len) refl
 method_word method.Terminate h = word_from (method_text method.Terminate) refl
 method_word (method.Own name) h = cc
 
+-- a sayable method isn't written as a mark's word
 pub method_no_mark : (m : Method) → is_sayable_method m ≡ true → IsNoMark (method_text m)
 method_no_mark method.Add h = no_mark (method_text method.Add) refl
 method_no_mark method.Get h = no_mark (method_text method.Get) refl
@@ -127,10 +129,12 @@ pub arg_no_mark : (arg : Settled) → IsNoMark (settled_text arg)
 arg_no_mark (Good v) = value_no_mark v
 arg_no_mark (Bad k) = begins 33 (decimal k) (differ 33 61 refl) (differ 33 108 refl) (differ 33 114 refl)
 
+-- good arguments are written as words
 pub args_words : (args : List Settled) → AllByRecursion IsGoodArg args → AreWords (map settled_text args)
 args_words [] h = tt
 args_words (arg ∷ args) h = (arg_word arg h.0, args_words args h.1)
 
+-- no argument is written as a mark's word
 pub args_no_marks : (args : List Settled) → AllByRecursion IsNoMark (map settled_text args)
 args_no_marks [] = tt
 args_no_marks (arg ∷ args) = (arg_no_mark arg, args_no_marks args)
@@ -142,6 +146,7 @@ abbrev pub is_known_fault : Fault → Bool
 is_known_fault (fault.Own name) = false
 is_known_fault other = true
 
+-- an answer that is a sayable value, or a fault that is no kind's own
 abbrev pub IsGoodAnswer : Answer → Type 0
 IsGoodAnswer (Ok v) = is_sayable v ≡ true
 IsGoodAnswer (Err f) = is_known_fault f ≡ true
@@ -162,6 +167,7 @@ fault_word (fault.Dependency k) h =
 fault_word fault.ActorDied h = word_from (fault_text fault.ActorDied) refl
 fault_word (fault.Own name) h = cc
 
+-- a good answer is written as a word
 pub answer_word : (answer : Answer) → IsGoodAnswer answer → IsWord (answer_text answer)
 answer_word (Ok v) h = value_word v h
 answer_word (Err f) h = fault_word f h
@@ -196,6 +202,7 @@ value_alive (value.Text text) e = apart 34 65 (text ++ 34 ∷ []) (codes "ctorDi
 value_alive (value.Int (pos n)) e = let bad : AreDigits (codes "ActorDied") = subst AreDigits e (decimal_digits n) in omega (arith, bad.0.1)
 value_alive (value.Int (negsuc n)) e = apart 45 65 (decimal (suc n)) (codes "ctorDied") refl e
 
+-- a good answer that is written as `ActorDied` is that the actor died
 pub dead_alike : (answer : Answer) → IsGoodAnswer answer → answer_text answer ≡ codes "ActorDied" → answer ≡ Err fault.ActorDied
 dead_alike (Ok v) h e = absurd (value_alive v e)
 dead_alike (Err fault.NoMethod) h e = absurd (texts_apart (codes "NoMethod") (codes "ActorDied") refl e)

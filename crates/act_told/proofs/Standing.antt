@@ -13,6 +13,7 @@ use Rattle.act_told.proofs.Going.{length_calls}
 pub record Apart {A : Type 0} (number : A → ℕ) (xs : List A) : Type 0 where
   pub one : (i j : ℕ) (x y : A) → slice_get xs i ≡ Some x → slice_get xs j ≡ Some y → number x ≡ number y → i ≡ j
 
+-- no two items have one number, where their numbers are those from 1 to a bound that pass a test
 pub apart : {A : Type 0} (number : A → ℕ) (xs : List A) (t : ℕ → Bool) (n : ℕ) → map number xs ≡ filter t (one_to n) → Apart number xs
 apart number xs t n is = record {
   one = λ i j x y at other same. once_among t n i j (number x)
@@ -26,6 +27,7 @@ pub record First {A : Type 0} (t : A → Bool) (xs : List A) (x : A) : Type 0 wh
   pub at : slice_get xs place ≡ Some x
   pub passes : t x ≡ true
 
+-- what a search finds stands in the list, and passes the test
 pub first_is : {A : Type 0} (t : A → Bool) (xs : List A) (x : A) → find t xs ≡ Some x → First t xs x
 first_is t [] x e = absurd (cc)
 first_is {A = A} t (y ∷ xs) x e = go (t y) refl (first_is t xs x) e
@@ -34,6 +36,7 @@ first_is {A = A} t (y ∷ xs) x e = go (t y) refl (first_is t xs x) e
     go true passes rest e = let same : y ≡ x = cc in record { place = zero; at = e; passes = ap t (sym same) ∙ passes }
     go false fails rest e = let f = rest e in record { place = suc f.place; at = f.at; passes = f.passes }
 
+-- where an item of a list passes the test, a search finds one
 pub some_first : {A : Type 0} (t : A → Bool) (xs : List A) (i : ℕ) (x : A) → slice_get xs i ≡ Some x → t x ≡ true →
     (y : A) × (find t xs ≡ Some y)
 some_first t [] i x at passes = absurd (cc)
@@ -47,6 +50,7 @@ some_first {A = A} t (y ∷ xs) i x at passes = go (t y) refl i (λ k there. som
 
 -- ---- callers
 
+-- how many calls the first so many callers have together
 pub calls_ahead : ℕ → List OwnerView → ℕ
 calls_ahead zero owners = 0
 calls_ahead (suc m) [] = 0
@@ -59,6 +63,7 @@ pub record Begins (owners : List OwnerView) (before c : ℕ) (owner : OwnerView)
   pub id : owner.id ≡ c
   pub start : start_of before c owners ≡ before + calls_ahead place owners
 
+-- a caller that is found stands at a place, and its calls begin behind those of the callers before it
 pub begins : (owners : List OwnerView) (before c : ℕ) (owner : OwnerView) → owner_of c owners ≡ Some owner → Begins owners before c owner
 unfolding calls_ahead
 begins [] before c owner e = absurd (cc)
@@ -135,6 +140,7 @@ pub record IsCallOf (ends : List EndView) (before : ℕ) (owners : List OwnerVie
   pub actor : told.actor ≡ actor_place ends call.actor
   pub outcome : told.outcome ≡ outcome_of (kept_at owner.kept number)
 
+-- a call at a place among those told is a caller's, and stands behind those of the callers before it
 pub call_is : (ends : List EndView) (before : ℕ) (owners : List OwnerView) (n : ℕ) (told : Call) →
     slice_get (calls_told ends before owners) n ≡ Some told → IsCallOf ends before owners n told
 unfolding calls_ahead
@@ -177,11 +183,13 @@ call_is ends before (first ∷ owners) n told at =
 
 -- ---- runs
 
+-- how many calls the first so many actors ran together
 pub runs_ahead : ℕ → List EndView → ℕ
 runs_ahead zero ends = 0
 runs_ahead (suc j) [] = 0
 runs_ahead (suc j) (end ∷ ends) = length (end_log end) + runs_ahead j ends
 
+-- an item of a run list stands among the runs that are told behind those of the actors before it
 pub run_at : (owners : List OwnerView) (a : ℕ) (ends : List EndView) (j p : ℕ) (end : EndView) (item : RunItem) →
     slice_get ends j ≡ Some end → slice_get (end_log end) p ≡ Some item →
     slice_get (runs_told owners a ends) (runs_ahead j ends + p) ≡ Some (run_told owners (a + j) item)
