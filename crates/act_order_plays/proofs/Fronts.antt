@@ -15,7 +15,7 @@ ran_in (Submitted n) = None
 ran_in (Ran n) = Some n
 ran_in (Answered n) = None
 
--- the calls that were submitted, and those that ran
+-- the calls that were submitted, in the order of the happenings
 abbrev pub submits : List Happening → List ℕ
 submits before = filter_map submitted_in before
 
@@ -31,10 +31,11 @@ is_by told c n = (call_of told n).caller == c
 abbrev pub is_to : Told → ℕ → ℕ → Bool
 is_to told a n = (call_of told n).actor == a
 
--- those of one caller, and those of one actor
+-- those that one caller submitted
 abbrev pub subs_of : Told → List Happening → ℕ → List ℕ
 subs_of told before c = filter (is_by told c) (submits before)
 
+-- those that ran at one actor
 abbrev pub rans_of : Told → List Happening → ℕ → List ℕ
 rans_of told before a = filter (is_to told a) (rans before)
 

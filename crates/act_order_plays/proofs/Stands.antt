@@ -50,7 +50,7 @@ Agree told [] (n ∷ ns) = ⊥
 Agree told (run ∷ runs) [] = ⊥
 Agree told (run ∷ runs) (n ∷ ns) = (run.0 ≡ (call_of told n).actor) × IsItem told n run.1 × Agree told runs ns
 
--- a death at this actor was told to this caller
+-- the answer of some call to this actor was told, and it is the actor's death
 pub record IsDeath (told : Told) (before : List Happening) (a : ℕ) : Type 0 where
   pub call : ℕ
   pub has : Has before (Told_answer call)

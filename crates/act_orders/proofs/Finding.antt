@@ -42,7 +42,7 @@ finds_both told P Q R one two three join p q = record {
 pub finds_then : (told : Told) (P Q : Type 0) (old new : List Fault) → (P → Q) → Finds told P old new → Finds told Q old new
 finds_then told P Q old new f p = record { faults = p.faults; more = p.more; clean = λ none. f (p.clean none) }
 
--- one answer more has come
+-- of no answers, all have come
 pub come_none : (told : Told) (waits : List ℕ) → Come told (take 0 waits)
 come_none told waits k has = absurd (omega (arith, has.1))
 
@@ -64,7 +64,7 @@ come_all told waits i far all k has =
     let f = found waits k has in let w = slice_get_within waits f.0 k f.1 in
     all k (has_before i waits f.0 k f.1 (omega (arith, w, far)))
 
--- one answer more that didn't fail
+-- of no answers, none failed
 pub good_none : (told : Told) (n : ℕ) (takes : List ℕ) → TakesGood told n (take 0 takes)
 good_none told n takes is k has = absurd (omega (arith, has.1))
 

@@ -21,7 +21,7 @@ apart number xs t n is = record {
       (sym (ap (λ (ns : List ℕ). slice_get ns j) is) ∙ slice_get-map number xs j ∙ ap (option_map number) other ∙ ap (λ (v : ℕ). Some v) (sym same));
 }
 
--- the first that passes, where one does
+-- the item stands in the list, and passes the test
 pub record First {A : Type 0} (t : A → Bool) (xs : List A) (x : A) : Type 0 where
   pub place : ℕ
   pub at : slice_get xs place ≡ Some x
