@@ -1,4 +1,3 @@
-pub mod Doing
 pub mod Rehearsals
 pub mod Ends
 pub mod FoundEnds

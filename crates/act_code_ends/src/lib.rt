@@ -3,8 +3,6 @@
 
 mod certified;
 mod choices;
-mod did;
-mod doing;
 mod ends;
 mod fault;
 mod opening;

@@ -7,8 +7,7 @@ ghost use Rattle.act_handles.specs.Handles.{copies_in};
 ghost use Rattle.act_drive.specs.Sessions.{call_refusal, use_refusal, first_answered, IsLater, DoesMore, Submits};
 ghost use Rattle.act_code_ends.specs.Rehearsals.{OnlyTakes};
 
-use crate::did::{Did, add};
-use crate::doing::submission;
+use act_drive::{Did, add_step, submission};
 use act_handles::{HandleRefusal, are_earlier};
 use act_owner::Owner;
 use act_rules::{Event, SubmitRefusal};
@@ -260,7 +259,7 @@ impl<'a> Rehearsal<'a> {
         };
         let me = self.owner.id();
         self.note(Event::Submit(me, actor, method, copy));
-        add(&mut self.did, step);
+        add_step(&mut self.did, step);
         Ok(k)
     }
 }

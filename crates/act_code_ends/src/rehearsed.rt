@@ -7,10 +7,9 @@ ghost use Rattle.act_owner.specs.Owner.{opened_with};
 ghost use Rattle.act_code_ends.specs.Rehearsals.{HasEnded};
 ghost use Rattle.act_code_ends.specs.declared.rehearsed.Standing.TheVariants.{Ended};
 
-use crate::did::no_step;
 use crate::rehearsal::{Pause, Rehearsal};
 use act_actor::{Cast, limits_of};
-use act_drive::Code;
+use act_drive::{Code, no_step};
 use act_owner::Owner;
 use act_rules::Event;
 use act_types::{ACTOR_NUMBERS, CallerId, NoMemory, Notice};

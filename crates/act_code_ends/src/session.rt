@@ -3,10 +3,8 @@
 ghost use Rattle.std.specs.Prelude.{◌≡◌, nat_lt};
 ghost use Rattle.std.specs.List.{list_all};
 
-use crate::did::add;
-use crate::doing::Doing;
 use crate::rehearsal::{Pause, Rehearsal};
-use act_drive::{KillRefusal, MAX_KILLS, Session, WaitRefusal};
+use act_drive::{Doing, KillRefusal, MAX_KILLS, Session, WaitRefusal, add_step};
 use act_handles::HandleRefusal;
 use act_rules::{Event, SubmitRefusal};
 use act_types::{ActorId, Answer, Arg, FutureId, ListOf, Method, NoMemory};
@@ -50,7 +48,7 @@ impl<'a> Session for Rehearsal<'a> {
         if !self.await_answer(k) {
             return Err(WaitRefusal::NoMemory);
         }
-        add(&mut self.did, Doing::Await(k));
+        add_step(&mut self.did, Doing::Await(k));
         Ok(())
     }
 
@@ -61,7 +59,7 @@ impl<'a> Session for Rehearsal<'a> {
         let Some(at) = self.await_any(futures) else {
             return Err(WaitRefusal::NoMemory);
         };
-        add(&mut self.did, Doing::Await(futures[at]));
+        add_step(&mut self.did, Doing::Await(futures[at]));
         Ok(at)
     }
 
@@ -93,7 +91,7 @@ impl<'a> Session for Rehearsal<'a> {
         let copies = self.owner.copy(actor)?;
         let me = self.owner.id();
         self.note(Event::Copy(me, actor));
-        add(&mut self.did, Doing::Copy(actor));
+        add_step(&mut self.did, Doing::Copy(actor));
         Ok(copies)
     }
 
@@ -102,7 +100,7 @@ impl<'a> Session for Rehearsal<'a> {
         drop(note);
         let me = self.owner.id();
         self.note(Event::Release(me, actor));
-        add(&mut self.did, Doing::Release(actor));
+        add_step(&mut self.did, Doing::Release(actor));
         Ok(())
     }
 
@@ -120,7 +118,7 @@ impl<'a> Session for Rehearsal<'a> {
         let me = self.owner.id();
         self.note(Event::AskKill(me, actor));
         self.kills[number] += 1;
-        add(&mut self.did, Doing::Kill(actor));
+        add_step(&mut self.did, Doing::Kill(actor));
         Ok(())
     }
 

@@ -11,7 +11,7 @@ use std::snapshot::Snapshot;
 /// No step, or the last one after those before it.
 #[derive(Drop)]
 #[cycle(did)]
-pub(crate) struct Did {
+pub struct Did {
     last: Option<Last>,
 }
 
@@ -39,14 +39,14 @@ impl Model for Did {
 }
 
 /// No step.
-pub(crate) fn no_step() -> Snapshot<Did>
+pub fn no_step() -> Snapshot<Did>
     ensures { result.value ≡ [] }
 {
     Snapshot::of(&Did { last: None })
 }
 
-/// Adds a step.
-pub(crate) fn add(did: &mut Snapshot<Did>, step: Doing)
+/// Adds a step. It is let go.
+pub fn add_step(did: &mut Snapshot<Did>, step: Doing)
     ensures { did.new.value ≡ did.old.value ++ step_of step ∷ [] }
 {
     let before = mem::replace(did, no_step());

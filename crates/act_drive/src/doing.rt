@@ -9,7 +9,7 @@ use std::snapshot::Snapshot;
 
 /// A step that a session did. The method of a call and its arguments are known to contracts alone.
 #[derive(Drop)]
-pub(crate) enum Doing {
+pub enum Doing {
     Submit(ActorId, Snapshot<Method>, Snapshot<ListOf<Arg>>),
     Copy(ActorId),
     Release(ActorId),
@@ -18,7 +18,7 @@ pub(crate) enum Doing {
 }
 
 /// The step that submits a call of this method with these arguments.
-pub(crate) fn submission(actor: ActorId, method: &Method, args: &ListOf<Arg>) -> Doing
+pub fn submission(actor: ActorId, method: &Method, args: &ListOf<Arg>) -> Doing
     ensures { step_of result ≡ Submit actor method.now args.now }
 {
     Doing::Submit(actor, Snapshot::of(method), Snapshot::of(args))

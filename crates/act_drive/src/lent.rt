@@ -6,7 +6,7 @@ ghost use Rattle.act_rules.specs.declared.script.Step.TheVariants.{Submit};
 ghost use Rattle.act_drive.specs.Sessions.{call_refusal, IsLater, DoesMore, OnlyHears, Submits};
 
 use crate::any::are_below;
-use crate::did::{Did, add};
+use crate::did::{Did, add_step};
 use crate::doing::{Doing, submission};
 use crate::driver::{CallerLines, Driver};
 use crate::refusals::{KillRefusal, WaitRefusal};
@@ -80,7 +80,7 @@ impl<'a, R: Wait, O: Opening> Lent<'a, R, O> {
         let k = self
             .driver
             .try_submit(self.rt, self.alloc, self.lines, actor, method, args)?;
-        add(&mut self.did, step);
+        add_step(&mut self.did, step);
         Ok(k)
     }
 
@@ -124,7 +124,7 @@ impl<'a, R: Wait, O: Opening> Session for Lent<'a, R, O> {
             .wait_for(self.rt, self.alloc, self.lines, k, idle, &mut NoNotes)
         {
             Ok(()) => {
-                add(&mut self.did, Doing::Await(k));
+                add_step(&mut self.did, Doing::Await(k));
                 Ok(())
             }
             Err(_) => Err(WaitRefusal::NoMemory),
@@ -145,7 +145,7 @@ impl<'a, R: Wait, O: Opening> Session for Lent<'a, R, O> {
             &mut NoNotes,
         ) {
             Ok(at) => {
-                add(&mut self.did, Doing::Await(futures[at]));
+                add_step(&mut self.did, Doing::Await(futures[at]));
                 Ok(at)
             }
             Err(_) => Err(WaitRefusal::NoMemory),
@@ -164,7 +164,7 @@ impl<'a, R: Wait, O: Opening> Session for Lent<'a, R, O> {
 
     fn copy(&mut self, actor: ActorId) -> Result<u32, HandleRefusal> {
         let copies = self.driver.try_copy(actor)?;
-        add(&mut self.did, Doing::Copy(actor));
+        add_step(&mut self.did, Doing::Copy(actor));
         Ok(copies)
     }
 
@@ -178,7 +178,7 @@ impl<'a, R: Wait, O: Opening> Session for Lent<'a, R, O> {
         else {
             unreachable!()
         };
-        add(&mut self.did, Doing::Release(actor));
+        add_step(&mut self.did, Doing::Release(actor));
         Ok(())
     }
 
@@ -196,7 +196,7 @@ impl<'a, R: Wait, O: Opening> Session for Lent<'a, R, O> {
         {
             Ok(()) => {
                 self.kills[number] += 1;
-                add(&mut self.did, Doing::Kill(actor));
+                add_step(&mut self.did, Doing::Kill(actor));
                 Ok(())
             }
             Err(_) => Err(KillRefusal::NoMemory),

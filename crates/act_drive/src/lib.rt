@@ -22,6 +22,8 @@ pub use act_rules::Plan;
 pub use caller::{Driven, drive, drive_noting};
 pub use code::{Code, GaveUp};
 pub use coded::drive_code;
+pub use did::{Did, add_step, no_step};
+pub use doing::{Doing, submission};
 pub use driver::{CallerLines, CallerPasses};
 pub use laws::letters_stand_at_their_endpoints;
 pub use refusals::{KillRefusal, WaitRefusal};

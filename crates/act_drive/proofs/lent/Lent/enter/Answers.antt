@@ -7,7 +7,7 @@ pub invariant_of-self : goal.invariant_of-self
 invariant_of-self g c = work_waits _ _ _ _ _ _ _ c.self.invariant c.in_err-k.ensures.calling c.in_err-k.ensures.waits c.in_err-k.ensures.on_refusal
 
 pub invariant_of-self-2 : goal.invariant_of-self-2
-invariant_of-self-2 g c = rw c.add.ensures (rw c.submission-step.ensures (work_does _ _ _ _ _ (Submit c.args.actor c.args.method c.args.args) _ _ (λ a. refl) c.self.invariant c.in_ok-k.ensures.calling c.in_ok-k.ensures.stays c.in_ok-k.ensures.traced c.in_ok-k.ensures.does))
+invariant_of-self-2 g c = rw c.add_step.ensures (rw c.submission-step.ensures (work_does _ _ _ _ _ (Submit c.args.actor c.args.method c.args.args) _ _ (λ a. refl) c.self.invariant c.in_ok-k.ensures.calling c.in_ok-k.ensures.stays c.in_ok-k.ensures.traced c.in_ok-k.ensures.does))
 
 pub returns-in_err-k-clause-refusal : goal.returns-in_err-k-clause-refusal
 returns-in_err-k-clause-refusal g c =

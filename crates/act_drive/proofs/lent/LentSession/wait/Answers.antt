@@ -5,7 +5,7 @@ use Rattle.act_drive.proofs.lent.LentSession.wait.Goals as goal
 pub invariant_of-self : goal.invariant_of-self
 invariant_of-self g c =
     let below : c.args.k < length c.self.inside.driver.owner.calls = search rules in
-    rw c.add.ensures (work_awaits _ _ _ _ _ c.args.k _ _ c.self.invariant c.wait_for.ensures.only_waits below c.in-Ok.ensures.answered)
+    rw c.add_step.ensures (work_awaits _ _ _ _ _ c.args.k _ _ c.self.invariant c.wait_for.ensures.only_waits below c.in-Ok.ensures.answered)
 
 pub invariant_of-self-in-Err : goal.invariant_of-self-in-Err
 invariant_of-self-in-Err g c = work_waits _ _ _ _ _ _ _ c.self.invariant c.wait_for.ensures.only_waits.calling c.wait_for.ensures.only_waits.waits c.wait_for.ensures.only_waits.traced

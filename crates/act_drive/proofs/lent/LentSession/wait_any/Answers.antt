@@ -15,7 +15,7 @@ invariant_of-self g c =
     let all : list_all (λ j. nat_lt j (length calls)) ks ≡ true = search rules in
     let below : k < length calls = subst (λ (j : ℕ). j < length calls) here (all_below ks (length calls) at k all found.0) in
     let answered : is_some (kept_at c.wait_for_any.new.self.owner.kept k) ≡ true = subst (λ (j : ℕ). is_some (kept_at c.wait_for_any.new.self.owner.kept j) ≡ true) here found.1 in
-    rw c.add.ensures (work_awaits _ _ _ _ _ k _ _ c.self.invariant c.wait_for_any.ensures.only_waits below answered)
+    rw c.add_step.ensures (work_awaits _ _ _ _ _ k _ _ c.self.invariant c.wait_for_any.ensures.only_waits below answered)
 
 pub invariant_of-self-in-Err : goal.invariant_of-self-in-Err
 invariant_of-self-in-Err g c = work_waits _ _ _ _ _ _ _ c.self.invariant c.wait_for_any.ensures.only_waits.calling c.wait_for_any.ensures.only_waits.waits c.wait_for_any.ensures.only_waits.traced
