@@ -7,3 +7,4 @@ pub mod Life
 pub mod Told
 pub mod Limits
 pub mod Pending
+pub mod Sent

@@ -10,13 +10,12 @@ use crate::least::LeastSet;
 use act_types::{FutureId, MAX_ARGS, NoMemory};
 use std::alloc::Global;
 use std::marker::Model;
+use std::snapshot::Snapshot;
 
-/// A call that was entered.
+/// A call that was entered. Its futures are known to contracts alone.
 #[derive(Drop)]
 struct Call {
-    /// The futures among its arguments are so many of these. As `Futures` they would take four bytes more.
-    futures: [FutureId; MAX_ARGS],
-    count: u8,
+    futures: Snapshot<Futures>,
     /// How many places among its arguments wait for an answer.
     missing: u8,
     answered: bool,
@@ -24,13 +23,12 @@ struct Call {
 }
 
 impl Model for Call {
-    ghost use Rattle.std.specs.Prelude.{take};
     ghost use Rattle.act_resolver.specs.Counts.{Row};
 
     ghost Value = { Row };
 
     ghost view = { λ call. record {
-      call = record { futures = take call.count call.futures; answered = call.answered; sent = call.sent };
+      call = record { futures = call.futures.value; answered = call.answered; sent = call.sent };
       missing = call.missing;
     } };
 }
@@ -40,12 +38,8 @@ impl Call {
         requires { length futures.now ≤ MAX_ARGS }
         ensures { result ≡ record { call = new_call futures.now; missing = missing } }
     {
-        let mut places = [FutureId::new(0); MAX_ARGS];
-        let len = futures.len();
-        places[..len].copy_from_slice(futures);
         Call {
-            futures: places,
-            count: len as u8,
+            futures: Snapshot::of(&Futures::new(futures)),
             missing,
             answered: false,
             sent: false,

@@ -1,7 +1,18 @@
+use borrow.Author.Rules.{rules}
+use denote.Param.{param}
+use denote.Param.Send.{IsSend, sendable}
+use Rattle.std.proofs.Crossing.{crosses}
+use Rattle.act_owner.proofs.Sent.{owner_sent}
 use Rattle.act_executor.proofs.Common.{◌≡◌, List, sym, subst, Each, Finished, Driven, IsServedBy, IsDrivenTo, RunFault, IsThreadFault, fault_of}
 use Rattle.act_executor.proofs.Faults.{err_only, refused}
 use Rattle.act_executor.proofs.Tasks.{each_first}
 use Rattle.act_executor.proofs.run.run_tasks.Goals as goal
+
+pub run_both-requires-send-C : goal.run_both-requires-send-C
+run_both-requires-send-C g c κs within =
+    let conduct : IsSend (param 2 g.row.D) = search rules parts 8 in
+    let notes : IsSend (param 4 g.row.N) = search rules parts 8 in
+    search (owner_sent, crosses, sendable) depth 60 fits 20000
 
 pub returns-clause-actors : goal.returns-clause-actors
 returns-clause-actors g c = subst (λ (l : List (Finished _ _)). Each (IsServedBy g.K.Actor.state) c.args.servings.items l) (sym c.in_ok-actors.ensures) (each_first (IsServedBy g.K.Actor.state) c.args.servings.items c.in_ok-served.served.items c.in_ok-served.ensures.first)

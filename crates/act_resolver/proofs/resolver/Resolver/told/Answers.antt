@@ -1,4 +1,4 @@
-use Rattle.act_resolver.proofs.Common.{◌≡◌, ◌∙◌, length, true, false, Some, refl, sym, ap, arith, subst, rules, slice_get, slice_set, take, length-set, IsTelling, Row}
+use Rattle.act_resolver.proofs.Common.{◌≡◌, ◌∙◌, length, true, false, Some, refl, sym, ap, arith, subst, rules, slice_get, slice_set, length-set, IsTelling, Row}
 use Rattle.act_resolver.proofs.Common.{calls_of, is_free, with_one_less, with_told}
 use Rattle.act_resolver.proofs.Counting.{changed_is, found_at, length-calls, same_calls, told_start, told_step, waiter_entered, waiter_counted, whole}
 use Rattle.act_resolver.proofs.resolver.Resolver.told.Goals as goal
@@ -7,7 +7,7 @@ pub loop-waiter-init : goal.loop-waiter-init
 loop-waiter-init c =
     let rows = c.self.inside.calls.items in
     let i = c.number-place.result in
-    let found : Row = record { call = record { futures = take c.call.inside.count c.call.inside.futures; answered = c.call.inside.answered; sent = c.call.inside.sent }; missing = c.call.inside.missing } in
+    let found : Row = record { call = record { futures = c.call.inside.futures.value; answered = c.call.inside.answered; sent = c.call.inside.sent }; missing = c.call.inside.missing } in
     let lists : calls_of rows ≡ c.args.self.now.calls = ap (λ v. v.calls) c.self.view_is in
     let read : slice_get rows i ≡ Some found = found_at rows c.args.self.now.calls c.self.inside.calls.len i c.args.k found c.index_mut-call.result.now lists c.self.inside.calls.ok.0 c.number-place.ensures c.requires c.index_mut-call.ensures.value c.call.view_is in
     let start = told_start rows c.self.inside.waiters.lists c.self.inside.ready i found c.self.invariant read in
@@ -54,7 +54,7 @@ pub returns-clause-calls : goal.returns-clause-calls
 returns-clause-calls c =
     let rows = c.self.inside.calls.items in
     let i = c.number-place.result in
-    let found : Row = record { call = record { futures = take c.call.inside.count c.call.inside.futures; answered = c.call.inside.answered; sent = c.call.inside.sent }; missing = c.call.inside.missing } in
+    let found : Row = record { call = record { futures = c.call.inside.futures.value; answered = c.call.inside.answered; sent = c.call.inside.sent }; missing = c.call.inside.missing } in
     let lists : calls_of rows ≡ c.args.self.now.calls = ap (λ v. v.calls) c.self.view_is in
     let read : slice_get rows i ≡ Some found = found_at rows c.args.self.now.calls c.self.inside.calls.len i c.args.k found c.index_mut-call.result.now lists c.self.inside.calls.ok.0 c.number-place.ensures c.requires c.index_mut-call.ensures.value c.call.view_is in
     c.loop-waiter.invariant.calls
