@@ -4,7 +4,7 @@ ghost use Rattle.std.specs.Prelude.{◌≡◌, ◌≤◌, ◌==◌, ◌++◌, On
 ghost use Rattle.std.specs.List.{flat_map};
 ghost use Rattle.act_types.specs.Texts.{space, actor_text};
 ghost use Rattle.act_rules.specs.Report.{line, one_to};
-ghost use Rattle.act_serve.specs.Served.{end_view, end_log, end_id};
+ghost use Rattle.act_serve.specs.Served.{end_view, end_id};
 ghost use Rattle.act_executor.specs.Joined.{owner_of, end_of};
 ghost use Rattle.act_console.specs.Threads.{end_text, owner_lines_in, end_lines_in, joined_summary};
 
@@ -12,29 +12,8 @@ use crate::report::{push_futures, push_items};
 use act_executor::{Ended, Finished, Joined};
 use act_kinds::Actor;
 use act_owner::Owner;
-use act_rules::RunItem;
 use act_types::{ActorId, CallerId, MAX_ACTORS, MAX_CALLERS, NoMemory};
 use std::alloc::Global;
-
-/// The actor that ended.
-fn id_of<K: Actor>(ended: &Ended<K>) -> ActorId
-    ensures { result ≡ end_id (end_view K.state ended.now) }
-{
-    match ended {
-        Ended::Killed(dead) | Ended::Starved(dead) => dead.id(),
-        Ended::Retired(retired) => retired.id(),
-    }
-}
-
-/// What an actor ran, however it ended.
-fn log_of<K: Actor>(ended: &Ended<K>) -> &[RunItem]
-    ensures { result.now ≡ end_log (end_view K.state ended.now) }
-{
-    match ended {
-        Ended::Killed(dead) | Ended::Starved(dead) => dead.log(),
-        Ended::Retired(retired) => retired.log(),
-    }
-}
 
 /// The place of the caller of this number, if it is there.
 fn place_of_owner(owners: &[Owner], caller: CallerId) -> Option<usize>
@@ -55,7 +34,7 @@ fn owner_of(owners: &[Owner], caller: CallerId) -> Option<&Owner>
 fn place_of_end<K: Actor>(actors: &[Finished<K>], actor: ActorId) -> Option<usize>
     ensures { result ≡ position (λ one. end_id (end_view K.state one.ended) == actor) actors.now }
 {
-    actors.iter().position(|one| id_of(&one.ended) == actor)
+    actors.iter().position(|one| one.ended.id() == actor)
 }
 
 /// The actor of this number, if it is there.
@@ -131,7 +110,7 @@ fn push_ended<K: Actor>(
         return Ok(());
     };
     push_actor(text, actor, ended)?;
-    push_items(text, actor, log_of(ended))?;
+    push_items(text, actor, ended.log())?;
     Ok(())
 }
 

@@ -17,7 +17,7 @@ use act_compare::{play_in, same_log, same_owner};
 use act_kinds::{Actor, Boxed};
 use act_owner::Owner;
 use act_serve::{Ended, Finished};
-use act_types::{ActorId, NoMemory};
+use act_types::NoMemory;
 use act_world::{Cast, Event, Stage, World};
 use std::alloc::Global;
 
@@ -47,16 +47,6 @@ fn has_owners<J: Actor>(world: &World<J>, owners: &[Owner]) -> bool
     true
 }
 
-/// The actor that ended.
-fn id_of<K: Actor>(ended: &Ended<K>) -> ActorId
-    ensures { result ≡ end_id (end_view K.state ended.now) }
-{
-    match ended {
-        Ended::Killed(dead) | Ended::Starved(dead) => dead.id(),
-        Ended::Retired(retired) => retired.id(),
-    }
-}
-
 /// Whether the actor of a world ran the same as one of threads, and ended in the same way.
 fn same_end<J: Actor, K: Actor>(stage: Stage<'_, J>, ended: &Ended<K>) -> bool
     ensures { IsTrue result ↔ IsSameEnd (stage_view J.state stage.entry) (end_view K.state ended.now) }
@@ -74,7 +64,7 @@ fn has_end<J: Actor, K: Actor>(world: &World<J>, ended: &Ended<K>) -> bool
         IsReachedBy casts events (world_view J.state world.now) →
         IsTrue result ↔ IsEndIn (history casts events) (end_view K.state ended.now) }
 {
-    match world.stage(id_of(ended)) {
+    match world.stage(ended.id()) {
         None => false,
         Some(stage) => same_end(stage, ended),
     }

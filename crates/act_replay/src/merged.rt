@@ -10,7 +10,7 @@ ghost use Rattle.std.specs.Prelude.{◌≡◌, IfOk, IfSome, length};
 ghost use Rattle.act_replay.specs.Notes.{AreWhole, HaveAll, marks_of};
 
 use crate::causes::Causes;
-use act_executor::{Ended, Finished, Mark, Page, Pages};
+use act_executor::{Finished, Mark, Page, Pages};
 use act_kinds::Actor;
 use act_owner::Owner;
 use act_rules::Event;
@@ -66,14 +66,6 @@ fn collect_event(notice: Option<u32>) -> Option<Event> {
     match notice {
         Some(place) => Some(Event::Collect(place)),
         None => None,
-    }
-}
-
-/// The actor that ended.
-fn id_of<K: Actor>(ended: &Ended<K>) -> ActorId {
-    match ended {
-        Ended::Killed(dead) | Ended::Starved(dead) => dead.id(),
-        Ended::Retired(retired) => retired.id(),
     }
 }
 
@@ -228,7 +220,7 @@ impl Merged {
     ) -> Result<bool, NoMemory> {
         let mut has_moved = false;
         for (at, actor) in actors.iter().enumerate() {
-            has_moved = self.put_of_actor(id_of(&actor.ended), at, pages)? || has_moved;
+            has_moved = self.put_of_actor(actor.ended.id(), at, pages)? || has_moved;
         }
         Ok(has_moved)
     }

@@ -11,7 +11,7 @@ ghost use Rattle.act_mailbox.specs.Notices.{ReplyExecView, notice_actor, IsNoDea
 ghost use Rattle.act_mailbox.specs.declared.thread.Endpoint.{Endpoint};
 ghost use Rattle.act_serve.specs.Turns.{IsAtItsEndpoint, EndpointsFit, EndpointsStay, TakesLetters, PassesOf, HasReplied, ActorGoesOn, IsServing, KeepsServing, IsFreshExec, has_next, HasGone, RanFirst, HasLooked, KeepsTrace, TracesTurn, replied_to, with_death_given};
 ghost use Rattle.act_serve.specs.declared.turn.Turn.TheVariants.{Moved, Idle, Starved};
-ghost use Rattle.act_serve.specs.Served.{end_view, IsUntaken, HasServed};
+ghost use Rattle.act_serve.specs.Served.{end_view, end_id, end_log, IsUntaken, HasServed};
 
 use crate::letter::{Received, take_letter};
 use act_actor::{Dead, Live, Retired, RunItem, RunLog};
@@ -402,6 +402,28 @@ pub enum Ended<K = Boxed, L: RunLog = Vec<RunItem>> {
     Killed(Dead<L>),
     Retired(Retired<K, L>),
     Starved(Dead<L>),
+}
+
+impl<K: Actor> Ended<K> {
+    /// The actor that ended.
+    pub fn id(&self) -> ActorId
+        ensures { result ≡ end_id (end_view K.state self.now) }
+    {
+        match self {
+            Ended::Killed(dead) | Ended::Starved(dead) => dead.id(),
+            Ended::Retired(retired) => retired.id(),
+        }
+    }
+
+    /// What it ran, however it ended.
+    pub fn log(&self) -> &[RunItem]
+        ensures { result.now ≡ end_log (end_view K.state self.now) }
+    {
+        match self {
+            Ended::Killed(dead) | Ended::Starved(dead) => dead.log(),
+            Ended::Retired(retired) => retired.log(),
+        }
+    }
 }
 
 /// What an executor leaves.

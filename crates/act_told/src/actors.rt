@@ -1,36 +1,15 @@
 //! Actors as they are told: who may call them, and how they ended.
 
 ghost use Rattle.std.specs.Prelude.{◌≡◌, ◌==◌, IfOk, map, position};
-ghost use Rattle.act_serve.specs.Served.{end_view, end_id, end_log};
+ghost use Rattle.act_serve.specs.Served.{end_view, end_id};
 ghost use Rattle.act_told.specs.Told.{actor_place, callers_told, end_told, actor_told};
 
-use act_actor::RunItem;
 use act_kinds::Actor;
 use act_orders::End;
 use act_owner::Owner;
 use act_serve::{Ended, Finished};
 use act_types::{ActorId, ListOf, NoMemory};
 use std::alloc::Global;
-
-/// The actor that ended.
-pub(crate) fn id_of<K: Actor>(ended: &Ended<K>) -> ActorId
-    ensures { result ≡ end_id (end_view K.state ended.now) }
-{
-    match ended {
-        Ended::Killed(dead) | Ended::Starved(dead) => dead.id(),
-        Ended::Retired(retired) => retired.id(),
-    }
-}
-
-/// What an actor ran, however it ended.
-pub(crate) fn log_of<K: Actor>(ended: &Ended<K>) -> &[RunItem]
-    ensures { result.now ≡ end_log (end_view K.state ended.now) }
-{
-    match ended {
-        Ended::Killed(dead) | Ended::Starved(dead) => dead.log(),
-        Ended::Retired(retired) => retired.log(),
-    }
-}
 
 /// The number of each actor, by its place.
 pub(crate) fn numbers_of<K: Actor>(
@@ -42,7 +21,7 @@ pub(crate) fn numbers_of<K: Actor>(
 {
     let mut numbers = Vec::new(alloc);
     for actor in actors {
-        let id = id_of(&actor.ended);
+        let id = actor.ended.id();
         numbers.push(id.number() as usize)?;
     }
     Ok(numbers)
@@ -51,7 +30,7 @@ pub(crate) fn numbers_of<K: Actor>(
 fn found_at<K: Actor>(actors: &[Finished<K>], id: ActorId) -> Option<usize>
     ensures { result ≡ position (λ one. end_id (end_view K.state one.ended) == id) actors.now }
 {
-    actors.iter().position(|one| id_of(&one.ended) == id)
+    actors.iter().position(|one| one.ended.id() == id)
 }
 
 /// The place of an actor; past the last one where it is none of these.
@@ -96,7 +75,7 @@ fn actor_of<K: Actor>(
     ensures { IfOk result (λ actor. actor ≡ actor_told owners.now (end_view K.state ended.now)) }
 {
     Ok(act_orders::Actor {
-        callers: callers_of(alloc, owners, id_of(ended))?,
+        callers: callers_of(alloc, owners, ended.id())?,
         end: end_of(ended),
     })
 }

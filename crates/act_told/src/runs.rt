@@ -4,7 +4,6 @@ ghost use Rattle.std.specs.Prelude.{◌≡◌, ◌<◌, ◌^◌, ◌++◌, IfOk,
 ghost use Rattle.act_serve.specs.Served.{end_view};
 ghost use Rattle.act_told.specs.Starts.{AreSmall, start_in, run_by, runs_by};
 
-use crate::actors::log_of;
 use act_actor::RunItem;
 use act_kinds::Actor;
 use act_orders::Run;
@@ -63,7 +62,7 @@ pub(crate) fn runs_of<K: Actor>(
 {
     let mut runs = ListOf::new(alloc);
     for (place, actor) in actors.iter().enumerate() {
-        push_runs(starts, all, place, log_of(&actor.ended), &mut runs)?;
+        push_runs(starts, all, place, actor.ended.log(), &mut runs)?;
     }
     Ok(runs)
 }

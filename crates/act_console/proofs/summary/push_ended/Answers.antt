@@ -21,5 +21,5 @@ returns g c =
     let seen = end_view state c.in-Some.ended.now in
     let head = line (actor_text a ++ space ++ end_text seen) in
     let one = one_end ends seen a c.args.number number (sym c.in-Some.ensures) in
-    two_parts (string_bytes c.args.text.now) head (numbered_lines (item_line a) 0 c.log_of.result.now) _ _ _ c.in_ok-push_actor.ensures c.in_ok-push_items.ensures
-    (ap (λ (items : List RunItem). head ++ numbered_lines (item_line a) 0 items) c.log_of.ensures ∙ one)
+    two_parts (string_bytes c.args.text.now) head (numbered_lines (item_line a) 0 c.log.result.now) _ _ _ c.in_ok-push_actor.ensures c.in_ok-push_items.ensures
+    (ap (λ (items : List RunItem). head ++ numbered_lines (item_line a) 0 items) c.log.ensures ∙ one)
