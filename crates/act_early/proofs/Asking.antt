@@ -2,7 +2,7 @@
 use Rattle.act_early.proofs.Common.{◌≡◌, ℕ, Bool, true, false, cond, List, [], ◌∷◌, Some, None, refl, ap, sym, ◌∙◌, subst, Option, ◌==◌, ◌||◌, list_any}
 use Rattle.act_early.proofs.Common.{eqb-true, eq-eqb, list_any-append, Event, RunItem, Step, Submit, Copy, Release, Kill, Await, is_kill_of, ActorSpec, History}
 use Rattle.act_early.proofs.Common.{contains, is_dead, next_item, add_event, after_run, IsKept, contains_more, dead_stays, At, next_step, after_step, taken}
-use Rattle.act_early.proofs.Common.{IsPlay, Opens, Takes, Skips, Closes, Happens}
+use Rattle.act_early.proofs.Common.{IsPlay, Opens, Takes, Skips, Closes, Happens, or_left}
 use Rattle.act_rules.specs.declared.event.Event.TheVariants as event
 use Rattle.act_early.proofs.Worlds.{step_keeps, contains_push, either_of, or_second}
 use Rattle.act_early.proofs.Counting.{done_steps, done-push}
@@ -30,13 +30,9 @@ asked_stays a h (event.Retire b) e = e
 abbrev pub IsAskedOrDead : ℕ → History → Type 0
 IsAskedOrDead a h = (contains a h.asked || is_dead a h) ≡ true
 
-or_first : (x y : Bool) → x ≡ true → (x || y) ≡ true
-or_first true y e = refl
-or_first false y e = cc
-
 asked_or_dead_step : (a : ℕ) → IsKept (IsAskedOrDead a)
 asked_or_dead_step a h other held accepted = either_of (contains a h.asked) (is_dead a h) (IsAskedOrDead a (add_event h other)) held
-    (λ e. or_first (contains a (add_event h other).asked) (is_dead a (add_event h other)) (asked_stays a h other e))
+    (λ e. or_left (contains a (add_event h other).asked) (is_dead a (add_event h other)) (asked_stays a h other e))
     (λ e. or_second (contains a (add_event h other).asked) (is_dead a (add_event h other)) (dead_stays a h other accepted e))
 
 -- ---- each kill of a step that is done was asked, or its actor is dead
@@ -76,7 +72,7 @@ asks_all casts plans a at (Takes before c step play is may) d e =
     either_of (list_any (is_kill_of a) (done_steps plans d before)) (list_any (is_kill_of a) (cond (c == d) (step ∷ []) []))
     (IsAskedOrDead a (after_step c step before.history)) (sym (done_any plans c d a step before is) ∙ e)
     (λ old. step_keeps (IsAskedOrDead a) (asked_or_dead_step a) c step before.history (asks_all casts plans a before play d old) may)
-    (λ new. or_first (contains a (after_step c step before.history).asked) (is_dead a (after_step c step before.history))
+    (λ new. or_left (contains a (after_step c step before.history).asked) (is_dead a (after_step c step before.history))
     (step_asks c d a step before.history new))
 asks_all casts plans a at (Skips before c b play is named dead) d e =
     either_of (list_any (is_kill_of a) (done_steps plans d before)) (list_any (is_kill_of a) (cond (c == d) (Kill b ∷ []) []))
@@ -94,11 +90,11 @@ IsAskedBy plans a at = (c : ℕ) × (list_any (is_kill_of a) (done_steps plans c
 
 -- what a step asks, it says
 step_asked : (c a : ℕ) (step : Step) (h : History) → contains a (after_step c step h).asked ≡ true → (contains a h.asked || is_kill_of a step) ≡ true
-step_asked c a (Submit b method args) h e = or_first (contains a h.asked) false e
-step_asked c a (Copy b) h e = or_first (contains a h.asked) false e
-step_asked c a (Release b) h e = or_first (contains a h.asked) false e
+step_asked c a (Submit b method args) h e = or_left (contains a h.asked) false e
+step_asked c a (Copy b) h e = or_left (contains a h.asked) false e
+step_asked c a (Release b) h e = or_left (contains a h.asked) false e
 step_asked c a (Kill b) h e = sym (contains_push a b h.asked) ∙ e
-step_asked c a (Await k) h e = or_first (contains a h.asked) false e
+step_asked c a (Await k) h e = or_left (contains a h.asked) false e
 
 any_one : (same : Bool) (a : ℕ) (step : Step) → same ≡ true → is_kill_of a step ≡ true → list_any (is_kill_of a) (cond same (step ∷ []) []) ≡ true
 any_one true a step e is = rw is refl
@@ -108,7 +104,7 @@ asked_more : (plans : ℕ → List Step) (c a : ℕ) (step : Step) (at : At) →
     → IsAskedBy plans a (taken c step at)
 asked_more plans c a step at is by = (
   by.0,
-  done_any plans c by.0 a step at is ∙ or_first (list_any (is_kill_of a) (done_steps plans by.0 at))
+  done_any plans c by.0 a step at is ∙ or_left (list_any (is_kill_of a) (done_steps plans by.0 at))
       (list_any (is_kill_of a) (cond (c == by.0) (step ∷ []) [])) by.1,
 )
 

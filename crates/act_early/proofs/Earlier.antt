@@ -1,7 +1,7 @@
 -- What stays while a play goes on.
-use Rattle.act_early.proofs.Common.{◌≡◌, ℕ, Bool, true, false, List, None, refl, ◌∙◌, subst, ◌||◌, Event, Step, Submit, Copy, Release, Kill, Await, History}
+use Rattle.act_early.proofs.Common.{◌≡◌, ℕ, true, List, None, refl, ◌∙◌, subst, Event, Step, Submit, Copy, Release, Kill, Await, History}
 use Rattle.act_early.proofs.Common.{contains, runs_of, kept_of, is_dead, is_retired, refusal_of, add_event, IsPrefix, whole_front, front_trans, added_grows}
-use Rattle.act_early.proofs.Common.{runs_grow, contains_more, ended_stays, dead_stays, Extends, kept_extends, IsSound, after_step, MayTake}
+use Rattle.act_early.proofs.Common.{runs_grow, contains_more, ended_stays, dead_stays, Extends, kept_extends, IsSound, after_step, MayTake, or_left}
 use Rattle.act_rules.specs.declared.event.Event.TheVariants as event
 
 pub record IsEarlier (h g : History) : Type 0 where
@@ -32,10 +32,6 @@ earlier_trans f g h one two = record {
   last = λ a e. two.last a (one.dead a e) ∙ one.last a e;
 }
 
-or_one : (x y : Bool) → x ≡ true → (x || y) ≡ true
-or_one true y e = refl
-or_one false y e = cc
-
 -- a sound history is earlier than the one that an accepted event makes of it
 pub earlier_event : (h : History) (other : Event) → IsSound h → refusal_of h other ≡ None → IsEarlier h (add_event h other)
 earlier_event h other sound accepted =
@@ -45,7 +41,7 @@ earlier_event h other sound accepted =
       kept = λ c. kept_extends c h (add_event h other) grows sound.posts;
       killed = λ a e. subst (λ (xs : List ℕ). contains a xs ≡ true) grows.killed.1 (contains_more a h.killed grows.killed.0 e);
       dead = λ a e. dead_stays a h other accepted e;
-      last = λ a e. (ended_stays a (runs_of a h) h other (record { ended = or_one (is_dead a h) (is_retired a h) e; same = refl }) accepted).same;
+      last = λ a e. (ended_stays a (runs_of a h) h other (record { ended = or_left (is_dead a h) (is_retired a h) e; same = refl }) accepted).same;
     }
 
 -- a sound history is earlier than the one after a step that the caller may take

@@ -1,6 +1,6 @@
 -- Lists of all callers and all actors, and going on for each of them.
 use Rattle.act_early.proofs.Common.{◌≡◌, ℕ, Bool, true, false, cond, List, [], ◌∷◌, ◌++◌, Some, refl, ◌∙◌, subst, ◌==◌, ◌||◌, map, find, AllByRecursion}
-use Rattle.act_early.proofs.Common.{list_any, eqb-true, list_any-append, Step, ActorSpec, contains, names, All_weaker, At, IsPlay}
+use Rattle.act_early.proofs.Common.{list_any, eqb-true, list_any-append, Step, ActorSpec, contains, names, All_weaker, At, IsPlay, or_left}
 use Rattle.act_early.proofs.Worlds.{or_second}
 
 -- ---- all callers and all actors
@@ -13,10 +13,6 @@ all_callers (cast ∷ casts) = cast.callers ++ all_callers casts
 -- the actors of all casts, in order
 abbrev pub all_actors : List ActorSpec → List ℕ
 all_actors casts = map (λ (cast : ActorSpec). cast.actor) casts
-
-or_first : (x y : Bool) → x ≡ true → (x || y) ≡ true
-or_first true y e = refl
-or_first false y e = cc
 
 -- whom a cast names is a caller, and listed
 pub caller_listed : (c : ℕ) (casts : List ActorSpec) → list_any (λ (cast : ActorSpec). contains c cast.callers) casts ≡ true
@@ -41,7 +37,7 @@ named_caller c a (cast ∷ casts) e = go (cast.actor == a) (named_caller c a cas
 
     go : (x : Bool) → Rest → names c (cond x (Some cast) (find (λ (cast : ActorSpec). cast.actor == a) casts)) ≡ true
         → (contains c cast.callers || list_any (λ (cast : ActorSpec). contains c cast.callers) casts) ≡ true
-    go true rest e = or_first (contains c cast.callers) (list_any (λ (cast : ActorSpec). contains c cast.callers) casts) e
+    go true rest e = or_left (contains c cast.callers) (list_any (λ (cast : ActorSpec). contains c cast.callers) casts) e
     go false rest e = or_second (contains c cast.callers) (list_any (λ (cast : ActorSpec). contains c cast.callers) casts) (rest e)
 
 pub actor_listed : (c a : ℕ) (casts : List ActorSpec) → names c (find (λ (cast : ActorSpec). cast.actor == a) casts) ≡ true

@@ -1,7 +1,7 @@
 -- Where a quiescent play ends as an ended one did, its actors can retire.
 use Rattle.act_early.proofs.Common.{◌≡◌, ℕ, Bool, true, false, cond, List, [], ◌∷◌, ◌++◌, Option, Some, None, refl, ap, sym, ◌∙◌, subst, ◌==◌, ◌||◌, find}
 use Rattle.act_early.proofs.Common.{slice_get, is_some, AllByRecursion, eqb-true, eq-eqb, Submission, Step, Answer, kept_at, ActorSpec, contains, cast_of}
-use Rattle.act_early.proofs.Common.{is_dead, is_retired, is_ended, refusal_of, At, IsPlay, Happens, IsQuiescent, IsEnded, EndsAlike, IsSameEnd}
+use Rattle.act_early.proofs.Common.{is_dead, is_retired, is_ended, refusal_of, At, IsPlay, Happens, IsQuiescent, IsEnded, EndsAlike, IsSameEnd, or_left}
 use Rattle.act_rules.specs.declared.event.Event.TheVariants as event
 use Rattle.act_early.proofs.Worlds.{IsWorld, world, contains_push, either_of, or_second, not_dead, retire_needs}
 use Rattle.act_early.proofs.Listed.{all_actors, all_listed}
@@ -17,10 +17,6 @@ record HasRetired (specs : List ActorSpec) (plans : ℕ → List Step) (early la
   only : (a : ℕ) → contains a now ≡ true → is_retired a late.history ≡ true
   stay : (a : ℕ) → contains a before ≡ true → contains a now ≡ true
   all : AllByRecursion (λ a. is_retired a late.history ≡ true → contains a now ≡ true) xs
-
-first_or : (x y : Bool) → x ≡ true → (x || y) ≡ true
-first_or true y e = refl
-first_or false y e = cc
 
 -- one actor more
 retire_one : (specs : List ActorSpec) (plans : ℕ → List Step) (early late : At) (x : ℕ) (before : List ℕ) → EndsAlike plans early late.history
@@ -41,7 +37,7 @@ retire_one specs plans early late x before ends play only = go (is_retired x lat
           play = Happens (with_retired early before) (event.Retire x) play refl may;
           only = λ a e. either_of (contains a before) (x == a) (is_retired a late.history ≡ true) (sym (contains_push a x before) ∙ e) (only a)
               (λ same. subst (λ (y : ℕ). is_retired y late.history ≡ true) (eqb-true x a same) is);
-          stay = λ a e. contains_push a x before ∙ first_or (contains a before) (x == a) e;
+          stay = λ a e. contains_push a x before ∙ or_left (contains a before) (x == a) e;
           all = ((λ _. contains_push x x before ∙ or_second (contains x before) (x == x) (eq-eqb x x refl)), tt);
         }
 

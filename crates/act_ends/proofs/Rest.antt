@@ -24,10 +24,6 @@ use Rattle.act_ends.specs.Rest.{IsResting}
 pub rest_none : (h : History) (a : ℕ) → cast_of a h ≡ None → is_some (cast_of a h) ≡ true → is_ended a h ≡ true
 rest_none h a none there = let bad : false ≡ true = sym (ap (λ (cast : Option ActorSpec). is_some cast) none) ∙ there in cc
 
-pub first_or : (x y : Bool) → x ≡ true → (x || y) ≡ true
-first_or true y e = refl
-first_or false y e = cc
-
 -- before an actor more, where that one ended
 pub rest_still : (casts : List ActorSpec) (h : History) (n a : ℕ) (world : WorldView) → a ≡ n + 1
     → ((events : List Event) → IsReachedBy casts events world → is_some (cast_of a (history casts events)) ≡ true → is_ended a (history casts events) ≡ true)

@@ -63,7 +63,7 @@ pub use Rattle.std.proofs.Common.{is_some, length, length-append, map, nat_le, n
 pub use Rattle.std.proofs.Common.{true, zero, ℕ, ◌&&◌, ◌++◌, ◌+◌, ◌-◌, ◌<◌, ◌==◌, ◌||◌, ◌∙◌, ◌∷◌, ◌≡◌, ◌≢◌, ◌≤◌, ◌⊎◌}
 pub use Rattle.std.proofs.Math.Seq.{take-length}
 pub use Rattle.std.proofs.lemmas.Bool.{and_from, and_parts, cases_lt, eq-eqb, eqb-true, false_from_ne_true, le-leb, leb-true, lt-ltb, ltb-true, ne_eqb}
-pub use Rattle.std.proofs.lemmas.Bool.{not-true}
+pub use Rattle.std.proofs.lemmas.Bool.{not-true, or_left}
 pub use Rattle.std.proofs.lemmas.Bool.Decides.{eqb_tells}
 pub use Rattle.std.proofs.lemmas.List.{append-nil, get_or_past, length-map, map-append}
 pub use Rattle.std.proofs.lemmas.List.Elements.{filter-append, filter_map-append}

@@ -1,9 +1,9 @@
 -- Actors that retire at the end of a play.
 use Rattle.act_plan_plays.proofs.Common.{◌≡◌, ℕ, ◌+◌, ◌≤◌, Bool, true, false, List, [], ◌∷◌, ◌++◌, Option, Some, None, refl, ap, sym, ◌∙◌, subst, leb, arith}
-use Rattle.act_plan_plays.proofs.Common.{◌==◌, ◌||◌, slice_get, is_some, option_map_or, eq-eqb, leb-true, leb-false, Event, Retire, Step, ActorSpec, History}
+use Rattle.act_plan_plays.proofs.Common.{◌==◌, slice_get, is_some, option_map_or, eq-eqb, leb-true, leb-false, Event, Retire, Step, ActorSpec, History}
 use Rattle.act_plan_plays.proofs.Common.{contains, cast_of, runs_of, is_dead, is_retired, is_ended, refusal_of, add_event, ended_stays, SlotView, Runs, Died}
 use Rattle.act_plan_plays.proofs.Common.{Ended, Vacant, WorldView, stage_of_slot, is_live_slot, Refines, IsStage, At, with_event, Happens, contains_push}
-use Rattle.act_plan_plays.proofs.Common.{or_second, Parts, IsBehind, Stands, shows_live, AllOver, GoesOnRetired, IsRetiredFrom}
+use Rattle.act_plan_plays.proofs.Common.{or_second, Parts, IsBehind, Stands, shows_live, AllOver, GoesOnRetired, IsRetiredFrom, or_left}
 
 pub begins : (casts : List ActorSpec) (plans : ℕ → List Step) (at : At) (parts : Parts) → Stands casts plans at parts → IsRetiredFrom casts plans at at parts.world parts.events
 begins casts plans at parts s = record {
@@ -42,15 +42,11 @@ retired_more casts plans at end a n old new events more r same may behind = subs
   stays = λ b ended. (ended_stays b (runs_of b end.history) end.history (Retire a) (record { ended = ended; same = refl }) may).ended;
 })
 
-or_one : (x y : Bool) → x ≡ true → (x || y) ≡ true
-or_one true y e = refl
-or_one false y e = cc
-
 over_slot : (h : History) (a : ℕ) (o : Option SlotView) → IsStage h a o → is_some (cast_of a h) ≡ true → option_map_or is_live_slot (stage_of_slot o) false ≡ false → is_ended a h ≡ true
 over_slot h a None is some e = let bad : true ≡ false = sym some ∙ ap (λ (o : Option ActorSpec). is_some o) is in cc
 over_slot h a (Some Vacant) is some e = let bad : true ≡ false = sym some ∙ ap (λ (o : Option ActorSpec). is_some o) is in cc
 over_slot h a (Some (Runs one)) is some e = cc
-over_slot h a (Some (Died dead)) is some e = or_one (is_dead a h) (is_retired a h) is.died
+over_slot h a (Some (Died dead)) is some e = or_left (is_dead a h) (is_retired a h) is.died
 over_slot h a (Some (Ended retired)) is some e = or_second (is_dead a h) (is_retired a h) is.ended
 
 pub retired_before : (casts : List ActorSpec) (plans : ℕ → List Step) (at end : At) (a n : ℕ) (world : WorldView) (events : List Event) → IsRetiredFrom casts plans at end world events → a ≡ n
