@@ -14,6 +14,7 @@ use Rattle.act_console.specs.Plans.{steps_of_caller}
 use Rattle.act_walks.specs.declared.told.ToldEnd.{ToldEnd}
 use Rattle.act_walks.specs.Fits.{bound_of}
 use Rattle.act_walks.specs.Whole.{Decides, DoesAllSteps}
+use Rattle.act_walks.proofs.Calls.{bound_is}
 use Rattle.act_decisions.specs.Decided.{EndsNowhere, IsBadStep, IsBadIn, Refutes}
 use Rattle.act_decisions.specs.Fits.{AllFitSteps}
 use Rattle.act_decisions.specs.Placed.{RunsArePlaced, AllDecided, NoValueIsLost}
@@ -21,7 +22,6 @@ use Rattle.act_decisions.specs.Play.{EndsSo, awaits}
 use Rattle.act_decisions.specs.Read.{FollowsTold, HasGoodPlans, IsLined, IsRead, Matches}
 use Rattle.act_decisions.proofs.Refuted.{none_misplaced, some_told, walks_decide}
 use Rattle.act_decisions.proofs.RolesFit.{fits_casts}
-use Rattle.act_decisions.proofs.SaidCalls.{bound_is}
 use Rattle.act_decisions.proofs.SaidEnds.{binds}
 
 -- ---- the steps that a caller is bound to

@@ -25,6 +25,7 @@ use Rattle.act_walks.specs.declared.told.ToldCaller.{ToldCaller}
 use Rattle.act_walks.specs.declared.told.ToldEnd.{ToldEnd}
 use Rattle.act_walks.specs.Eager.{SomeEnd}
 use Rattle.act_walks.specs.Fits.{caller_in, calls_in, bound_of, actor_in, callers_of, submission_of_call, Fits}
+use Rattle.act_walks.proofs.Calls.{calls_are as of_caller}
 use Rattle.act_decisions.specs.Agreed.{ran_told, kept_told, call_told, calls_told, of_role, ends_told, end_told}
 use Rattle.act_decisions.specs.Fits.{FitsSteps}
 use Rattle.act_decisions.specs.LeftBy.{IsLeftBy}
@@ -35,7 +36,7 @@ use Rattle.act_decisions.proofs.NotThere.{not_misplaced}
 use Rattle.act_decisions.proofs.Chosen.{chosen_at, chosen_past, is_death, wants_reply, reply_there}
 use Rattle.act_decisions.proofs.LeftBy.{left_by, actor_told, calls_left}
 use Rattle.act_decisions.proofs.LeftOpen.{left_open}
-use Rattle.act_decisions.proofs.SaidCalls.{data_calls, of_caller}
+use Rattle.act_decisions.proofs.SaidCalls.{data_calls}
 use Rattle.act_decisions.proofs.SaidAnswers.{kept_may_stand, both_true, is_wanted}
 use Rattle.act_decisions.proofs.SaidEnds.{as_told, said, kept_said, some_end}
 

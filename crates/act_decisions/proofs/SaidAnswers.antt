@@ -27,12 +27,13 @@ use Rattle.act_walks.specs.declared.told.ToldCall.{ToldCall}
 use Rattle.act_walks.specs.declared.told.ToldCaller.{ToldCaller}
 use Rattle.act_walks.specs.declared.told.ToldEnd.{ToldEnd}
 use Rattle.act_walks.specs.Fits.{caller_in, calls_in, is_dead_in}
+use Rattle.act_walks.proofs.Calls.{calls_are as of_caller}
 use Rattle.act_decisions.specs.Play.{HasCalls}
 use Rattle.act_decisions.specs.Fits.{AllFitSteps}
 use Rattle.act_decisions.specs.Placed.{IsCallIn, RunsArePlaced, StandsThere, IsDecided, AllDecided, NoValueIsLost, TookFailure, answer_told}
 use Rattle.act_decisions.specs.LeftBy.{IsLeftBy}
 use Rattle.act_decisions.proofs.SaidRuns.{item_of_said, said_of_item, said_answer}
-use Rattle.act_decisions.proofs.SaidCalls.{data_calls, of_caller, ran_item}
+use Rattle.act_decisions.proofs.SaidCalls.{data_calls, ran_item}
 use Rattle.act_decisions.proofs.Chosen.{wants_reply, is_death, reply_there, chosen, chosen_all, chosen_length, chosen_at, chosen_past}
 
 -- ---- lists

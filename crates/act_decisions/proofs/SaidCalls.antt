@@ -7,7 +7,8 @@ use Rattle.act_told_ends.specs.Untold.{arg_as_run, IsAsRun, Ran, StandFor, MaySt
 use Rattle.act_walks.specs.declared.told.ToldCall.{ToldCall}
 use Rattle.act_walks.specs.declared.told.ToldCaller.{ToldCaller}
 use Rattle.act_walks.specs.declared.told.ToldEnd.{ToldEnd}
-use Rattle.act_walks.specs.Fits.{caller_in, calls_in, bound_of, steps_in, call_of_item, submission_of_call}
+use Rattle.act_walks.specs.Fits.{caller_in, calls_in, bound_of, call_of_item, submission_of_call}
+use Rattle.act_walks.proofs.Calls.{bound_is, calls_are as of_caller}
 use Rattle.act_rules.proofs.Unique.{map-slice_get}
 use Rattle.act_decisions.specs.Play.{calls_of_steps, HasCalls, awaits}
 use Rattle.act_console.specs.Plans.{steps_of_caller}
@@ -21,12 +22,6 @@ use Rattle.act_decisions.proofs.SaidRuns.{same_call, item_of_said, said_of_item}
 -- the calls that the data tells
 abbrev pub data_calls : ToldEnd → ℕ → List Submission
 data_calls end c = map submission_of_call (calls_in end c)
-
-pub of_caller : (end : ToldEnd) (c : ℕ) (caller : ToldCaller) → caller_in end c ≡ Some caller → calls_in end c ≡ caller.calls.items
-of_caller end c caller e = rw e refl
-
-pub bound_is : (end : ToldEnd) (c : ℕ) (caller : ToldCaller) → caller_in end c ≡ Some caller → bound_of end c ≡ steps_in caller
-bound_is end c caller e = rw e refl
 
 -- a call of the data, and what is submitted by it
 pub call_there : (end : ToldEnd) (c k : ℕ) (sub : Submission) → slice_get (data_calls end c) k ≡ Some sub

@@ -11,13 +11,14 @@ use Rattle.act_told_ends.proofs.Standing.{may_stand}
 use Rattle.act_told_ends.proofs.LeftOpenAll.{may_be_replies}
 use Rattle.act_walks.specs.declared.told.ToldEnd.{ToldEnd}
 use Rattle.act_walks.specs.Fits.{calls_in, bound_of, Fits}
+use Rattle.act_walks.proofs.Calls.{bound_is}
 use Rattle.act_decisions.specs.Play.{HasCalls, awaits, DoesSteps}
 use Rattle.act_console.specs.Plans.{steps_of_caller}
 use Rattle.act_decisions.specs.Fits.{AllFitSteps, binding}
 use Rattle.act_decisions.specs.Placed.{RunsArePlaced, AllDecided, NoValueIsLost}
 use Rattle.act_decisions.specs.LeftBy.{IsLeftBy}
 use Rattle.act_decisions.specs.Within.{IsOfNumbers}
-use Rattle.act_decisions.proofs.SaidCalls.{data_calls, calls_may_stand, bound_is}
+use Rattle.act_decisions.proofs.SaidCalls.{data_calls, calls_may_stand}
 use Rattle.act_decisions.proofs.SaidAnswers.{data_kept, kept_may_stand}
 use Rattle.act_decisions.proofs.SaidFits.{fits_told}
 

@@ -6,12 +6,13 @@ use Rattle.act_rules.proofs.Kept.{kept_at_is, kept_by}
 use Rattle.act_rules.proofs.KindFaults.{answer_alive}
 use Rattle.act_rules.proofs.Sound.{answers_are}
 use Rattle.act_rules.specs.History.{answer_of}
-use Rattle.act_early.proofs.Replies.{reply_alive, reply_died, reply_some}
+use Rattle.act_early.proofs.Replies.{reply_alive, reply_some}
 use Rattle.std.proofs.lemmas.Option.{slice_get-map}
 use Rattle.std.specs.Option.{option_map_or}
 use Rattle.act_told_ends.specs.Told.{told_of}
 use Rattle.act_told_ends.specs.Untold.{with_calls}
 use Rattle.act_told_ends.specs.LeftOpen.{with_kept}
+use Rattle.act_told_ends.proofs.Posted.{is_alive}
 use Rattle.act_walks.specs.declared.told.Left.{Left}
 use Rattle.act_walks.specs.declared.told.Left.TheVariants as left
 use Rattle.act_walks.specs.declared.told.ToldCall.{ToldCall}
@@ -28,14 +29,6 @@ use Rattle.act_decisions.proofs.Chosen.{wants_reply, is_death, reply_there, chos
 use Rattle.act_decisions.proofs.SaidAnswers.{data_kept, decides, gave, not_failed, told_is}
 
 -- ---- answers
-
--- which is no death is a reply
-is_alive : (answer : Answer) → answer ≢ Err ActorDied → is_reply (Some answer) ≡ true
-is_alive answer alive = go (is_reply (Some answer)) refl
-  where
-    go : (b : Bool) → is_reply (Some answer) ≡ b → is_reply (Some answer) ≡ true
-    go true e = e
-    go false e = absurd (alive (reply_died answer e))
 
 no_death : (o : Option Answer) → is_some o ≡ true → is_death o ≡ false → is_reply o ≡ true
 no_death None some e = cc

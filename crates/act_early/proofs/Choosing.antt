@@ -150,7 +150,8 @@ lost_play specs plans a c p item begun may e =
       ((λ b. lost_more a b c p.history q.history item r), λ b. ap (contains b) r.killed),
     )
 
-cast_known : (o : Option ActorSpec) (c : ℕ) → names c o ≡ true → is_some o ≡ true
+-- a cast that names a caller is there
+pub cast_known : (o : Option ActorSpec) (c : ℕ) → names c o ≡ true → is_some o ≡ true
 cast_known None c e = cc
 cast_known (Some cast) c e = refl
 

@@ -42,7 +42,8 @@ length-enumerate_from : {A : Type 0} (n : ℕ) (xs : List A) → length (enumera
 length-enumerate_from n [] = refl
 length-enumerate_from n (x ∷ xs) = ap suc (length-enumerate_from (n + 1) xs)
 
-kept_size : (c : ℕ) (h : History) → length (kept_of c h) ≡ length (calls_of c h)
+-- each call has a place in the table of answers
+pub kept_size : (c : ℕ) (h : History) → length (kept_of c h) ≡ length (calls_of c h)
 kept_size c h = length-map (enumerate_from 0 (calls_of c h)) (first_answer h c) ∙ length-enumerate_from 0 (calls_of c h)
 
 -- where a caller made the same calls in two histories, its lists of kept answers are of one length

@@ -3,7 +3,7 @@ use Rattle.act_early.proofs.Common.{◌≡◌, ℕ, ◌+◌, true, List, length,
 use Rattle.act_early.proofs.Common.{option_map, list_all, eq-eqb, slice_get-map, take-append_seam, RunItem, Submission, items_of, calls_to, is_known, settle}
 use Rattle.act_early.proofs.Common.{IsPrefix, IsAsSubmitted, History, runs_of, calls_of, kept_of, ran_count, run_item, next_item, slice_get_front}
 use Rattle.act_early.proofs.Common.{slice_get-filter, slice_get-enumerate_from, All_at, calls_to_grow, Extends, arguments_stay, IsSoundLetter, has_letter-sound}
-use Rattle.act_early.proofs.Common.{IsNext, next_item_is, numbered, numbers, calls_to-at, IsSound, consistent}
+use Rattle.act_early.proofs.Common.{IsNext, next_item_is, numbered, numbers, calls_to-at, IsSound, consistent, same_Some}
 use Rattle.act_rules.specs.declared.history.Letter.TheVariants.{Call as CallLetter}
 
 -- the call that runs next, with arguments that are known
@@ -27,7 +27,8 @@ ready a c h item sound e = record { next = next; known = subst (λ (call : ℕ �
 item_same : (x y : RunItem) → x.caller ≡ y.caller → x.number ≡ y.number → x.future ≡ y.future → x.method ≡ y.method → x.args ≡ y.args → x ≡ y
 item_same x y c n f m s = λ i. record { caller = c i; number = n i; future = f i; method = m i; args = s i }
 
-take-front : {A : Type 0} (xs ys : List A) → IsPrefix xs ys → take (length xs) ys ≡ xs
+-- the first items of a list are its prefix of that length
+pub take-front : {A : Type 0} (xs ys : List A) → IsPrefix xs ys → take (length xs) ys ≡ xs
 take-front {A = A} xs ys f = sym (ap (λ (l : List A). take (length xs) l) f.1) ∙ take-append_seam xs f.0
 
 -- the number and the future of the item that stands behind those of the play
@@ -57,9 +58,6 @@ runs_next a c play early call front at =
     let zero_add : 0 + n ≡ n = omega arith in
     slice_get-enumerate_from 0 (map (λ (call : ℕ × Submission). call.0) (calls_to a (calls_of c early))) n ∙ rw (first, zero_add) refl
 
-some_same : {A : Type 0} (x y : A) → Some x ≡ Some y → x ≡ y
-some_same x y e = cc
-
 -- where the early play has the play's runs, and a caller's calls and answers, this caller's next run is the ready one
 pub same_item : (a c : ℕ) (play early : History) (item other : RunItem) → IsSound early → IsReady a c play item → IsPrefix (runs_of a play) (runs_of a early)
     → IsPrefix (calls_of c play) (calls_of c early) → Extends (kept_of c play) (kept_of c early)
@@ -77,7 +75,7 @@ same_item a c play early item other sound is runs calls extends at caller =
     both = sym (stands_next a c play early other sound runs at caller) ∙ runs_next a c play early call calls is.next.at
 
     pair : ◌≡◌ {A = ℕ × ℕ} (numbered other) (n, call.0)
-    pair = some_same (numbered other) (n, call.0) both
+    pair = same_Some (numbered other) (n, call.0) both
 
     number : other.number ≡ n
     number = ap (λ (p : ℕ × ℕ). p.0) pair

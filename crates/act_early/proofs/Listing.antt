@@ -191,7 +191,8 @@ whole specs plans before p play is left =
 
 -- ---- one event after another
 
-accepted_none : (h : History) (other : Event) → IsOk (outcome_of h other) → refusal_of h other ≡ None
+-- an event that is taken is not refused
+pub accepted_none : (h : History) (other : Event) → IsOk (outcome_of h other) → refusal_of h other ≡ None
 accepted_none h other ok = go (refusal_of h other) ok
   where
     go : (o : Option WorldRefusal) → IsOk (outcome_by h other o) → o ≡ None

@@ -133,7 +133,8 @@ notes_sent_step h other held accepted c a f = go (copies_of c a h) refl
         (has_front (NoteLetter c a (length (calls_to a (calls_of c h)))) h.mail g.mail (added_grows h other).mail (held c a e))
     go (Some (suc n)) e = sends_last h other c a n e f
 
-opened_none : (x : Bool) (P : Type 0) → cond x (Some ((1 + 0) - 0)) None ≡ Some 0 → P
+-- one copy that is opened is not none
+pub opened_none : (x : Bool) (P : Type 0) → cond x (Some ((1 + 0) - 0)) None ≡ Some 0 → P
 opened_none true P e = cc
 opened_none false P e = cc
 

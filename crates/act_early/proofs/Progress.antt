@@ -120,7 +120,8 @@ pub record Follows (plans : ℕ → List Step) (c : ℕ) (at : At) : Type 0 wher
   pub released : (a : ℕ) (step : Step) → next_step plans c at ≡ Some step
       → count_pairs c a at.history.released ≡ length (filter (is_release_of a) (done_steps plans c at))
 
-counted : (p : Step → Bool) (before more all : List Step) (n : ℕ) → n ≡ length (filter p before) → all ≡ before ++ more
+-- steps of a kind, counted in a front and in the rest, are those of all
+pub counted : (p : Step → Bool) (before more all : List Step) (n : ℕ) → n ≡ length (filter p before) → all ≡ before ++ more
     → n + length (filter p more) ≡ length (filter p all)
 counted p before more all n e is = rw (is, filter-append p before more, length-append, e) refl
 

@@ -2,6 +2,7 @@
 use Rattle.act_early.proofs.Common.{◌≡◌, ℕ, Bool, true, false, cond, List, [], ◌∷◌, ◌++◌, Option, Some, None, refl, ap, sym, ◌∙◌, subst, ◌==◌, ◌||◌, find}
 use Rattle.act_early.proofs.Common.{slice_get, is_some, AllByRecursion, eqb-true, eq-eqb, Submission, Step, Answer, kept_at, ActorSpec, contains, cast_of}
 use Rattle.act_early.proofs.Common.{is_dead, is_retired, is_ended, refusal_of, At, IsPlay, Happens, IsQuiescent, IsEnded, EndsAlike, IsSameEnd, or_left}
+use Rattle.act_early.proofs.Common.{both_ways}
 use Rattle.act_rules.specs.declared.event.Event.TheVariants as event
 use Rattle.act_early.proofs.Worlds.{IsWorld, world, contains_push, either_of, or_second, not_dead, retire_needs}
 use Rattle.act_early.proofs.Listed.{all_actors, all_listed}
@@ -57,7 +58,7 @@ retire_all specs plans early late (x ∷ xs) before ends play only =
     }
 
 -- an actor with a cast is listed
-cast_listed : (a : ℕ) (casts : List ActorSpec) → is_some (find (λ (cast : ActorSpec). cast.actor == a) casts) ≡ true → contains a (all_actors casts) ≡ true
+pub cast_listed : (a : ℕ) (casts : List ActorSpec) → is_some (find (λ (cast : ActorSpec). cast.actor == a) casts) ≡ true → contains a (all_actors casts) ≡ true
 cast_listed a [] e = cc
 cast_listed a (cast ∷ casts) e = go (cast.actor == a) (cast_listed a casts) e
   where
@@ -68,11 +69,6 @@ cast_listed a (cast ∷ casts) e = go (cast.actor == a) (cast_listed a casts) e
         → (x || contains a (all_actors casts)) ≡ true
     go true rest e = refl
     go false rest e = rest e
-
-same_truth : (x y : Bool) → (x ≡ true → y ≡ true) → (y ≡ true → x ≡ true) → x ≡ y
-same_truth true y f g = sym (f refl)
-same_truth false true f g = g refl
-same_truth false false f g = refl
 
 -- where a quiescent play ends as an ended one did, there is an ended play with just that end, who retired included
 pub retired_play : (casts : List ActorSpec) (plans : ℕ → List Step) (early late : At) → IsPlay casts plans early → IsQuiescent plans early
@@ -102,7 +98,7 @@ retired_play casts plans early late play quiescent goes ended ends = (end, done.
       kept = ends.kept;
       runs = ends.runs;
       dead = ends.dead;
-      retired = λ a. same_truth (contains a done.now) (is_retired a late.history) (done.only a)
+      retired = λ a. both_ways (contains a done.now) (is_retired a late.history) (done.only a)
           (λ yes. all_listed (λ a. is_retired a late.history ≡ true → contains a done.now ≡ true) (all_actors casts) a done.all (listed a yes) yes);
     }
 

@@ -149,7 +149,8 @@ pub record IsWorld (specs : List ActorSpec) (h : History) : Type 0 where
   pub live : RetiredLive h
   pub cast : RetiredCast h
 
-world_step : (casts : List ActorSpec) → IsKept (IsWorld casts)
+-- what holds of a world holds after an event that it takes
+pub world_step : (casts : List ActorSpec) → IsKept (IsWorld casts)
 world_step casts h other w accepted = record {
   sound = sound_step h other w.sound accepted;
   retires = retires_step h other w.retires accepted;

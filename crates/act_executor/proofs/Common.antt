@@ -155,6 +155,7 @@ pub use Rattle.std.proofs.lemmas.Map.Keys.{any_passes_from_place}
 pub use Rattle.std.proofs.lemmas.Option.{get_or_from_slice_get, slice_get-get_or, slice_get-map, slice_get_read, slice_get_within}
 pub use Rattle.std.proofs.lemmas.Result.{IfOk-weaker}
 pub use Rattle.std.proofs.lemmas.Simd.{map-map}
+pub use Rattle.std.specs.Cmp.{both_ways}
 pub use Rattle.std.specs.Global.{Global, Vec}
 pub use Rattle.std.specs.List.{AllByRecursion, AllZip, cons_option, enumerate_from, list_all, list_any, range_with_len}
 pub use Rattle.std.specs.Option.{option_or}

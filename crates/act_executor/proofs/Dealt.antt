@@ -5,10 +5,10 @@ use Rattle.act_executor.proofs.Common.{All-contains, slice_get_within, get_or_fr
 use Rattle.act_executor.proofs.Common.{Cast, PutterView, new_putter, MailView, ControlView, starter, RepliesView, ReplyExecView, new_exec, IsNoDeath, Letter}
 use Rattle.act_executor.proofs.Common.{Asked, Endpoint, ExecPasses, caller_at, endpoint_callers, IsAtItsEndpoint, EndpointsDiffer, CallerPasses}
 use Rattle.act_executor.proofs.Common.{IsFreshEndpoint, AreDistinct, IsKillEndpoint, AreKillEndpoints, CallerSetup, AreMatched, Opened, group_of}
-use Rattle.act_executor.proofs.Common.{endpoints_from, IsExec, IsCaller, ArePaired, AreLines, AreAtLines, AreOpened}
+use Rattle.act_executor.proofs.Common.{endpoints_from, IsExec, IsCaller, ArePaired, AreLines, AreAtLines, AreOpened, both_ways}
 use Rattle.act_executor.proofs.Cuts.{contains_map}
 use Rattle.act_executor.proofs.Endpoints.{each_of, has_of, rising_of}
-use Rattle.act_executor.proofs.Places.{at_both, at_other, as_long, each_at, all_at, map_apart, pairs_weaker, apart_at, has_contains, contains_name, all_names, both_or_neither, only_cast}
+use Rattle.act_executor.proofs.Places.{at_both, at_other, as_long, each_at, all_at, map_apart, pairs_weaker, apart_at, has_contains, contains_name, all_names, only_cast}
 
 abbrev line_of_mail : MailView → TableId
 line_of_mail mail = mail.line
@@ -85,7 +85,7 @@ module _ {K : Type 0} (casts : List (Cast K)) (setups : List CallerSetup) (match
   has_notice i j cast setup r at there line named = has_of new_exec (λ (pass : ReplyExecView). pass.actor) (λ line c. refl) line_of_replies actors_of replies setups matched.own_differ cast.actor i r setup line there (knows i j cast setup at there ∙ named)
 
   its_callers : (j : ℕ) (cast : Cast K) → slice_get casts j ≡ Some cast → (c : ℕ) → contains c (endpoint_callers replies (notices_of setups replies cast.actor)) ≡ contains c cast.callers
-  its_callers j cast at c = both_or_neither (contains c (endpoint_callers replies (notices_of setups replies cast.actor))) (contains c cast.callers) there back
+  its_callers j cast at c = both_ways (contains c (endpoint_callers replies (notices_of setups replies cast.actor))) (contains c cast.callers) there back
     where
       caller_of_endpoint : Endpoint ReplyExecView → ℕ
       caller_of_endpoint endpoint = caller_at replies endpoint.place

@@ -89,11 +89,6 @@ module _ {X : Type 0} (f : X → ℕ) where
       go (inl is) rest = subst P (eqb-true (f x) c is) (All-head (λ y. P (f y)) x xs all)
       go (inr more) rest = rest more
 
-pub both_or_neither : (a b : Bool) → (a ≡ true → b ≡ true) → (b ≡ true → a ≡ true) → a ≡ b
-both_or_neither true b there back = sym (there refl)
-both_or_neither false true there back = back refl
-both_or_neither false false there back = refl
-
 module _ {K : Type 0} (p : Cast K → Bool) where
   nowhere : (a : ℕ) (casts : List (Cast K)) → All (λ cast. a ≢ cast.actor) casts → list_any (λ cast. (cast.actor == a) && p cast) casts ≡ false
   nowhere a [] all = refl

@@ -1,7 +1,8 @@
 -- What the steps of a kind keep, of every actor of a world and of a joined run.
 use Rattle.std.proofs.Common.{◌≡◌, ℕ, List, [], ◌∷◌, Option, Some, None, refl, ap, sym, ◌∙◌, find}
-use Rattle.std.specs.Prelude.{◌==◌, option_map, unwrap_or}
+use Rattle.std.specs.Prelude.{◌==◌, option_map}
 use Rattle.std.proofs.lemmas.Bool.{eqb-true}
+use Rattle.std.proofs.lemmas.Option.{same_Some}
 use Rattle.act_types.specs.KindState.{KindState, OwnAt}
 use Rattle.act_types.specs.Own.{Ask, StepOf, behaves}
 use Rattle.act_rules.specs.declared.event.Event.{Event}
@@ -36,9 +37,6 @@ all_casts h (event ∷ events) = all_casts (after h event) events ∙ after_cast
 cast_is_opening : (casts : List ActorSpec) (events : List Event) (a : ℕ) → cast_of a (history casts events) ≡ cast_of a (opening casts)
 cast_is_opening casts events a = ap (λ (all : List ActorSpec). find (λ (cast : ActorSpec). cast.actor == a) all) (all_casts (opening casts) events)
 
-some_same : {A : Type 0} (x y : A) → Some x ≡ Some y → x ≡ y
-some_same {A = A} x y e = ap (λ (o : Option A). unwrap_or o x) e
-
 module _ {S : Type 0} (step : StepOf S) (written : S → List ℕ) (holds : List (Ask × Answer) → S → Type 0) (kept : IsKept step holds) (start : S) (at_first : holds [] start) where
   abbrev opened : KindState
   opened = OwnAt (behaves step written start)
@@ -51,7 +49,7 @@ module _ {S : Type 0} (step : StepOf S) (written : S → List ℕ) (holds : List
       let one : Left step written holds opened log = left log in
       record {
         state = one.state;
-        is = state ∙ ap (λ (from : KindState). state_after from log) (some_same cast.opening opened opens) ∙ one.left;
+        is = state ∙ ap (λ (from : KindState). state_after from log) (same_Some cast.opening opened opens) ∙ one.left;
         kept = one.kept;
       }
 

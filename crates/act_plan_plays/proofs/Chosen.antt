@@ -4,10 +4,9 @@ use Rattle.act_plan_plays.proofs.Common.{find, filter, slice_get, is_some, optio
 use Rattle.act_plan_plays.proofs.Common.{contains, names, cast_of, actors_naming, is_ended, is_dead, is_retired, next_item, refusal_of, run_needs, item_of}
 use Rattle.act_plan_plays.proofs.Common.{CallerSetup, SlotView, Runs, Died, Ended, Vacant, WorldView, stage_of_slot, is_live_slot, has_next_in_slot, Refines}
 use Rattle.act_plan_plays.proofs.Common.{IsStage, next_is, item_is, At, world, take_needs, or_second, Choice, Run, Parts, Stands, HoldPlans, shows_live}
-use Rattle.act_plan_plays.proofs.Common.{shows_next, AllRuns, or_left}
+use Rattle.act_plan_plays.proofs.Common.{shows_next, AllRuns, or_left, cast_known}
 use Rattle.act_rules.specs.declared.event.Event.TheVariants as event
 use Rattle.act_plan_plays.proofs.Done.{named_listed}
-use Rattle.act_plan_plays.proofs.Seen.{cast_some}
 use Rattle.act_plan_plays.proofs.Quiet.{part_of}
 
 -- ---- what the world shows
@@ -29,10 +28,11 @@ live_slot h a (Some (Runs one)) is some live = refl
 live_slot h a (Some (Died dead)) is some live = ended_by h a _ (or_left (is_dead a h) (is_retired a h) is.died) live
 live_slot h a (Some (Ended retired)) is some live = ended_by h a _ (or_second (is_dead a h) (is_retired a h) is.ended) live
 
-next_slot : (h : History) (a c : ℕ) (o : Option SlotView) → IsStage h a o → names c (cast_of a h) ≡ true → is_ended a h ≡ false → is_some (next_item a c h) ≡ true
+-- an actor that has not ended shows its next call
+pub next_slot : (h : History) (a c : ℕ) (o : Option SlotView) → IsStage h a o → names c (cast_of a h) ≡ true → is_ended a h ≡ false → is_some (next_item a c h) ≡ true
     → option_map_or (has_next_in_slot c) (stage_of_slot o) false ≡ true
-next_slot h a c None is named live next = no_cast h a _ is (cast_some (cast_of a h) c named)
-next_slot h a c (Some Vacant) is named live next = no_cast h a _ is (cast_some (cast_of a h) c named)
+next_slot h a c None is named live next = no_cast h a _ is (cast_known (cast_of a h) c named)
+next_slot h a c (Some Vacant) is named live next = no_cast h a _ is (cast_known (cast_of a h) c named)
 next_slot h a c (Some (Runs one)) is named live next =
     ap (λ (o : Option Packet). is_some o) (next_is h a c one is named) ∙ sym (same_some _) ∙ sym (ap (λ (o : Option RunItem). is_some o) (item_is h a c)) ∙ next
 next_slot h a c (Some (Died dead)) is named live next = ended_by h a _ (or_left (is_dead a h) (is_retired a h) is.died) live

@@ -3,7 +3,7 @@ pub use Rattle.act_actor.specs.Actor.{item_of}
 pub use Rattle.act_actor.specs.Casts.{actor_spec}
 pub use Rattle.act_actor.specs.declared.cast.Cast.{Cast}
 pub use Rattle.act_early.proofs.Choices.{choices_same, heard_quiet}
-pub use Rattle.act_early.proofs.Choosing.{run_more}
+pub use Rattle.act_early.proofs.Choosing.{cast_known, run_more}
 pub use Rattle.act_early.proofs.Counting.{occurrences-push}
 pub use Rattle.act_early.proofs.Listed.{named_caller}
 pub use Rattle.act_early.proofs.Notes.{has_front, has_last, notes_sent}

@@ -4,10 +4,10 @@ use Rattle.act_plan_plays.proofs.Common.{Contains, arith, ◌==◌, ◌&&◌, �
 use Rattle.act_plan_plays.proofs.Common.{range_with_len, and_parts, eqb-true, nat_tests, slice_get_within, Step, Kill, Post, Submission, Answer, copies_held}
 use Rattle.act_plan_plays.proofs.Common.{kept_at, is_known, ActorSpec, History, contains, names, cast_of, actors_naming, copies_of, has_letter, call_letter}
 use Rattle.act_plan_plays.proofs.Common.{was_sent, copies_in, OwnerView, is_known_call, is_sent, is_ready, first_ready, is_known_dead, Refines, is_death_to}
-use Rattle.act_plan_plays.proofs.Common.{IsHere, At, next_step, world, Parts, Stands, held, may_take, shows_dead, is_left_out, HasNoStep, IsDone}
+use Rattle.act_plan_plays.proofs.Common.{IsHere, At, next_step, world, Parts, Stands, held, may_take, shows_dead, is_left_out, HasNoStep, IsDone, cast_known}
 use Rattle.act_rules.specs.declared.history.Post.TheVariants.{Reply as ReplyPost, Death as DeathPost}
 use Rattle.act_plan_plays.proofs.Loops.{none_passes, in_range}
-use Rattle.act_plan_plays.proofs.Seen.{live_shown, cast_some, refuses}
+use Rattle.act_plan_plays.proofs.Seen.{live_shown, refuses}
 
 -- ---- who is listed
 
@@ -59,7 +59,8 @@ held_none None some none = cc
 held_none (Some zero) some none = refl
 held_none (Some (suc n)) some none = let more : nat_lt 0 (suc n) ≡ true = grind (arith, nat_tests) in let bad : true ≡ false = sym more ∙ none in cc
 
-names_copies : (c a : ℕ) (h : History) → names c (cast_of a h) ≡ true → is_some (copies_of c a h) ≡ true
+-- whom a cast names has copies
+pub names_copies : (c a : ℕ) (h : History) → names c (cast_of a h) ≡ true → is_some (copies_of c a h) ≡ true
 names_copies c a h e = rw e refl
 
 -- what is known and has no answer was sent, unless it may be
@@ -90,7 +91,7 @@ done_of casts plans at parts c owner actors next stands refines here next_is act
   waits = λ step is may. refuses h c owner step here (idle_step step (sym next_is ∙ is)).0 may;
   needs = λ a is named.
       let copies : is_some (copies_in a owner.handles) ≡ true = ap (λ (o : Option ℕ). is_some o) (here.is.copies a) ∙ names_copies c a h named in
-      live_shown h parts.world a refines stands.live (cast_some (cast_of a h) c named)
+      live_shown h parts.world a refines stands.live (cast_known (cast_of a h) c named)
       (no_and (shows_dead parts.world a) (is_some (copies_in a owner.handles)) (idle_step (Kill a) (sym next_is ∙ is)).1 copies);
   closed = λ a is named.
       let none = none_passes (λ (a : ℕ). nat_lt 0 (held owner a)) actors a (idle_last (sym next_is ∙ is)) (listed a named) in
@@ -108,7 +109,7 @@ done_of casts plans at parts c owner actors next stands refines here next_is act
   told = λ a dead named.
       let tells = none_passes (λ (a : ℕ). shows_dead parts.world a && not (is_known_dead owner a)) actors a told (listed a named) in
       let shown : shows_dead parts.world a ≡ true = true_or_false (shows_dead parts.world a) (shows_dead parts.world a ≡ true) (λ e. e)
-      (λ e. let bad : true ≡ false = sym dead ∙ live_shown h parts.world a refines stands.live (cast_some (cast_of a h) c named) e in cc) in
+      (λ e. let bad : true ≡ false = sym dead ∙ live_shown h parts.world a refines stands.live (cast_known (cast_of a h) c named) e in cc) in
       death_listed c a h.collected (sym (here.is.deaths a) ∙ untold (shows_dead parts.world a) (is_known_dead owner a) tells shown);
 }
   where

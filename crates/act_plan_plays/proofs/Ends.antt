@@ -1,11 +1,12 @@
 -- Whether each caller is through.
 use Rattle.act_plan_plays.proofs.Common.{◌≡◌, ℕ, zero, suc, ◌<◌, Bool, true, false, List, [], ◌∷◌, length, Option, Some, None, All, refl, ap, sym, ◌∙◌, subst}
-use Rattle.act_plan_plays.proofs.Common.{arith, slice_get, is_some, list_all, list_any, enumerate_from, slice_get_within, length-map, length-enumerate_from}
-use Rattle.act_plan_plays.proofs.Common.{Event, Step, Answer, kept_at, ActorSpec, History, contains, is_caller, calls_of, kept_of, first_answer, element}
+use Rattle.act_plan_plays.proofs.Common.{arith, slice_get, is_some, list_all, list_any, slice_get_within}
+use Rattle.act_plan_plays.proofs.Common.{Event, Step, Answer, kept_at, ActorSpec, History, contains, is_caller, calls_of, kept_of, element}
 use Rattle.act_plan_plays.proofs.Common.{Retires, world_retires, OwnerView, CallerSetup, WorldView, IsHere, At, steps_of, world, named_call, named_caller}
 use Rattle.act_plan_plays.proofs.Common.{Parts, IsBehind, Stands, HoldPlans, HasAnswers, IsThrough, AllThrough}
 use Rattle.act_plan_plays.proofs.Quiet.{part_of}
 use Rattle.act_plan_plays.proofs.Moving.{next_is}
+use Rattle.act_world.proofs.Pending.{kept_long}
 
 -- ---- the answers
 
@@ -19,9 +20,6 @@ kept_all : (xs : List (Option Answer)) → ((k : ℕ) → k < length xs → is_s
 kept_all [] all = refl
 kept_all (None ∷ xs) all = let none : false ≡ true = all 0 (omega arith) in cc
 kept_all (Some x ∷ xs) all = kept_all xs (λ k below. all (suc k) (omega arith))
-
-kept_long : (h : History) (c : ℕ) → length (kept_of c h) ≡ length (calls_of c h)
-kept_long h c = length-map (enumerate_from 0 (calls_of c h)) (first_answer h c) ∙ length-enumerate_from 0 (calls_of c h)
 
 pub answers_tell : (h : History) (c : ℕ) (owner : OwnerView) → IsHere h c owner → (list_all (λ (o : Option Answer). is_some o) owner.kept ≡ true → HasAnswers c h)
     × (HasAnswers c h → list_all (λ (o : Option Answer). is_some o) owner.kept ≡ true)

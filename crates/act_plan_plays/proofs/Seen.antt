@@ -34,10 +34,6 @@ live_slot h a (Some (Ended retired)) is none some e =
 pub live_shown : (h : History) (world : WorldView) (a : ℕ) → Refines h world → h.retired ≡ [] → is_some (cast_of a h) ≡ true → shows_dead world a ≡ false → is_dead a h ≡ false
 live_shown h world a refines none some e = live_slot h a (slice_get world.slots a) (refines.actors a) none some e
 
-pub cast_some : (o : Option ActorSpec) (c : ℕ) → names c o ≡ true → is_some o ≡ true
-cast_some None c e = cc
-cast_some (Some cast) c e = refl
-
 -- ---- a step that is left out
 
 pub left_out : (h : History) (world : WorldView) (c : ℕ) (owner : OwnerView) (step : Step) → Refines h world → IsOwnerOf h c owner → is_left_out world owner step ≡ true

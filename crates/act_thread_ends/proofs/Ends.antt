@@ -22,6 +22,7 @@ use Rattle.act_early.proofs.Found.{found}
 use Rattle.act_early.proofs.Listed.{named_caller}
 use Rattle.act_early.proofs.Replies.{named_call, reply_died}
 use Rattle.act_early.proofs.Worlds.{world, or_second}
+use Rattle.act_early.proofs.Choosing.{cast_known}
 use Rattle.act_owner.specs.Owner.{OwnerView}
 use Rattle.act_serve.specs.Served.{EndView, Killed, Retired, Starved, end_id}
 use Rattle.act_plans.specs.Runs.{plan_of}
@@ -33,10 +34,6 @@ use Rattle.act_executor.proofs.Elements.{all_in}
 use Rattle.act_thread_ends.specs.ThreadEnds.{AreOfARun, CanEnd, CanBeEndIn, EndsAsThreads}
 use Rattle.act_thread_ends.proofs.Plans.{steps_by, is_named, strangers, no_plan}
 use Rattle.act_thread_ends.proofs.Left.{owner_left, IsEndLeft, end_left}
-
-names_some : (c : ℕ) (o : Option ActorSpec) → names c o ≡ true → is_some o ≡ true
-names_some c None e = cc
-names_some c (Some cast) e = refl
 
 module _ (casts : List ActorSpec) (plans : List (ℕ × List Step)) (owners : List OwnerView) (ends : List EndView) (of : AreOfARun casts plans) (joined : IsJoined casts plans owners ends)
     (events : List Event) (played : IsPlayOfPlans casts plans events owners ends) where
@@ -101,7 +98,7 @@ module _ (casts : List ActorSpec) (plans : List (ℕ × List Step)) (owners : Li
       named = subst (λ (n : ℕ). names item.caller (cast_of n h) ≡ true) call.2 (named_call h item.caller item.future call.0 (world_retires casts events).named call.1)
 
       logged : slice_get (log_in ends a) place ≡ Some item
-      logged = subst (λ (l : List RunItem). slice_get l place ≡ Some item) (sym (log_is a (names_some item.caller (cast_of a h) named))) at
+      logged = subst (λ (l : List RunItem). slice_get l place ≡ Some item) (sym (log_is a (cast_known (cast_of a h) item.caller named))) at
 
       reply : (answer : Answer) (b : Bool) → is_reply (Some answer) ≡ b → kept_at (kept_of item.caller h) item.future ≡ Some answer → is_reply (Some answer) ≡ true
       reply answer true e is = e

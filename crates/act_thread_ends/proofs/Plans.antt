@@ -7,18 +7,18 @@ use Rattle.std.proofs.lemmas.Bool.{eqb-true}
 use Rattle.std.proofs.lemmas.List.Elements.{All-cons, All-weaker}
 use Rattle.act_rules.specs.declared.event.Event.{Event}
 use Rattle.act_rules.specs.declared.event.Event.TheVariants as event
-use Rattle.act_rules.specs.declared.outcome.WorldRefusal.{WorldRefusal}
 use Rattle.act_rules.specs.declared.outcome.WorldRefusal.TheVariants.{Submit as SubmitRefused, Handle, NoCaller}
 use Rattle.act_rules.specs.declared.script.Step.{Step}
 use Rattle.act_rules.specs.declared.script.Step.TheVariants.{Submit, Copy, Release, Kill, Await}
 use Rattle.act_rules.specs.Submissions.{handle_refusal, copy_refusal}
 use Rattle.act_rules.specs.History.{ActorSpec, History, contains, is_caller, copies_of}
-use Rattle.act_rules.specs.Rules.{refusal_of, submission_refusal, outcome_by, outcome_of, outcomes, after}
+use Rattle.act_rules.specs.Rules.{refusal_of, submission_refusal, outcome_of, outcomes, after}
 use Rattle.act_rules.proofs.Ended.{needs-none}
 use Rattle.act_rules.proofs.Growth.{added_grows}
 use Rattle.act_rules.proofs.Steps.{after_keeps}
 use Rattle.act_early.specs.Lists.{is_step_by, AreOthers, DoesStepBy, DoesStepsBy}
 use Rattle.act_early.proofs.Shifting.{none_others}
+use Rattle.act_early.proofs.Listing.{accepted_none}
 use Rattle.act_plans.specs.Runs.{steps_of_plan, plan_of}
 use Rattle.act_executor.specs.PlanPlays.{step_of, IsMeanwhile, DoesStepIn, DoesPlanIn}
 use Rattle.act_executor.proofs.Elements.{all_in, found_is}
@@ -67,13 +67,6 @@ steps_by casts c (step ∷ plan) before events (first, done, later, split, meanw
 )
 
 -- ---- whom no cast names does nothing, and has no plan
-
-accepted_none : (h : History) (other : Event) → IsOk (outcome_of h other) → refusal_of h other ≡ None
-accepted_none h other ok = go (refusal_of h other) ok
-  where
-    go : (o : Option WorldRefusal) → IsOk (outcome_by h other o) → o ≡ None
-    go None e = refl
-    go (Some refusal) e = cc
 
 same_caller : (c d : ℕ) (h : History) → (d == c) ≡ true → is_caller d h ≡ true → is_caller c h ≡ true
 same_caller c d h is caller = subst (λ (x : ℕ). is_caller x h ≡ true) (eqb-true d c is) caller

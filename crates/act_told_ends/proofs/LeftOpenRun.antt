@@ -1,7 +1,7 @@
 -- Once a call ran whose reply stands for a death, its reply is collected.
 use Rattle.act_early.proofs.Common.{◌≡◌, ℕ, Bool, true, false, cond, List, [], ◌∷◌, ◌++◌, length, All, All-cons, All-nil, IsOk, Option, Some, None, inl, inr}
-use Rattle.act_early.proofs.Common.{◌⊎◌, refl, ap, sym, ◌∙◌, subst, ◌==◌, filter_map, slice_get, option_map, option_and_then, find, is_some, eq-eqb, and_from}
-use Rattle.act_early.proofs.Common.{append-nil, filter_map-append, Event, RunItem, Submission, Post, Answer, KindState, answer_at, kept_at, needs, ActorSpec}
+use Rattle.act_early.proofs.Common.{◌⊎◌, refl, ap, sym, ◌∙◌, subst, ◌==◌, filter_map, slice_get, option_map, option_and_then, find, eq-eqb, and_from}
+use Rattle.act_early.proofs.Common.{append-nil, filter_map-append, Event, RunItem, Submission, Post, Answer, KindState, answer_at, kept_at, ActorSpec}
 use Rattle.act_early.proofs.Common.{History, opening, opening_of, calls_of, runs_of, kept_of, next_item, answer_in, answer_of, is_item_of, ran_count}
 use Rattle.act_early.proofs.Common.{refusal_of, add_event, after_run, and_also, after, after_all, outcome_by, outcome_of, outcomes, under-push}
 use Rattle.act_early.proofs.Common.{slice_get_last, slice_get_front, run_stands, run_needs, next_item_caller, kept_at_is, kept_by, answer_at-front}
@@ -10,7 +10,6 @@ use Rattle.act_early.proofs.Common.{next_item_is, calls_to-at, Grows}
 use Rattle.act_rules.specs.declared.event.Event.TheVariants as event
 use Rattle.act_rules.specs.declared.history.Post.TheVariants.{Reply as ReplyPost}
 use Rattle.act_rules.specs.declared.outcome.WorldRefusal.{WorldRefusal}
-use Rattle.act_rules.specs.declared.outcome.WorldRefusal.TheVariants.{NoReply}
 use Rattle.act_early.proofs.Unanswered.{next_unanswered}
 use Rattle.act_told_ends.specs.LeftOpen.{IsReplyForDeath}
 use Rattle.act_told_ends.proofs.Later.{IsLater}
@@ -19,6 +18,7 @@ use Rattle.act_told_ends.proofs.Standing.{after_is}
 use Rattle.act_told_ends.proofs.Sent.{AreSent, sent_step}
 use Rattle.act_told_ends.proofs.LeftOpen.{Open, is_replaced, replaced, IsPut, more_put, with_collected, answer_same}
 use Rattle.act_told_ends.proofs.LeftOpenEvents.{IsBeside, event_there, next_posts, next_same, given_stays, beside_next}
+use Rattle.act_told_ends.proofs.Resting.{collect_may}
 
 -- ---- what is done then
 
@@ -197,9 +197,6 @@ own_kept x h posts a c item r left =
         → slice_get (filter_map answers (posts ++ own_post h a c ∷ [])) 0 ≡ kept_at (x.kept c) item.future
     go None e same = let bad : ◌≡◌ {A = Option Answer} None (Some (replaced x c item.future r.put).1) = same ∙ (replaced x c item.future r.put).2 in cc
     go (Some answer) e same = first_then answers posts (own_post h a c) answer none (own ∙ e) ∙ same
-
-collect_may : (g : History) (j : ℕ) (p : Post) → slice_get g.posts j ≡ Some p → refusal_of g (event.Collect j) ≡ None
-collect_may g j p e = ap (λ (o : Option Post). needs (is_some o) NoReply None) e
 
 -- the run of such a call, and the collecting of its reply
 run_goes : (x : Open) (h : History) (posts : List Post) (a c : ℕ) (item : RunItem) → IsRunOf x h posts a c item

@@ -1,21 +1,19 @@
 -- Fronts of one list, what stands in a list, and what a pushed list holds.
 use Rattle.act_early.proofs.Common.{◌≡◌, ℕ, zero, suc, ◌≤◌, Bool, cond, List, [], ◌∷◌, ◌++◌, length, take, Option, Some, None, inl, inr, ◌⊎◌}
-use Rattle.act_early.proofs.Common.{refl, ap, sym, ◌∙◌, subst, arith, Contains, slice_get, filter, filter_map, cons_option, IsPrefix, take-append_seam}
+use Rattle.act_early.proofs.Common.{refl, ap, sym, ◌∙◌, subst, arith, Contains, slice_get, filter, filter_map, cons_option, IsPrefix}
 use Rattle.act_early.proofs.Counting.{take-prefix}
+use Rattle.act_early.proofs.Items.{take-front}
 
 -- ---- fronts of one list
 
-pub front_take : {A : Type 0} (xs zs : List A) → IsPrefix xs zs → take (length xs) zs ≡ xs
-front_take {A = A} xs zs f = ap (λ (l : List A). take (length xs) l) (sym f.1) ∙ take-append_seam xs f.0
-
 pub front_of_front : {A : Type 0} (xs ys zs : List A) → IsPrefix xs zs → IsPrefix ys zs → length xs ≤ length ys → IsPrefix xs ys
 front_of_front {A = A} xs ys zs f g le =
-    subst (λ (l : List A). IsPrefix l ys) (front_take xs zs f)
-    (subst (λ (l : List A). IsPrefix (take (length xs) zs) l) (front_take ys zs g) (take-prefix zs (length xs) (length ys) le))
+    subst (λ (l : List A). IsPrefix l ys) (take-front xs zs f)
+    (subst (λ (l : List A). IsPrefix (take (length xs) zs) l) (take-front ys zs g) (take-prefix zs (length xs) (length ys) le))
 
 -- fronts of one list that are as long are the same
 pub fronts_same : {A : Type 0} (xs ys zs : List A) → IsPrefix xs zs → IsPrefix ys zs → length xs ≡ length ys → xs ≡ ys
-fronts_same {A = A} xs ys zs f g e = sym (front_take xs zs f) ∙ ap (λ (n : ℕ). take n zs) e ∙ front_take ys zs g
+fronts_same {A = A} xs ys zs f g e = sym (take-front xs zs f) ∙ ap (λ (n : ℕ). take n zs) e ∙ take-front ys zs g
 
 -- ---- what stands in a list
 

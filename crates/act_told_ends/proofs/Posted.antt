@@ -116,7 +116,8 @@ cond_some : {A : Type 0} (b : Bool) (o : Option A) (x : A) → cond b o None ≡
 cond_some true o x e = (refl, e)
 cond_some false o x e = cc
 
-is_alive : (answer : Answer) → answer ≢ Err ActorDied → is_reply (Some answer) ≡ true
+-- an answer that is no death is a reply
+pub is_alive : (answer : Answer) → answer ≢ Err ActorDied → is_reply (Some answer) ≡ true
 is_alive answer alive = go (is_reply (Some answer)) refl
   where
     go : (x : Bool) → is_reply (Some answer) ≡ x → is_reply (Some answer) ≡ true

@@ -41,7 +41,8 @@ step_more casts c (Release a) h before may = one_more casts h (event.Release c a
 step_more casts c (Kill a) h before may = one_more casts h (event.AskKill c a) before may
 step_more casts c (Await k) h before may = before
 
-collect_may : (h : History) (j : ℕ) (post : Post) → slice_get h.posts j ≡ Some post → refusal_of h (event.Collect j) ≡ None
+-- a post that stands may be collected
+pub collect_may : (h : History) (j : ℕ) (post : Post) → slice_get h.posts j ≡ Some post → refusal_of h (event.Collect j) ≡ None
 collect_may h j post at = let some : is_some (slice_get h.posts j) ≡ true = ap (λ (o : Option Post). is_some o) at in rw some refl
 
 thing_more : (casts : List ActorSpec) (bound : ℕ → Option (List Step)) (told : Told) (done : ℕ → ℕ) (h : History) (thing : MayGoOn bound told done h)

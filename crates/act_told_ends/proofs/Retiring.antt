@@ -1,21 +1,22 @@
 -- An actor that is told retired can retire once all else is done.
-use Rattle.act_early.proofs.Common.{◌≡◌, ℕ, zero, suc, Bool, true, false, cond, List, [], ◌∷◌, length, Option, Some, None, inl, inr, ◌⊎◌, refl, ap, sym}
+use Rattle.act_early.proofs.Common.{◌≡◌, ℕ, zero, suc, Bool, true, false, List, [], ◌∷◌, length, Option, Some, None, inl, inr, ◌⊎◌, refl, ap, sym}
 use Rattle.act_early.proofs.Common.{◌∙◌, subst, arith, All, IsOk, ◌==◌, ◌||◌, find, is_some, nat_lt, nat_tests, list_all, AllByRecursion, eq-eqb}
 use Rattle.act_early.proofs.Common.{length-map, and_from, Event, Letter, RunItem, Submission, Step, ActorSpec, History, opening, contains, names, cast_of}
 use Rattle.act_early.proofs.Common.{callers_in, is_caller, calls_of, copies_of, runs_of, ran_count, items_of, is_dead, is_retired, is_ended, is_done, is_drained}
-use Rattle.act_early.proofs.Common.{has_letter, calls_to, handle_refusal, deliver_refusal, outcomes, history, ran_all, summary, At, IsPlay}
+use Rattle.act_early.proofs.Common.{has_letter, calls_to, handle_refusal, deliver_refusal, outcomes, history, ran_all, summary, At, IsPlay, both_ways}
 use Rattle.act_rules.specs.declared.history.Letter.TheVariants.{Note as NoteLetter}
 use Rattle.act_early.proofs.Listed.{all_actors, all_listed, named_caller}
 use Rattle.act_early.proofs.Notes.{letter_place, notes_sent, NotesSent}
 use Rattle.act_early.proofs.Told.{same_told}
 use Rattle.act_early.proofs.Worlds.{IsWorld, world}
+use Rattle.act_early.proofs.Retires.{cast_listed}
 use Rattle.act_told_ends.specs.Told.{Told, Leaves, EndsAsTold}
 use Rattle.act_told_ends.specs.Walks.{IsThrough}
 use Rattle.act_told_ends.specs.Retiring.{MayRetire, LetsGo, Notes, Retires, IsToRetire, RetiredAsTold, last_note}
 use Rattle.act_told_ends.proofs.Bridge.{IsLate, late_play, free_play}
 use Rattle.act_told_ends.proofs.Covered.{cast_same}
 use Rattle.act_told_ends.proofs.Going.{has_copies, may_deliver}
-use Rattle.act_told_ends.proofs.Through.{same_truth, world_of}
+use Rattle.act_told_ends.proofs.Through.{world_of}
 
 -- a play that ends as is told, and a walk that is through
 record IsRest (casts : List ActorSpec) (bound : ℕ → Option (List Step)) (told : Told) (plans : ℕ → List Step) (late : At) (g : History) : Type 0 where
@@ -132,16 +133,6 @@ all_so casts bound told plans late g (a ∷ xs) r = both (is_so casts bound told
     both (inl one) (inr goal) = inr goal
     both (inl one) (inl rest) = inl (one, rest)
 
--- an actor with a cast is listed
-cast_listed : (a : ℕ) (casts : List ActorSpec) → is_some (find (λ (cast : ActorSpec). cast.actor == a) casts) ≡ true → contains a (all_actors casts) ≡ true
-cast_listed a [] e = cc
-cast_listed a (cast ∷ casts) e = go (cast.actor == a) (cast_listed a casts) e
-  where
-    go : (x : Bool) → (is_some (find (λ (cast : ActorSpec). cast.actor == a) casts) ≡ true → contains a (all_actors casts) ≡ true)
-        → is_some (cond x (Some cast) (find (λ (cast : ActorSpec). cast.actor == a) casts)) ≡ true → (x || contains a (all_actors casts)) ≡ true
-    go true rest e = refl
-    go false rest e = rest e
-
 -- where some events end as is told, others that leave this, with none retired but those told, end so or may go on
 pub retire_on : (casts : List ActorSpec) (bound : ℕ → Option (List Step)) (told : Told) (events walk : List Event)
     → EndsAsTold casts bound told events → All IsOk (outcomes (opening casts) walk) → Leaves told (history casts walk)
@@ -174,7 +165,7 @@ retire_on casts bound told events walk ends accepted leaves only = go (all_so ca
 
     go : AllByRecursion (λ a. told.retired a ≡ true → is_retired a g ≡ true) (all_actors casts) ⊎ MayRetire told g → RetiredAsTold told g ⊎ MayRetire told g
     go (inr goal) = inr goal
-    go (inl all) = inl (λ a. same_truth (is_retired a g) (told.retired a) (only a)
+    go (inl all) = inl (λ a. both_ways (is_retired a g) (told.retired a) (only a)
         (λ e. all_listed (λ a. told.retired a ≡ true → is_retired a g ≡ true) (all_actors casts) a all (listed a e) e))
 
 pub retiring : (casts : List ActorSpec) (bound : ℕ → Option (List Step)) (told : Told) (done : ℕ → ℕ) (events walk : List Event)

@@ -9,6 +9,7 @@ use Rattle.act_rules.specs.declared.event.Event.TheVariants as event
 use Rattle.act_rules.specs.declared.history.Post.TheVariants.{Death as DeathPost}
 use Rattle.act_early.proofs.Counting.{take-past}
 use Rattle.act_early.proofs.Shifting.{none_others, others_first, others_rest}
+use Rattle.act_early.proofs.Listing.{accepted_none}
 use Rattle.act_told_ends.specs.Told.{Told, EndsAsTold}
 use Rattle.act_told_ends.specs.Untold.{MayStandFor, StandFor, with_calls}
 use Rattle.act_told_ends.proofs.Bridge.{IsLate, late_found}
@@ -27,13 +28,6 @@ swap_all-append calls h [] ys = refl
 swap_all-append calls h (x ∷ xs) ys = ap (λ (l : List Event). swap calls h x ∷ l) (swap_all-append calls (after h x) xs ys)
 
 -- ---- accepted events
-
-pub accepted_none : (h : History) (other : Event) → IsOk (outcome_of h other) → refusal_of h other ≡ None
-accepted_none h other ok = go (refusal_of h other) ok
-  where
-    go : (o : Option WorldRefusal) → IsOk (outcome_by h other o) → o ≡ None
-    go None e = refl
-    go (Some refusal) e = cc
 
 pub first_ok : (h : History) (other : Event) (events : List Event) → All IsOk (outcomes h (other ∷ events)) → refusal_of h other ≡ None
 first_ok h other events ok = accepted_none h other (ok 0 (outcome_of h other) (omega arith))

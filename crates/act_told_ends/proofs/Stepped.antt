@@ -1,7 +1,7 @@
 -- A step in a walk, and all that may be done next.
 use Rattle.act_early.proofs.Common.{◌≡◌, ℕ, ◌+◌, ◌-◌, ◌<◌, ◌≤◌, Bool, true, false, cond, List, [], ◌∷◌, ◌++◌, length, take, Option, Some, None, inl, inr, ◌⊎◌, refl}
-use Rattle.act_early.proofs.Common.{ap, sym, ◌∙◌, subst, arith, ◌==◌, ◌||◌, filter, filter_map, find, slice_get, list_any, list_any-append, filter-append, filter_map-append}
-use Rattle.act_early.proofs.Common.{length-append, append-nil, eqb-true, eq-eqb, slice_get_within, Event, RunItem, Post, Submission, Step, Submit, Copy, Release, Kill}
+use Rattle.act_early.proofs.Common.{ap, sym, ◌∙◌, subst, arith, ◌==◌, ◌||◌, filter, filter_map, find, slice_get, list_any, list_any-append, filter_map-append}
+use Rattle.act_early.proofs.Common.{append-nil, eqb-true, eq-eqb, slice_get_within, Event, RunItem, Post, Submission, Step, Submit, Copy, Release, Kill}
 use Rattle.act_early.proofs.Common.{Await, Answer, kept_at, has_terminated, ActorSpec, History, opening, under, names, contains, cast_of, count_pairs}
 use Rattle.act_early.proofs.Common.{calls_of, copies_of, runs_of, kept_of, is_dead, refusal_of, add_event, under-push, IsPrefix, slice_get_front, front_next, Grows}
 use Rattle.act_early.proofs.Common.{added_grows, calls_grow, At, MayTake, after_step, is_kill_of, steps_of}
@@ -10,9 +10,10 @@ use Rattle.act_rules.specs.declared.event.Event.TheVariants as event
 use Rattle.act_early.proofs.Counting.{take-at, take-past, past_none, take-prefix}
 use Rattle.act_early.proofs.Earlier.{step_runs, step_kills}
 use Rattle.act_early.proofs.Matching.{IsPrefix-filter_map}
-use Rattle.act_early.proofs.Progress.{follows, submission_in, is_copy_of, is_release_of, submitted_one, copied_one, released_one}
+use Rattle.act_early.proofs.Progress.{follows, submission_in, is_copy_of, is_release_of, submitted_one, copied_one, released_one, counted}
 use Rattle.act_early.proofs.Replies.{front_short, front_whole}
-use Rattle.act_early.proofs.Worlds.{IsWorld, either_of, or_second, step_keeps}
+use Rattle.act_early.proofs.Worlds.{IsWorld, either_of, or_second, step_keeps, world_step}
+use Rattle.act_early.proofs.Notes.{opened_none}
 use Rattle.act_told_ends.specs.Told.{Told, IsWalk, DidFirst, EndsAsTold, submission_of, copies, releases}
 use Rattle.act_told_ends.specs.Walks.{MayGoOn, Calls, Asks, Steps, DoesWithout, Sends, Delivers, Runs, Collects, TakesKill, Tells, Hears, IsThrough}
 use Rattle.act_told_ends.specs.Walked.{IsWalked, Begins, GoesOn, Mails, Brings, gone_on, one_step_more}
@@ -21,7 +22,7 @@ use Rattle.act_told_ends.proofs.Bridge.{IsLate, late_play}
 use Rattle.act_told_ends.proofs.Posted.{RunsPosted, CameBy, Replied, Died, came_by, posted_step, all_posted}
 use Rattle.act_told_ends.proofs.Covered.{same_submission, same_copy, same_release}
 use Rattle.act_told_ends.proofs.Covers.{step_collects, step_asks}
-use Rattle.act_told_ends.proofs.Through.{world_step, world_of, stuck_in}
+use Rattle.act_told_ends.proofs.Through.{world_of, stuck_in}
 use Rattle.act_told_ends.proofs.Walked.{IsGoing, new_kept, old_reply, told_death, hear_more, still_killed, quiet_going, kill_going, run_going, reply_going, death_going}
 
 -- ---- what a step leaves as it was
@@ -69,10 +70,6 @@ did_other c d n step steps h differ first = record {
   where
     no_more : (m : ℕ) → m + 0 ≡ m
     no_more m = omega arith
-
-counted : (p : Step → Bool) (before more all : List Step) (n : ℕ) → n ≡ length (filter p before) → all ≡ before ++ more
-    → n + length (filter p more) ≡ length (filter p all)
-counted p before more all n e is = rw (is, filter-append p before more, length-append, e) refl
 
 -- one's own adds what it says
 did_own : (c n : ℕ) (step : Step) (steps : List Step) (h : History) → slice_get steps n ≡ Some step → DidFirst c n steps h
@@ -362,10 +359,6 @@ going_on casts bound told plans late done h (Tells c a hears none may) l w =
 going_on casts bound told plans late done h (Hears j c a hears none at) l w = death_going casts bound told done h j c a w at hears
 
 -- ---- from the start
-
-opened_none : (x : Bool) (P : Type 0) → cond x (Some ((1 + 0) - 0)) None ≡ Some 0 → P
-opened_none true P e = cc
-opened_none false P e = cc
 
 begins : (casts : List ActorSpec) (bound : ℕ → Option (List Step)) (told : Told) → IsGoing casts bound told (λ c. 0) (opening casts)
 begins casts bound told = record {

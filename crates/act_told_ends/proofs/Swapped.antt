@@ -1,10 +1,10 @@
 -- An event with a call that stands for the one made: it is accepted, too, and leaves the same but for that call.
 use Rattle.act_early.proofs.Common.{◌≡◌, ℕ, zero, suc, Bool, true, false, cond, List, [], ◌∷◌, ◌++◌, length, take, map, filter, Option, Some, None}
 use Rattle.act_early.proofs.Common.{inl, inr, ◌⊎◌, refl, ap, sym, ◌∙◌, subst, ◌==◌, ◌||◌, not, filter_map, slice_get, option_map, is_some, is_none, list_all, nat_lt}
-use Rattle.act_early.proofs.Common.{append-nil, eqb-true, eq-eqb, length-map, enumerate_from, Arg, Method, Event, RunItem, Submission}
+use Rattle.act_early.proofs.Common.{append-nil, eqb-true, eq-eqb, Arg, Method, Event, RunItem, Submission}
 use Rattle.act_early.proofs.Common.{Letter, Step, Answer, NoCaller, Sending, SubmitRefusal, calls_to, number_of, kept_at, is_known, settle, needs, send_refusal}
 use Rattle.act_early.proofs.Common.{submit_refusal, limit_refusal, ActorSpec, History, under, is_caller, calls_of, copies_of, limit_of, runs_of, kept_of}
-use Rattle.act_early.proofs.Common.{has_letter, ran_count, run_item, next_item, first_answer, answer_in, refusal_of, add_event, after_run, and_also, unanswered, call_letter}
+use Rattle.act_early.proofs.Common.{has_letter, ran_count, run_item, next_item, answer_in, refusal_of, add_event, after_run, and_also, unanswered, call_letter}
 use Rattle.act_early.proofs.Common.{was_sent, deliver_refusal, is_last, under-push, slice_get_front, slice_get_last, option_map-none, option_or-none, option_or-none_second}
 use Rattle.act_early.proofs.Common.{needs-none, kept_at_is, kept_by, IsPrefix, IsAsSubmitted, All_at, consistent, IsNext, next_item_is, calls_to-at, At}
 use Rattle.std.specs.Prelude.{nat_le}
@@ -17,15 +17,14 @@ use Rattle.act_rules.specs.declared.outcome.WorldRefusal.TheVariants.{Submit as 
 use Rattle.act_rules.specs.declared.outcome.SubmitRefusal.TheVariants.{NoActor as NoSuchActor, NoHandle as NoCopy, TooManyArgs, BadFuture, TooManyCalls}
 use Rattle.act_rules.specs.declared.outcome.SendRefusal.TheVariants.{NotReady, Answered}
 use Rattle.act_types.specs.declared.call.Settled.{Settled}
-use Rattle.act_rules.proofs.Common.{length-enumerate_from}
 use Rattle.std.proofs.lemmas.List.{length_push}
 use Rattle.act_early.proofs.Counting.{take-at}
 use Rattle.act_early.proofs.Shifting.{head_same, tail_same}
-use Rattle.act_early.proofs.Ending.{same_kept}
+use Rattle.act_early.proofs.Ending.{same_kept, kept_size}
 use Rattle.act_early.proofs.Worlds.{IsWorld, world}
+use Rattle.act_early.proofs.Items.{take-front}
 use Rattle.act_told_ends.specs.Told.{Told}
 use Rattle.act_told_ends.specs.Untold.{StandFor, MayStandFor, Ran, IsAsRun, arg_as_run}
-use Rattle.act_told_ends.proofs.Lists.{front_take}
 use Rattle.act_told_ends.proofs.Bridge.{IsLate}
 use Rattle.act_told_ends.proofs.Later.{IsLater}
 use Rattle.act_told_ends.proofs.Twins.{actors, firsts, length_same, at_same, none_same, number_same, calls_to_same, count_same, passing_same, map-take, slice_get-take}
@@ -85,10 +84,7 @@ pub same_actors : (x : Stand) (h : History) (subs : List (ℕ × Submission)) (c
 same_actors x h subs c later first =
     ap (λ (calls : List Submission). actors calls) (first c) ∙ map-take (length (calls_of c h)) (x.calls c)
     ∙ ap (take (length (calls_of c h))) (stand_actors x c) ∙ sym (map-take (length (calls_of c h)) (x.told.calls c))
-    ∙ ap (λ (calls : List Submission). actors calls) (front_take (calls_of c h) (x.told.calls c) (told_front x h c later))
-
-kept_size : (c : ℕ) (h : History) → length (kept_of c h) ≡ length (calls_of c h)
-kept_size c h = length-map (enumerate_from 0 (calls_of c h)) (first_answer h c) ∙ length-enumerate_from 0 (calls_of c h)
+    ∙ ap (λ (calls : List Submission). actors calls) (take-front (calls_of c h) (x.told.calls c) (told_front x h c later))
 
 pub kept_as : (c : ℕ) (h : History) (subs : List (ℕ × Submission)) → actors (under c subs) ≡ actors (calls_of c h) → kept_of c (with_subs h subs) ≡ kept_of c h
 kept_as c h subs same = same_kept (kept_of c g) (kept_of c h) (kept_size c g ∙ length_same (under c subs) (calls_of c h) same ∙ sym (kept_size c h)) at

@@ -1,14 +1,14 @@
 -- Where some events end as is told, a walk is through or may go on.
 use Rattle.act_early.proofs.Common.{◌≡◌, ℕ, ◌≤◌, Bool, true, false, List, [], length, Option, Some, None, inl, inr, ◌⊎◌, refl, ap, sym, ◌∙◌, subst, arith, ◌||◌}
 use Rattle.act_early.proofs.Common.{Event, RunItem, Submission, Step, Answer, kept_at, has_terminated, ActorSpec, History, opening, contains, calls_of}
-use Rattle.act_early.proofs.Common.{runs_of, kept_of, is_dead, refusal_of, add_event, history, IsKept, after_all_keeps, added_grows, At, steps_of}
-use Rattle.act_early.proofs.Common.{after_step, with_event, is_free, IsPlay, Opens, Takes, Skips, Closes, Happens, sound_step, world_sound, retires_step}
-use Rattle.act_early.proofs.Common.{world_retires, nothing_follows_step}
+use Rattle.act_early.proofs.Common.{runs_of, kept_of, is_dead, refusal_of, add_event, history, after_all_keeps, At, steps_of}
+use Rattle.act_early.proofs.Common.{after_step, with_event, is_free, IsPlay, Opens, Takes, Skips, Closes, Happens, world_sound}
+use Rattle.act_early.proofs.Common.{world_retires, both_ways}
 use Rattle.act_rules.specs.declared.event.Event.TheVariants as event
 use Rattle.act_early.proofs.Counting.{past_none}
 use Rattle.act_early.proofs.Ending.{same_kept, kept_long}
 use Rattle.act_early.proofs.Replies.{front_short, front_whole}
-use Rattle.act_early.proofs.Worlds.{IsWorld, world, either_of, retired_live_step, retired_cast_step}
+use Rattle.act_early.proofs.Worlds.{IsWorld, world, either_of, world_step}
 use Rattle.act_told_ends.specs.Told.{Told, EndsAsTold, IsWalk}
 use Rattle.act_told_ends.specs.Walks.{MayGoOn, IsThrough}
 use Rattle.act_told_ends.proofs.Bridge.{IsLate, late_play}
@@ -70,11 +70,6 @@ comes_near x s q (Happens p other play free may) later =
 
 -- ---- at the end
 
-pub same_truth : (x y : Bool) → (x ≡ true → y ≡ true) → (y ≡ true → x ≡ true) → x ≡ y
-same_truth true y f g = sym (f refl)
-same_truth false true f g = g refl
-same_truth false false f g = refl
-
 through : (x : Case) → Here x x.late → IsThrough x.bound x.told x.done x.g
 through x at = record {
   leaves = record { calls = calls; kept = kept; runs = runs; dead = dead };
@@ -117,7 +112,7 @@ through x at = record {
                 cc
 
     dead : (a : ℕ) → is_dead a g ≡ x.told.dead a
-    dead a = same_truth (is_dead a g) (x.told.dead a)
+    dead a = both_ways (is_dead a g) (x.told.dead a)
         (λ e. either_of (contains a g.killed) (has_terminated (runs_of a g)) (x.told.dead a ≡ true) e (at.setting.walk.dead a)
         (λ ended. sym (at.setting.end.leaves.dead a) ∙ ended_late a ended))
         (λ e. dead_covered x.casts x.bound x.told x.done x.plans x.late g x.late a at (at.setting.end.leaves.dead a ∙ e))
@@ -131,16 +126,6 @@ through x at = record {
             (ap has_terminated (at.setting.end.leaves.runs a ∙ sym (runs a)) ∙ ended)
 
 -- ---- all of it
-
-pub world_step : (casts : List ActorSpec) → IsKept (IsWorld casts)
-world_step casts h other w may = record {
-  sound = sound_step h other w.sound may;
-  retires = retires_step h other w.retires may;
-  follows = nothing_follows_step h other w.follows may;
-  casts = (added_grows h other).casts ∙ w.casts;
-  live = retired_live_step h other w.live may;
-  cast = retired_cast_step h other w.cast may;
-}
 
 -- what any events leave is a world of the casts with which it was opened
 pub world_of : (casts : List ActorSpec) (events : List Event) → IsWorld casts (history casts events)

@@ -13,14 +13,13 @@ use Rattle.act_rules.specs.declared.history.Post.TheVariants.{Reply as ReplyPost
 use Rattle.act_early.proofs.Choices.{first_same, kept_first}
 use Rattle.act_early.proofs.Progress.{IsIdle, free_idle}
 use Rattle.act_early.proofs.Replies.{death_answers, reply_some, reply_died, reply_alive}
-use Rattle.act_early.proofs.Worlds.{IsWorld, world, either_of, contains_push}
+use Rattle.act_early.proofs.Worlds.{IsWorld, world, either_of, contains_push, world_step}
 use Rattle.act_told_ends.specs.Told.{Told, IsWalk, DidFirst}
 use Rattle.act_told_ends.specs.Walks.{MayHear}
 use Rattle.act_told_ends.proofs.Lists.{push_at, stands_in}
 use Rattle.act_told_ends.proofs.Bridge.{IsLate}
 use Rattle.act_told_ends.proofs.Posted.{RunsPosted, CameBy, Replied, Died, came_by, reply_answers, posted_step}
 use Rattle.act_told_ends.proofs.Covered.{cast_same}
-use Rattle.act_told_ends.proofs.Through.{world_step}
 
 -- what a walk keeps: it is one, and a death that it collected could be heard
 pub record IsGoing (casts : List ActorSpec) (bound : ℕ → Option (List Step)) (told : Told) (done : ℕ → ℕ) (h : History) : Type 0 where

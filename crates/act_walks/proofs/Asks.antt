@@ -17,21 +17,13 @@ use Rattle.act_walks.specs.Walking.{Parts, done_in, IsEndOf, DoesEvent}
 use Rattle.act_walks.specs.Asking.{AreAsked, IsAsking, AsksFrom, SetsOut}
 use Rattle.act_walks.proofs.Eager.{going_of, opened, asked}
 use Rattle.act_walks.proofs.Onward.{stands_event}
+use Rattle.act_owner.proofs.Waiting.{find_true}
 
 -- ---- who may ask
 
 none_free : (o : Option (List Step)) → is_none o ≡ true → o ≡ None
 none_free None e = refl
 none_free (Some steps) e = cc
-
--- the first that passes does
-found_passes : (p : ℕ → Bool) (ns : List ℕ) (n : ℕ) → find p ns ≡ Some n → p n ≡ true
-found_passes p [] n e = cc
-found_passes p (m ∷ ns) n e = go (p m) refl (found_passes p ns n) e
-  where
-    go : (b : Bool) → p m ≡ b → (find p ns ≡ Some n → p n ≡ true) → cond b (Some m) (find p ns) ≡ Some n → p n ≡ true
-    go true is rest e = let same : m ≡ n = cc in ap p (sym same) ∙ is
-    go false is rest e = rest e
 
 -- where none passes, none that is contained does
 none_passes : (p : ℕ → Bool) (ns : List ℕ) (n : ℕ) → find p ns ≡ None → contains n ns ≡ true → p n ≡ true → ⊥
@@ -118,7 +110,7 @@ asks_one end c a actor old new at dead first does = record {
 }
   where
     free : bound_of end c ≡ None
-    free = none_free (bound_of end c) (found_passes (λ (c : ℕ). is_none (bound_of end c)) actor.callers.items c first)
+    free = none_free (bound_of end c) (find_true (λ (c : ℕ). is_none (bound_of end c)) actor.callers.items c first)
 
     not_yet : (told : Told) (h : History) → AreAsked end told a h → (b : Bool) → contains a h.asked ≡ b → contains a h.asked ≡ false
     not_yet told h before true e = let below : a < a = before.only a e in absurd (omega (arith, below))

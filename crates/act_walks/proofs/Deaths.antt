@@ -1,10 +1,12 @@
 -- A caller hears of the death of an actor.
 use Rattle.act_early.proofs.Common.{◌≡◌, ℕ, zero, suc, ◌+◌, ◌<◌, Bool, true, false, List, [], ◌∷◌, length, Option, Some, None, refl, ap, sym, ◌∙◌, subst, arith, ◌==◌, ◌&&◌, ◌||◌, not, Contains}
 use Rattle.act_early.proofs.Common.{slice_get, option_map, is_some, eqb-true, eq-eqb, map-slice_get, Event, Post, Submission, Answer, Step, ActorSpec, History, history, names, cast_of, is_caller, calls_of}
-use Rattle.act_early.proofs.Common.{copies_of, kept_of, kept_at, is_dead, refusal_of, add_event, is_reply, needs-none, NoCaller, NotDead, Handle, NoActor, needs}
+use Rattle.act_early.proofs.Common.{kept_of, kept_at, is_dead, refusal_of, add_event, is_reply, needs-none, NoCaller, NotDead, Handle, NoActor, needs}
+use Rattle.act_early.proofs.Choosing.{cast_known}
 use Rattle.act_plan_plays.proofs.Common.{◌≤◌, ◌⊎◌, inl, inr, get_or, get_or_from_slice_get, cases_lt, IsBehind, WorldView, SlotView, Runs, Died, Ended, Vacant, IsStage, stage_of_slot, is_dead_slot, Refines, IsOwnerOf, is_death_to, shows_dead, option_map_or}
 use Rattle.act_plan_plays.proofs.Common.{Did, copies_in, OwnerView, is_known_dead, list_any, not_dead, length-map}
-use Rattle.act_plan_plays.proofs.Done.{death_listed}
+use Rattle.act_plan_plays.proofs.Done.{death_listed, names_copies}
+use Rattle.act_plan_plays.proofs.Moving.{told_place}
 use Rattle.std.proofs.lemmas.Option.{slice_get-map}
 use Rattle.act_rules.specs.declared.event.Event.TheVariants as event
 use Rattle.act_rules.specs.declared.history.Post.TheVariants.{Death as DeathPost}
@@ -40,10 +42,6 @@ tell_needs h a c may =
     let two = needs-none (names c (cast_of a h)) (Handle NoActor) (needs (is_dead a h) NotDead None) one.1 in
     (one.0, two.0, (needs-none (is_dead a h) NotDead None two.1).0)
 
-cast_some : (o : Option ActorSpec) (c : ℕ) → names c o ≡ true → is_some o ≡ true
-cast_some None c e = cc
-cast_some (Some cast) c e = refl
-
 pub not_shown : (end : ToldEnd) (c a : ℕ) (casts : List ActorSpec) (h : History) (world : WorldView) (before : List Event) → IsBehind casts h world before → shows_dead world a ≡ false
     → Hears end c a h false
 not_shown end c a casts h world before behind hidden = record {
@@ -51,7 +49,7 @@ not_shown end c a casts h world before behind hidden = record {
   none = λ _ told fits few hears never may.
       let needed = tell_needs h a c may in
       let refines : Refines h world = subst (λ (g : History). Refines g world) (sym behind.is) behind.reached in
-      let bad : true ≡ false = sym (dead_slot h a (slice_get world.slots a) (refines.actors a) (cast_some (cast_of a h) c needed.1) needed.2) ∙ hidden in
+      let bad : true ≡ false = sym (dead_slot h a (slice_get world.slots a) (refines.actors a) (cast_known (cast_of a h) c needed.1) needed.2) ∙ hidden in
       cc;
 }
 
@@ -141,16 +139,13 @@ few_calls end told c fits few =
     let same : length (calls_in end c) ≡ length (told.calls c) = sym (length-map (calls_in end c) submission_of_call) ∙ ap (λ (l : List Submission). length l) (fits.calls c) in
     omega (arith, few, same)
 
-named_copies : (c a : ℕ) (h : History) → names c (cast_of a h) ≡ true → is_some (copies_of c a h) ≡ true
-named_copies c a h e = rw e refl
-
 -- one whom the actor's cast doesn't name is told nothing
 pub not_named : (end : ToldEnd) (c a : ℕ) (h : History) (owner : OwnerView) → IsOwnerOf h c owner → is_some (copies_in a owner.handles) ≡ false
     → Hears end c a h false
 not_named end c a h owner is unlisted = record {
   yes = λ e. cc;
   none = λ _ told fits few hears never may.
-      let bad : true ≡ false = sym (named_copies c a h (tell_needs h a c may).1) ∙ ap (λ (o : Option ℕ). is_some o) (sym (is.copies a)) ∙ unlisted in cc;
+      let bad : true ≡ false = sym (names_copies c a h (tell_needs h a c may).1) ∙ ap (λ (o : Option ℕ). is_some o) (sym (is.copies a)) ∙ unlisted in cc;
 }
 
 pub knows : (end : ToldEnd) (c a : ℕ) (h : History) (owner : OwnerView) → IsOwnerOf h c owner → is_known_dead owner a ≡ true → Hears end c a h false
@@ -175,9 +170,6 @@ hears_by end c a h owner all is known lets = record {
 
 told_few : (casts : List ActorSpec) (bound : ℕ → Option (List Step)) (told : Told) (c : ℕ) → SomeEnd casts bound told → length (told.calls c) ≤ 65536
 told_few casts bound told c s = subst (λ (l : List Submission). length l ≤ 65536) (s.1.leaves.calls c) ((world_lawful casts s.0).few c)
-
-told_place : {i j : ℕ} → did_so.Told i ≡ did_so.Told j → i ≡ j
-told_place e = cc
 
 pub hears_now : (c a j : ℕ) (old mid new : Parts) (told : Did) → Does (event.Tell a c) old mid (did_so.Told j) → Does (event.Collect j) mid new told → HearsNow c a old new
 hears_now c a j old mid new told tells collects = record {

@@ -17,6 +17,7 @@ use Rattle.act_told_ends.proofs.Bridge.{IsLate, late_play}
 use Rattle.act_told_ends.proofs.Lists.{place_in, push_at, stands_in}
 use Rattle.act_told_ends.proofs.Posted.{reply_answers}
 use Rattle.act_told_ends.proofs.Walked.{IsGoing, hear_more, quiet_kept}
+use Rattle.act_told_ends.proofs.Resting.{collect_may}
 use Rattle.act_plan_plays.specs.Parts.{IsBrought}
 use Rattle.act_plan_plays.proofs.Brought.{brought_kept}
 use Rattle.act_walks.specs.Eager.{SomeEnd, RepliesAreKept, DeathsAreHeard, IsEager}
@@ -66,10 +67,6 @@ old_death : (h g : History) → Grows h g → DeathsAreHeard h → (j c a : ℕ)
 old_death h g grows heard j c a at =
     subst (λ (l : List Post). Contains l (DeathPost c a)) grows.collected.1
     (Contains-append_left h.collected grows.collected.0 (DeathPost c a) (heard j c a at))
-
--- a post that stands may be collected
-may_collect : (h : History) (j : ℕ) (post : Post) → slice_get h.posts j ≡ Some post → refusal_of h (event.Collect j) ≡ None
-may_collect h j post at = let some : is_some (slice_get h.posts j) ≡ true = ap (λ (o : Option Post). is_some o) at in rw some refl
 
 -- ---- a run
 
@@ -190,7 +187,7 @@ kept_now : (casts : List ActorSpec) (bound : ℕ → Option (List Step)) (told :
     → IsEager casts bound told done (add_event (ran a item h) (event.Collect (length h.posts)))
 kept_now casts bound told done h a item r reply = record {
   walked = walked;
-  brought = brought_kept g (event.Collect (length h.posts)) (may_collect g (length h.posts) new at) refl
+  brought = brought_kept g (event.Collect (length h.posts)) (collect_may g (length h.posts) new at) refl
       (subst (λ (o : Option RunItem). IsBrought (after_run a item.caller h o)) r.is
       (brought_kept h (event.Run a item.caller) r.may (ap (λ (o : Option RunItem). (after_run a item.caller h o).mail) r.is) r.eager.brought));
   replied = λ j d b place other at there.
@@ -248,7 +245,7 @@ ran_kept casts bound told s done h e a item next may some reply =
     let r = may_run casts bound told s done h e a item next may some in
     subst (λ (o : Option RunItem). (refusal_of (after_run a item.caller h o) (event.Collect (length h.posts)) ≡ None)
     × IsEager casts bound told done (add_event (after_run a item.caller h o) (event.Collect (length h.posts)))) (sym r.is) (
-      may_collect (ran a item h) (length h.posts) (reply_of a item h) (slice_get_last h.posts (reply_of a item h)),
+      collect_may (ran a item h) (length h.posts) (reply_of a item h) (slice_get_last h.posts (reply_of a item h)),
       kept_now casts bound told done h a item r reply,
     )
 
@@ -259,10 +256,10 @@ pub heard : (casts : List ActorSpec) (bound : ℕ → Option (List Step)) (told 
     → (refusal_of (add_event h (event.Tell a c)) (event.Collect (length h.posts)) ≡ None)
     × IsEager casts bound told done (add_event (add_event h (event.Tell a c)) (event.Collect (length h.posts)))
 heard casts bound told s done h e c a hears none may = (
-  may_collect g (length h.posts) new at,
+  collect_may g (length h.posts) new at,
   record {
     walked = GoesOn done g (Hears (length h.posts) c a (hear_more told c a h g grows sound hears) none at) walked;
-    brought = brought_kept g (event.Collect (length h.posts)) (may_collect g (length h.posts) new at) refl (brought_kept h (event.Tell a c) may refl e.brought);
+    brought = brought_kept g (event.Collect (length h.posts)) (collect_may g (length h.posts) new at) refl (brought_kept h (event.Tell a c) may refl e.brought);
     replied = λ j d b place item there stands reply. replied j d b place item stands reply (push_at h.posts new (ReplyPost d b place) j there);
     heard = λ j d b there. told_of j d b (push_at h.posts new (DeathPost d b) j there);
   },

@@ -12,9 +12,11 @@ use Rattle.act_walks.specs.Fits.{bound_of}
 use Rattle.act_executor.specs.PlanPlays.{step_of}
 use Rattle.act_walks.specs.Paced.{IsPaced, Others}
 use Rattle.act_walks.specs.Walking.{Parts, done_in, Stands, IsEndOf, IsWalking, GoesOn, Moves, DoesEvent, DoesPost, bring}
+use Rattle.std.proofs.lemmas.Bool.{or_parts}
 
 -- ---- where it stands
 
+-- the history of a world is that of its events
 pub behind_here : (casts : List ActorSpec) (h : History) (world : WorldView) (events : List Event) → IsBehind casts h world events → IsBehind casts (history casts events) world events
 behind_here casts h world events b = record { is = refl; reached = b.reached; accepted = b.accepted }
 
@@ -120,11 +122,6 @@ moves_last end none start now new moved goes same last = record {
 
 -- ---- one more of a row
 
-either_moved : (one two : Bool) → (one || two) ≡ false → (one ≡ false) × (two ≡ false)
-either_moved false false e = (refl, refl)
-either_moved false true e = cc
-either_moved true two e = cc
-
 -- a walk that tried a row's numbers up to n, and then the next, tried all up to that; it moved if it did in either
 pub moves_row : (end : ToldEnd) (none : ℕ → Nothing) (n m : ℕ) (p q r : Parts) (one two : Bool) → m ≡ n + 1
     → Moves end (λ told done h. (k : ℕ) → 1 ≤ k → k ≤ n → none k told done h) p q one → Moves end (none m) q r two
@@ -132,7 +129,7 @@ pub moves_row : (end : ToldEnd) (none : ℕ → Nothing) (n m : ℕ) (p q r : Pa
 moves_row end none n m p q r one two is first second = record {
   goes = goes_trans end p q r first.goes second.goes;
   still = λ e casts told en s w.
-      let both = either_moved one two e in
+      let both = or_parts one two e in
       let f = first.still both.0 casts told en s w in
       let g = second.still both.1 casts told en (first.goes.stands casts s) (first.goes.walks casts told en s w) in
       let last = subst (λ (x : Parts). none m told (done_in x.done) (history casts x.events)) f.0 g.1 in

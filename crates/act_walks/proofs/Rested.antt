@@ -21,10 +21,8 @@ use Rattle.act_rules.specs.declared.outcome.HandleRefusal.TheVariants.{NoActor, 
 use Rattle.act_rules.specs.declared.outcome.WorldRefusal.TheVariants.{Handle, NoCaller}
 use Rattle.act_rules.specs.declared.script.Step.{Step}
 use Rattle.act_rules.proofs.Ended.{needs-none}
-use Rattle.act_rules.proofs.Growth.{added_grows}
 use Rattle.act_rules.proofs.Lists.{option_map-none}
 use Rattle.act_rules.proofs.RanAll.{copies_named}
-use Rattle.act_rules.proofs.Steps.{after_all_keeps}
 use Rattle.act_early.proofs.Worlds.{contains_push}
 use Rattle.act_world.specs.View.{WorldView}
 use Rattle.act_plan_plays.specs.Parts.{IsBehind, after_mail, after_post}
@@ -38,6 +36,8 @@ use Rattle.act_walks.specs.Eager.{SomeEnd, IsAtRest}
 use Rattle.act_walks.specs.Fits.{callers_of, Fits, FitsCasts}
 use Rattle.act_walks.specs.Rested.{is_restful, OnlyRests, RestsOn, IsToldRetired, SaysRetired, CannotHappen, HoldNone, IsSettled, AreSettled}
 use Rattle.act_walks.proofs.AtRest as at_rest
+use Rattle.act_walks.proofs.Onward.{behind_here}
+use Rattle.act_executor.proofs.AsPlay.{casts_stay}
 
 -- ---- nothing else happened
 
@@ -93,11 +93,6 @@ rests_for from is = record {
 
 -- ---- one event
 
--- the history of a world is that of its events
-pub behind_itself : (casts : List ActorSpec) (h : History) (world : WorldView) (events : List Event) → IsBehind casts h world events
-    → IsBehind casts (history casts events) world events
-behind_itself casts h world events behind = record { is = refl; reached = behind.reached; accepted = behind.accepted }
-
 -- what is told of an event that is tried, and what is left
 abbrev pub Tried : Event → Result Did WorldRefusal → WorldView → WorldView → List Event → List Event → Type 0
 Tried event outcome old new before later = (casts : List ActorSpec) (h : History) → IsBehind casts h old before →
@@ -152,7 +147,7 @@ pub release_rests : (c a : ℕ) (told : Did) (old mid new : WorldView) (before b
     → RestsOn (IsToldRetired a) old new before later
 release_rests c a told old mid new before between later tried kept only brings = record {
   only = only_trans before between later (only_one before between (event.Release c a) refl kept) only;
-  behind = λ casts behind. behind_itself casts (posted casts behind).0 new later (posted casts behind).1;
+  behind = λ casts behind. behind_here casts (posted casts behind).0 new later (posted casts behind).1;
   rests = λ casts what is behind rest.
       let done = accepted (event.Release c a) told old mid before between tried casts (history casts before) behind in
       let next = brings casts (add_event (history casts before) (event.Release c a)) done.2 in
@@ -173,7 +168,7 @@ retire_rests a told old new before later tried kept = record {
   only = only_one before later (event.Retire a) refl kept;
   behind = λ casts behind.
       let done = accepted (event.Retire a) told old new before later tried casts (history casts before) behind in
-      behind_itself casts (add_event (history casts before) (event.Retire a)) new later done.2;
+      behind_here casts (add_event (history casts before) (event.Retire a)) new later done.2;
   rests = λ casts what is behind rest.
       let done = accepted (event.Retire a) told old new before later tried casts (history casts before) behind in
       subst (IsAtRest what) done.2.is (at_rest.retired what (history casts before) rest a is done.0);
@@ -280,10 +275,6 @@ release_named h c a may =
     holds = option_map-none Handle (handle_refusal (copies_of c a h))
         (needs-none (is_caller c h) NoCaller (option_map Handle (handle_refusal (copies_of c a h))) may).1
 
-same_casts : (casts : List ActorSpec) (events : List Event) → (history casts events).casts ≡ casts
-same_casts casts events =
-    after_all_keeps (λ (h : History). h.casts ≡ casts) (λ h other same may. (added_grows h other).casts ∙ same) (opening casts) events refl
-
 -- where each of those told retired is settled, all of them retired
 pub all_retired : (end : ToldEnd) (casts : List ActorSpec) (bound : ℕ → Option (List Step)) (told : Told) (world : WorldView) (events : List Event)
     → SomeEnd casts bound told → Fits end told
@@ -306,7 +297,7 @@ all_retired end casts bound told world events some fits named behind rest settle
     keeps c a (Some actor) at is may =
         let own : callers_of end a ≡ actor.callers.items = ap (λ (o : Option ToldActor). option_map_or (λ (x : ToldActor). x.callers.items) o []) at in
         let there : names c (cast_of a (opening casts)) ≡ true =
-        subst (λ (l : List ActorSpec). names c (find (λ (x : ActorSpec). x.actor == a) l) ≡ true) (same_casts casts events)
+        subst (λ (l : List ActorSpec). names c (find (λ (x : ActorSpec). x.actor == a) l) ≡ true) (casts_stay casts events)
         (release_named (history casts events) c a may) in
         let among : contains c actor.callers.items ≡ true = ap (contains c) (sym own ∙ named.callers a) ∙ there in
         (settled a actor at (said a (Some actor) at is)).hold c among casts behind may

@@ -19,6 +19,7 @@ use Rattle.act_walks.proofs.Stuck.{stuck}
 use Rattle.act_walks.proofs.Comes.{comes, post_casts}
 use Rattle.act_walks.proofs.Deaths.{tell_needs}
 use Rattle.act_walks.proofs.Onward.{Nothing, goes_trans}
+use Rattle.std.proofs.lemmas.Bool.{or_parts}
 
 -- ---- who is named
 
@@ -134,11 +135,6 @@ through end casts told walk e w none = stuck casts bound told e.some done h w.ea
 
 -- ---- a round, and all of them
 
-either_moved : (one two : Bool) → (one || two) ≡ false → (one ≡ false) × (two ≡ false)
-either_moved false false e = (refl, refl)
-either_moved false true e = cc
-either_moved true two e = cc
-
 -- two things, each of which may have moved
 pub moves_two : (end : ToldEnd) (first second both : Nothing) (p q r : Parts) (one two : Bool)
     → ((told : Told) (done : ℕ → ℕ) (h : History) → first told done h → second told done h → both told done h)
@@ -146,7 +142,7 @@ pub moves_two : (end : ToldEnd) (first second both : Nothing) (p q r : Parts) (o
 moves_two end first second both p q r one two join f s = record {
   goes = goes_trans end p q r f.goes s.goes;
   still = λ none casts told e stands w.
-      let b = either_moved one two none in
+      let b = or_parts one two none in
       let x = f.still b.0 casts told e stands w in
       let y = s.still b.1 casts told e (f.goes.stands casts stands) (f.goes.walks casts told e stands w) in
       (y.0 ∙ x.0, join told (done_in p.done) (history casts p.events) x.1 (subst (λ (z : Parts). second told (done_in z.done) (history casts z.events)) x.0 y.1));

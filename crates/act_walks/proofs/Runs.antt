@@ -1,12 +1,12 @@
 -- An actor runs the call that it is told to run next, and takes its kill.
 use Rattle.act_early.proofs.Common.{◌≡◌, ℕ, Bool, true, false, List, [], length, Option, Some, None, refl, ap, sym, ◌∙◌, subst, slice_get, option_map, is_some}
-use Rattle.act_early.proofs.Common.{map-slice_get, Event, RunItem, Answer, ActorSpec, History, history, names, cast_of, kept_at, runs_of, is_dead, is_retired, is_ended, next_item, is_reply, ◌||◌}
+use Rattle.act_early.proofs.Common.{map-slice_get, Event, RunItem, Answer, ActorSpec, History, history, names, cast_of, kept_at, runs_of, is_dead, is_ended, next_item, is_reply}
 use Rattle.act_early.proofs.Common.{refusal_of, add_event, run_needs}
-use Rattle.act_plan_plays.proofs.Common.{IsBehind, Packet, SlotView, Runs, Died, Ended, Vacant, WorldView, IsStage, stage_of_slot, has_next_in_slot, Refines, next_is, item_is, item_of, or_second}
+use Rattle.act_plan_plays.proofs.Common.{IsBehind, WorldView, Refines}
 use Rattle.act_plan_plays.proofs.Common.{after_post, shows_next, did, did_run, Did, option_map_or, length-map}
+use Rattle.act_plan_plays.proofs.Chosen.{next_slot}
 use Rattle.std.proofs.lemmas.Option.{slice_get-map}
 use Rattle.std.specs.Prelude.{map}
-use Rattle.act_plan_plays.proofs.Seen.{cast_some}
 use Rattle.act_rules.specs.declared.event.Event.TheVariants as event
 use Rattle.act_rules.specs.declared.outcome.Did.TheVariants as did_so
 use Rattle.act_told_ends.specs.Told.{Told}
@@ -27,29 +27,6 @@ use Rattle.act_walks.proofs.Onward.{stands_event, stands_post, walking_to, moves
 use Rattle.act_walks.proofs.Calls.{moves_refused}
 
 -- ---- what the world shows
-
-same_some : (o : Option Packet) → is_some (option_map item_of o) ≡ is_some o
-same_some None = refl
-same_some (Some packet) = refl
-
-no_cast : (h : History) (a : ℕ) (P : Type 0) → cast_of a h ≡ None → is_some (cast_of a h) ≡ true → P
-no_cast h a P none some = let bad : true ≡ false = sym some ∙ ap (λ (o : Option ActorSpec). is_some o) none in cc
-
-ended_by : (h : History) (a : ℕ) (P : Type 0) → is_ended a h ≡ true → is_ended a h ≡ false → P
-ended_by h a P ended live = let bad : true ≡ false = sym ended ∙ live in cc
-
-or_one : (x y : Bool) → x ≡ true → (x || y) ≡ true
-or_one true y e = refl
-or_one false y e = cc
-
-next_slot : (h : History) (a c : ℕ) (o : Option SlotView) → IsStage h a o → names c (cast_of a h) ≡ true → is_ended a h ≡ false → is_some (next_item a c h) ≡ true
-    → option_map_or (has_next_in_slot c) (stage_of_slot o) false ≡ true
-next_slot h a c None is named live next = no_cast h a _ is (cast_some (cast_of a h) c named)
-next_slot h a c (Some Vacant) is named live next = no_cast h a _ is (cast_some (cast_of a h) c named)
-next_slot h a c (Some (Runs one)) is named live next =
-    ap (λ (o : Option Packet). is_some o) (next_is h a c one is named) ∙ sym (same_some _) ∙ sym (ap (λ (o : Option RunItem). is_some o) (item_is h a c)) ∙ next
-next_slot h a c (Some (Died dead)) is named live next = ended_by h a _ (or_one (is_dead a h) (is_retired a h) is.died) live
-next_slot h a c (Some (Ended retired)) is named live next = ended_by h a _ (or_second (is_dead a h) (is_retired a h) is.ended) live
 
 shown : (casts : List ActorSpec) (h : History) (world : WorldView) (events : List Event) (a c : ℕ) → IsBehind casts h world events → names c (cast_of a h) ≡ true → is_ended a h ≡ false
     → is_some (next_item a c h) ≡ true → shows_next world a c ≡ true

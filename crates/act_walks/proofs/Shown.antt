@@ -2,8 +2,8 @@
 use Rattle.act_early.proofs.Common.{◌≡◌, ℕ, Bool, true, false, cond, List, [], ◌∷◌, ◌++◌, length, Option, Some, None, refl, ap, sym, ◌∙◌, subst, ◌==◌, map, slice_get, is_some}
 use Rattle.act_early.proofs.Common.{eqb-true, under-push, append-nil, Event, RunItem, Submission, ActorSpec, History, opening, cast_of, is_caller, calls_of, kept_of}
 use Rattle.act_early.proofs.Common.{runs_of, first_answer, kept_at, next_item, after_run, IsKept, after_all_keeps, run_needs, Retires, world_retires}
+use Rattle.act_early.proofs.Choosing.{cast_known}
 use Rattle.act_plan_plays.proofs.Common.{WorldView, IsBehind, named_call, named_caller, enumerate_from}
-use Rattle.act_plan_plays.proofs.Seen.{cast_some}
 use Rattle.std.proofs.Common.{Bor, option_copied, nat_lt, get_or}
 use Rattle.std.proofs.lemmas.Bool.{ltb-false}
 use Rattle.std.proofs.lemmas.Option.{slice_get_past}
@@ -51,7 +51,7 @@ cast_step h (event.Release c b) cast may = cast
 cast_step h (event.Send c k) cast may = cast
 cast_step h (event.Deliver i) cast may = cast
 cast_step h (event.Run b c) cast may = λ a none.
-    run_cast h b c a (next_item b c h) cast (cast_some (cast_of b h) c (run_needs h b c may).1) (casts (next_item b c h) a none)
+    run_cast h b c a (next_item b c h) cast (cast_known (cast_of b h) c (run_needs h b c may).1) (casts (next_item b c h) a none)
   where
     casts : (o : Option RunItem) (a : ℕ) → cast_of a (after_run b c h o) ≡ None → cast_of a h ≡ None
     casts None a e = e

@@ -1,15 +1,13 @@
 -- Where an eager walk can do nothing of what is told, it is through.
-use Rattle.act_early.proofs.Common.{◌≡◌, ℕ, zero, suc, Bool, true, false, List, [], ◌∷◌, ◌++◌, length, Option, Some, None, inl, inr, ◌⊎◌, refl, ap, sym, ◌∙◌, subst}
-use Rattle.act_early.proofs.Common.{Contains, slice_get, is_some, ◌||◌, not, not-true, option_map, Letter, RunItem, Post, Submission, Step, Answer}
+use Rattle.act_early.proofs.Common.{◌≡◌, ℕ, true, false, List, [], ◌∷◌, ◌++◌, length, Option, Some, None, inl, inr, ◌⊎◌, refl, ap, sym, ◌∙◌, subst}
+use Rattle.act_early.proofs.Common.{Contains, slice_get, is_some, not, not-true, option_map, Letter, RunItem, Post, Submission, Step, Answer}
 use Rattle.act_early.proofs.Common.{Handle, NoCaller, ActorEnded, handle_refusal, ActorSpec, History, opening, contains, names, cast_of, is_caller, copies_of}
-use Rattle.act_early.proofs.Common.{calls_of, runs_of, is_dead, is_ended, is_letter, has_letter, next_item, refusal_of, add_event, after_run, and_also}
+use Rattle.act_early.proofs.Common.{calls_of, runs_of, is_dead, is_ended, has_letter, next_item, refusal_of, add_event, after_run, and_also}
 use Rattle.act_early.proofs.Common.{letter_actor, deliver_refusal, needs-none, copies_named, MayTake, IsKept, after_all_keeps, Contains-append_left, IsPrefix}
 use Rattle.act_early.proofs.Common.{added_grows}
 use Rattle.act_rules.specs.declared.event.Event.TheVariants as event
 use Rattle.act_rules.specs.declared.history.Post.TheVariants.{Death as DeathPost}
 use Rattle.act_rules.specs.declared.script.Step.TheVariants.{Kill}
-use Rattle.act_early.proofs.Notes.{same_letter}
-use Rattle.act_early.proofs.Worlds.{or_second}
 use Rattle.act_told_ends.specs.Told.{Told}
 use Rattle.act_told_ends.specs.Walks.{MayGoOn, Calls, Asks, Steps, DoesWithout, Sends, Delivers, Runs, Collects, TakesKill, Tells, Hears, IsThrough, IsNextRun}
 use Rattle.act_told_ends.specs.Walks.{MayHear}
@@ -20,6 +18,7 @@ use Rattle.act_told_ends.proofs.Stepped.{goes_on}
 use Rattle.act_plan_plays.specs.Parts.{IsBrought}
 use Rattle.act_walks.specs.Eager.{SomeEnd, IsEager, KillsAreAsked, IsAtRest}
 use Rattle.act_walks.proofs.Eager.{going_of}
+use Rattle.act_world.proofs.Lawful.{has_letter-at}
 
 -- ---- what was collected was posted
 
@@ -70,20 +69,10 @@ was_posted casts bound told done h walked =
 
 -- ---- letters
 
-pub letter_at : (letter : Letter) (letters : List Letter) (i : ℕ) → slice_get letters i ≡ Some letter → has_letter letter letters ≡ true
-letter_at letter [] i at = cc
-letter_at letter (x ∷ letters) zero at = let one : x ≡ letter = cc in
-    first (is_letter letter x) (has_letter letter letters) (ap (is_letter letter) one ∙ same_letter letter)
-  where
-    first : (y z : Bool) → y ≡ true → (y || z) ≡ true
-    first true z e = refl
-    first false z e = cc
-letter_at letter (x ∷ letters) (suc i) at = or_second (is_letter letter x) (has_letter letter letters) (letter_at letter letters i at)
-
 -- a letter that may be delivered has arrived
 pub has_arrived : (h : History) (i : ℕ) (letter : Letter) → IsBrought h → slice_get h.mail i ≡ Some letter → refusal_of h (event.Deliver i) ≡ None
     → has_letter letter h.arrived ≡ true
-has_arrived h i letter brought at may = brought letter (letter_at letter h.mail i at)
+has_arrived h i letter brought at may = brought letter (has_letter-at letter h.mail i at)
     (not-true (is_ended (letter_actor letter) h)
     (needs-none (not (is_ended (letter_actor letter) h)) ActorEnded None (ap (λ (o : Option Letter). deliver_refusal o h) (sym at) ∙ may)).0)
 

@@ -16,6 +16,7 @@ use Rattle.act_walks.specs.Walking.{Parts, done_in, Stands, ComesThrough}
 use Rattle.act_walks.specs.Whole.{HasDone, HaveDone, GoesFar, DoesAllSteps, Decides}
 use Rattle.act_walks.proofs.Paced.{does_all_its_steps}
 use Rattle.act_walks.proofs.Stuck.{at_rest}
+use Rattle.act_walks.proofs.Calls.{bound_is}
 
 -- ---- how many steps a caller did
 
@@ -48,9 +49,6 @@ all_done end casts walk s have c steps is =
     exactly (done_in walk.done c) (length steps) (at_most casts (bound_of end) (done_in walk.done) walk.events s.paced c steps is) (have c steps is)
 
 -- ---- whether callers did all their steps
-
-pub bound_to : (end : ToldEnd) (c : ℕ) (caller : ToldCaller) → caller_in end c ≡ Some caller → bound_of end c ≡ steps_in caller
-bound_to end c caller there = ap (option_and_then steps_in) there
 
 has_done : (done : List ℕ) (n len number : ℕ) (steps : List Step) (o : Option (List Step)) → o ≡ Some steps → len ≡ length steps → n ≡ done_in done number
     → (leb len n ≡ true → (other : List Step) → o ≡ Some other → length other ≤ done_in done number)
@@ -102,7 +100,7 @@ have_done_all end done n whole to c steps bound = go (caller_in end c) refl boun
 pub not_done : (end : ToldEnd) (done : List ℕ) (n : ℕ) (caller : ToldCaller) → n < length end.callers.items → caller ≡ get_or end.callers.items n caller → HaveDone end done → HasDone done n caller
 not_done end done n caller within is have steps own =
     let at : caller_in end n ≡ Some caller = slice_get-get_or end.callers.items n caller within ∙ ap (λ (x : ToldCaller). Some x) (sym is) in
-    have n steps (bound_to end n caller at ∙ own)
+    have n steps (bound_is end n caller at ∙ own)
 
 -- ---- from the opened world on
 
