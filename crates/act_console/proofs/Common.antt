@@ -24,7 +24,7 @@ pub use Rattle.act_executor.specs.Plays.{IsEndIn, IsOwnerIn, IsPlayOf}
 pub use Rattle.act_executor.specs.Runs.{IsFault, plan_view}
 pub use Rattle.act_executor.specs.declared.run.RunFault.{RunFault}
 pub use Rattle.act_owner.specs.Owner.{OwnerView}
-pub use Rattle.act_plans.proofs.Keys.{pairs_of_map}
+pub use Rattle.act_plans.proofs.Keys.{none_any, pairs_of_map}
 pub use Rattle.act_plans.proofs.Matching.{numbers_differ}
 pub use Rattle.act_plans.proofs.Numbers.{fails_more, in_one_to, passes_more}
 pub use Rattle.act_plans.proofs.Taking.{find_some}
@@ -75,6 +75,7 @@ pub use Rattle.std.proofs.Common.{All, AllPairs, Bool, Err, IfSome, IsSome, List
 pub use Rattle.std.proofs.Common.{decimal, drop, drop-cons, eq-eqb, false, filter, filter_map, find, get_or, if◌then◌else◌, inl, inr, is_some, length}
 pub use Rattle.std.proofs.Common.{length-append, map, nat_lt, not, option_and_then, option_copied, option_map, position, refl, reverse, rules, slice_get}
 pub use Rattle.std.proofs.Common.{string_bytes, subst, suc, sym, take, true, vec_len, zero, ℕ, ◌&&◌, ◌++◌, ◌+◌, ◌-◌, ◌<◌, ◌==◌, ◌||◌, ◌∙◌, ◌∷◌, ◌≡◌, ◌≢◌, ◌≤◌}
+pub use Rattle.std.proofs.KnownBytes.{Appends-trans, Keeps-refl}
 pub use Rattle.std.proofs.Math.Bool.{or-true}
 pub use Rattle.std.proofs.Math.ListN.{drop_of_length-le, set}
 pub use Rattle.std.proofs.lemmas.Bool.{eqb-true, ne_eqb, or_parts}

@@ -5,7 +5,7 @@ use Rattle.act_console.proofs.Common.{Submission, Step, Answer, state_after, kep
 use Rattle.act_console.proofs.Common.{runs_of, is_retired, history, one_to, numbered_lines, line, future_text, kept_text, future_line, future_lines}
 use Rattle.act_console.proofs.Common.{actor_lines, stage_of, summary, list_any-map, OwnerView, EndView, Killed, Retired, Starved, end_id, IfRetired, owner_of}
 use Rattle.act_console.proofs.Common.{end_of, calls_of_owner, kept_of_owner, log_of_end, calls_in, kept_in, log_in, RanAll, IsJoined, casts_stay, all_in}
-use Rattle.act_console.proofs.Common.{found_is, world_lawful, calls_are, IsOwnerIn, IsEndIn, IsPlayOf, end_text, end_text_in}
+use Rattle.act_console.proofs.Common.{found_is, world_lawful, calls_are, IsOwnerIn, IsEndIn, IsPlayOf, end_text, end_text_in, none_any}
 use Rattle.std.proofs.Common.{flat_map}
 use Rattle.std.specs.Option.{option_map}
 use Rattle.act_console.specs.Threads.{joined_summary}
@@ -13,14 +13,6 @@ use Rattle.act_console.proofs.Shown.{uncast, stage_at}
 use Rattle.act_console.proofs.Sorting.{among_numbers}
 
 -- ---- lists
-
-none_any : {X : Type 0} (p : X → Bool) (xs : List X) → find p xs ≡ None → list_any p xs ≡ false
-none_any p [] none = refl
-none_any p (x ∷ xs) none = go (p x) none (none_any p xs)
-  where
-    go : (b : Bool) → cond b (Some x) (find p xs) ≡ None → (find p xs ≡ None → list_any p xs ≡ false) → (b || list_any p xs) ≡ false
-    go true none rest = absurd (cc)
-    go false none rest = rest none
 
 any_none : {X : Type 0} (p : X → Bool) (xs : List X) → list_any p xs ≡ false → find p xs ≡ None
 any_none p [] none = refl

@@ -1,7 +1,7 @@
 -- What a play and a run in threads wrote, by what there was to be written.
-use Rattle.act_console.proofs.Common.{ℕ, ◌+◌, List, Option, Some, None, Result, Ok, Err, refl, ap, subst, sym, ◌∙◌, string_bytes, Keeps, Appends}
+use Rattle.act_console.proofs.Common.{ℕ, ◌+◌, List, Option, Result, Ok, Err, ap, subst, sym, ◌∙◌, string_bytes, Appends}
 use Rattle.act_console.proofs.Common.{MAX_SCRIPT_BYTES, Wrong, Play, Script, spelled, text_of, Output, Report, Refusal, ConsoleFault, IsWholeInput}
-use Rattle.act_console.proofs.Common.{AppendsPrefix, Wrote, IsPlayOutput, ScriptPlayed, IsToldOf, IsThreadsOutput, Threaded, spelled_threads}
+use Rattle.act_console.proofs.Common.{AppendsPrefix, Wrote, IsPlayOutput, ScriptPlayed, IsToldOf, IsThreadsOutput, Threaded, spelled_threads, Keeps-refl}
 use Rattle.act_console.specs.declared.fault.ConsoleFault.TheVariants as faults
 
 module _ (had left old new : Option (List ℕ)) (bytes : List ℕ) (whole : IsWholeInput (MAX_SCRIPT_BYTES + 1) had left bytes) where
@@ -35,15 +35,11 @@ module _ (had left old new : Option (List ℕ)) (bytes : List ℕ) (whole : IsWh
   told (Refusal text) (Err faults.Thread) is wrote = absurd wrote
   told (Refusal text) (Err faults.Reading) is wrote = absurd wrote
 
-keeps_itself : (contents : Option (List ℕ)) → Keeps contents contents
-keeps_itself None = tt
-keeps_itself (Some bytes) = refl
-
 module _ (had left old : Option (List ℕ)) (bytes : List ℕ) (whole : IsWholeInput (MAX_SCRIPT_BYTES + 1) had left bytes) where
   -- nothing was to be written
   pub untold : (fault : ConsoleFault) → IsThreadsOutput (Err fault) (spelled_threads bytes) → Threaded had left old old (Err fault)
-  untold faults.Memory is = keeps_itself old
-  untold faults.Thread is = (bytes, whole, is.0, is.1, keeps_itself old)
+  untold faults.Memory is = Keeps-refl old
+  untold faults.Thread is = (bytes, whole, is.0, is.1, Keeps-refl old)
   untold faults.Script is = absurd is
   untold faults.Reading is = absurd is
   untold faults.Writing is = absurd is

@@ -68,7 +68,7 @@ pub use Rattle.std.proofs.Common.{append-nil, append_assoc, arith, false, filter
 pub use Rattle.std.proofs.Common.{nat_lt, not, option_map, option_to_list, refl, replicate, rules, set, slice_get, slice_set, subst, suc, sym, take, true}
 pub use Rattle.std.proofs.Common.{unwrap_or, zero, zip, ℕ, ◌&&◌, ◌++◌, ◌+◌, ◌-◌, ◌<◌, ◌==◌, ◌||◌, ◌∙◌, ◌∷◌, ◌≡◌, ◌≢◌, ◌≤◌, ◌⊎◌}
 pub use Rattle.std.proofs.Math.Seq.{map-set_same}
-pub use Rattle.std.proofs.lemmas.Bool.{eq-eqb, ne_eqb, or_parts, or_right}
+pub use Rattle.std.proofs.lemmas.Bool.{eq-eqb, ne_eqb, not-true, or_parts, or_right}
 pub use Rattle.std.proofs.lemmas.Bool.Decides.{eqb_tells, leb_tells}
 pub use Rattle.std.proofs.lemmas.Grind.{get_or-set_at}
 pub use Rattle.std.proofs.lemmas.List.{get_or-map, get_or-replicate, get_or-set_other, get_or-set_same, get_or_append_left, get_or_default, get_or_past}

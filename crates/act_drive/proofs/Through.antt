@@ -22,10 +22,6 @@ none_waits a (first ∷ calls) (answer ∷ kept) long none (suc k) call at of =
 pub all_answered : (owner : OwnerView) (a : ℕ) → length owner.kept ≡ length owner.calls → list_any (call_waits_for a) (zip owner.calls owner.kept) ≡ false → AreAnswered owner a
 all_answered owner a places none k call at of = none_waits a owner.calls owner.kept places none k call at of
 
-pub not_true : (b : Bool) → not b ≡ true → b ≡ false
-not_true true is = absurd (cc is)
-not_true false is = refl
-
 -- its note was posted and none of its calls waits
 pub through_answered : (lines : CallerLines) (driver : Driver) (a : ℕ) → IsCalling lines driver → get_or driver.noted a false ≡ true → list_any (call_waits_for a) (zip driver.owner.calls driver.owner.kept) ≡ false → IsThrough driver.owner driver.passes a
 through_answered lines driver a calling noted none = inr ((calling.noted a noted).posted, all_answered driver.owner a calling.places none)

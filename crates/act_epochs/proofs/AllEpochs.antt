@@ -19,10 +19,12 @@ use Rattle.act_serve.specs.Served.{EndView}
 use Rattle.act_drive.specs.Sessions.{SessionView}
 use Rattle.act_plans.specs.Runs.{cast_at}
 use Rattle.act_executor.specs.Joined.{end_of, log_of_end, calls_in, log_in, killed_in}
+use Rattle.act_executor.proofs.Cuts.{pairs_append}
+use Rattle.act_executor.proofs.Heard.{front_after}
 use Rattle.act_own.specs.Kept.{OpensAt}
 use Rattle.act_epochs.specs.Epochs.{Epoch, IsEpoch, casts_left, AreEpochs, casts_after}
 use Rattle.act_epochs.specs.OverEpochs.{runs, submitted_in, ran_in, IsInState, IsAnswerOfAllRuns, IsOver, AreConsistent, CastKeeps}
-use Rattle.act_epochs.proofs.Lists.{front_behind, front_before, pairs_append, state_after-append, place_behind, answer_between}
+use Rattle.act_epochs.proofs.Lists.{front_before, state_after-append, place_behind, answer_between}
 use Rattle.act_epochs.proofs.OneEpoch.{submitted_as, ran_as, no_end, no_calls, left_is, none_left, killed_leaves_none, other_is_left, ran_front, ran_whole, left_state, calls_differ}
 
 -- the calls of a later epoch have a later number
@@ -111,7 +113,7 @@ module _ {C : Type 0} (tells : C → SessionView → SessionView → Type 0) whe
           let later = flat_map (submitted_in a c) (enumerate_from (n + 1) epochs) in
           let is = left_is are.1.joined.joined a left some in
           subst (λ (l : List (ℕ × ℕ)). IsPrefix (l ++ ran_later) (sent_here ++ later)) (sym (ran_whole are.1.joined.joined n a c left is))
-          (front_behind sent_here ran_later later more)
+          (front_after sent_here ran_later later more)
 
   -- an actor that has a cast left had one after each epoch
   still : (casts : List ActorSpec) (epochs : List (Epoch C)) → AreEpochs tells casts epochs → (a : ℕ) (left : ActorSpec) → cast_at a (casts_after casts epochs) ≡ Some left → (cast : ActorSpec) × (cast_at a casts ≡ Some cast)

@@ -2,7 +2,7 @@
 use Rattle.std.proofs.Common.{◌≡◌, ◌≢◌, ℕ, zero, suc, ◌+◌, ◌≤◌, List, [], ◌∷◌, ◌++◌, length, Option, Some, None, refl, ap, sym, ◌∙◌, arith, append_assoc, append-nil, All, AllPairs}
 use Rattle.std.specs.Prelude.{filter_map, slice_get}
 use Rattle.std.specs.List.{enumerate_from, cons_option}
-use Rattle.std.proofs.lemmas.List.Elements.{All-nil, All-cons, All-head, All-tail, All-append, All-weaker}
+use Rattle.std.proofs.lemmas.List.Elements.{All-nil, All-cons, All-weaker}
 use Rattle.std.proofs.lemmas.List.Kept.{AllPairs-cons}
 use Rattle.act_types.specs.KindState.{KindState}
 use Rattle.act_rules.specs.declared.history.RunItem.{RunItem}
@@ -12,10 +12,6 @@ use Rattle.act_rules.proofs.Kept.{answers_from-append, length-answers_from, answ
 use Rattle.act_executor.proofs.Elements.{IsIn}
 
 -- ---- prefixes
-
--- a prefix behind the same list
-pub front_behind : {A : Type 0} (xs ys zs : List A) → IsPrefix ys zs → IsPrefix (xs ++ ys) (xs ++ zs)
-front_behind xs ys zs f = (f.0, append_assoc xs ys f.0 ∙ ap (λ l. xs ++ l) f.1)
 
 -- a prefix, where nothing follows it and the whole goes on
 pub front_before : {A : Type 0} (xs ys zs : List A) → IsPrefix xs ys → IsPrefix (xs ++ []) (ys ++ zs)
@@ -43,27 +39,7 @@ came_from {A} {B} f (x ∷ xs) k y e = go (f x) refl k (λ (m : ℕ). came_from 
     go (Some z) is zero rest e = record { one = x; inside = record { place = 0; at = refl }; gives = is ∙ e }
     go (Some z) is (suc m) rest e = later (rest m e)
 
--- an element that gives something stands for it
-pub goes_to : {A B : Type 0} (f : A → Option B) (xs : List A) (k : ℕ) (x : A) (y : B) → slice_get xs k ≡ Some x → f x ≡ Some y → IsIn (filter_map f xs) y
-goes_to f [] k x y e gives = cc
-goes_to {A} {B} f (z ∷ xs) zero x y e gives =
-    let same : z ≡ x = cc in
-    let here : f z ≡ Some y = ap f same ∙ gives in
-    record { place = 0; at = ap (λ (o : Option B). slice_get (cons_option o (filter_map f xs)) 0) here }
-goes_to {A} {B} f (z ∷ xs) (suc k) x y e gives = go (f z) (goes_to f xs k x y e gives)
-  where
-    go : (o : Option B) → IsIn (filter_map f xs) y → IsIn (cons_option o (filter_map f xs)) y
-    go None i = i
-    go (Some w) i = record { place = suc i.place; at = i.at }
-
 -- ---- no element stands twice
-
-pub pairs_append : {A : Type 0} (R : A → A → Type 0) (xs ys : List A) → AllPairs R xs → AllPairs R ys → All (λ x. All (R x) ys) xs → AllPairs R (xs ++ ys)
-pairs_append R [] ys first second apart = second
-pairs_append R (x ∷ xs) ys first second apart =
-    AllPairs-cons R x (xs ++ ys)
-    (All-append (R x) xs ys (λ k d below. first 0 (suc k) d (omega arith) (omega (arith, below))) (All-head (λ z. All (R z) ys) x xs apart))
-    (pairs_append R xs ys (λ i j d lt below. first (suc i) (suc j) d (omega (arith, lt)) (omega (arith, below))) second (All-tail (λ z. All (R z) ys) x xs apart))
 
 pub from_number : {A : Type 0} (n : ℕ) (xs : List A) → All (λ (p : ℕ × A). n ≤ p.0) (enumerate_from n xs)
 from_number n [] = All-nil (λ p. n ≤ p.0)

@@ -29,8 +29,9 @@ use Rattle.act_plans.proofs.Matching.{numbers_differ}
 use Rattle.act_executor.specs.Joined.{IsJoined, RanAll, is_killed, is_killed_end, is_starved, end_of, log_of_end, calls_in, log_in, killed_in}
 use Rattle.act_executor.proofs.Elements.{IsIn, all_in, found_is, finds, any_is, empty_by_places, enumerated}
 use Rattle.act_executor.proofs.Found.{one_of, planned_known}
+use Rattle.act_executor.proofs.Stamped.{mapped_at}
 use Rattle.act_epochs.specs.Epochs.{cast_of_end}
-use Rattle.act_epochs.proofs.Lists.{came_from, goes_to, places_apart}
+use Rattle.act_epochs.proofs.Lists.{came_from, places_apart}
 
 -- the actor retired, and this cast is left of it
 pub record IsLeft (casts : List ActorSpec) (owners : List OwnerView) (ends : List EndView) (a : ℕ) (left : ActorSpec) : Type 0 where
@@ -175,7 +176,7 @@ module _ {casts : List ActorSpec} {steps : List (ℕ × List Step)} {owners : Li
           let ran : RanAll casts owners retired = all_in (λ (e : EndView). IfRetired e (RanAll casts owners)) ends (Retired retired) joined.retired found.inside in
           let left : ActorSpec = record ran.cast { opening = retired.state } in
           let gives : cast_of_end casts (Retired retired) ≡ Some left = ap (option_map (λ (cast : ActorSpec). record cast { opening = retired.state })) ran.at in
-          let there = goes_to (cast_of_end casts) ends found.inside.place (Retired retired) left found.inside.at gives in
+          let there = mapped_at (cast_of_end casts) ends found.inside.place (Retired retired) left found.inside.at gives in
           let names : (left.actor == a) ≡ true = eq-eqb left.actor a (cast_names retired.id casts ran.cast ran.at ∙ id) in
           let one = finds (λ (cast : ActorSpec). cast.actor == a) (filter_map (cast_of_end casts) ends) there.place left there.at names in
           (one.one, one.is)

@@ -7,7 +7,8 @@ use Rattle.act_executor.proofs.Common.{HasRunAllCalls, IsCaused, owner_after, is
 use Rattle.act_executor.proofs.Common.{unrefused_rest, sent_known, gone_stays, ActorStep, LetterTaken, CallRun, KillTaken, DeathTold, Retirement, log_of_steps}
 use Rattle.act_executor.proofs.Common.{has_died_in, has_ended_in, ActorMayDo, ActorMayDoAll, CallerStep, ChangeMade, KillAsked, change_made, changes_made}
 use Rattle.act_executor.proofs.Common.{packet_of_item, note_after_calls, CallerThreads, ActorThreads, opened_by, IsCallPosted, IsNotePosted, AreTraced}
-use Rattle.act_executor.proofs.Cuts.{contains_mid, contains_map, contains_filter_map, contained_in_front, shorter_front}
+use Rattle.act_executor.proofs.Common.{contains_map}
+use Rattle.act_executor.proofs.Cuts.{contains_mid, contains_filter_map, contained_in_front, shorter_front}
 use Rattle.act_executor.proofs.Threads.{deed_of_actor}
 use Rattle.act_executor.proofs.MayDo.{caller_may, unrefused_all, changes_split, ActorMay, actor_may, actor_may_at}
 use Rattle.act_executor.proofs.Seen.{IsActorFront, IsSeen}

@@ -109,6 +109,7 @@ pub use Rattle.act_rules.specs.declared.history.Submission.{Submission}
 pub use Rattle.act_rules.specs.declared.script.Step.{Step}
 pub use Rattle.act_rules.specs.declared.script.Step.TheVariants.{Await, Copy, Kill, Release, Submit}
 pub use Rattle.act_serve.proofs.Answered.{replies_answer, replies_are_due}
+pub use Rattle.act_serve.proofs.Clocks.{contains_map}
 pub use Rattle.act_serve.specs.ActorSteps.{ActorMayDo, ActorMayDoAll, ActorStep, CallRun, DeathTold, KillTaken, LetterTaken, Retirement, call_run, has_died_in}
 pub use Rattle.act_serve.specs.ActorSteps.{has_ended_in, is_kill_step, is_retirement, kill_taken, letter_taken, log_of_steps}
 pub use Rattle.act_serve.specs.ActorTraces.{IsActorTrace, IsActorTraced, IsGivenAfter, exec_clock}
@@ -141,7 +142,7 @@ pub use Rattle.std.proofs.Common.{◌≡◌, ◌≢◌, ◌≤◌, ◌⊎◌}
 pub use Rattle.std.proofs.Math.Bool.{or-false}
 pub use Rattle.std.proofs.Math.Nat.{eq-or-lt_of_le}
 pub use Rattle.std.proofs.Math.Seq.{map-set_same}
-pub use Rattle.std.proofs.lemmas.Bool.{and_parts, cases_Bool, eq-eqb, eqb-true, leb-false, leb-true, ne_eqb, or_cases, or_right}
+pub use Rattle.std.proofs.lemmas.Bool.{and_parts, cases_Bool, eq-eqb, eqb-true, leb-false, leb-true, ne_eqb, not-true, or_cases, or_right}
 pub use Rattle.std.proofs.lemmas.Bool.Decides.{eqb_tells, leb_tells}
 pub use Rattle.std.proofs.lemmas.List.{get_or-map, get_or_default, length-map, length-take-le, map-append, map_more, nil_from_length, same_lists, set-get_or}
 pub use Rattle.std.proofs.lemmas.List.{take_all}

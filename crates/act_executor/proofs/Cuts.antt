@@ -1,7 +1,7 @@
 -- Lists that are cut: where what was found, contained or mapped stands in a front.
 use Rattle.act_executor.proofs.Common.{◌≡◌, ◌≢◌, ℕ, zero, suc, ◌≤◌, ◌<◌, ◌==◌, Bool, true, false, List, [], ◌∷◌, ◌++◌, Option, Some, None, All, inl, inr, refl}
 use Rattle.act_executor.proofs.Common.{ap, sym, ◌∙◌, subst, arith, Contains, ◌⊎◌, map, filter_map, slice_get, nat_le, AllPairs, AllByRecursion, cons_option}
-use Rattle.act_executor.proofs.Common.{eq-eqb, leb-true, leb-false, eqb_tells, length-map, get_or-map, All-append, All-head, All-tail, Contains-append_right}
+use Rattle.act_executor.proofs.Common.{eq-eqb, leb-true, leb-false, eqb_tells, All-append, All-head, All-tail, Contains-append_right}
 use Rattle.act_executor.proofs.Common.{AllPairs-cons, IsPrefix, under, under_here, under_other}
 
 -- ---- what is contained
@@ -16,9 +16,6 @@ contains_head xs x = (0, omega arith, refl)
 pub contains_mid : {A : Type 0} (xs ys : List A) (x : A) → Contains (xs ++ x ∷ ys) x
 contains_mid xs ys x = Contains-append_right xs (x ∷ ys) x (contains_head ys x)
 
-pub contains_map : {A B : Type 0} (f : A → B) (xs : List A) (x : A) → Contains xs x → Contains (map f xs) (f x)
-contains_map f xs x has = let lt = has.1 in let long = length-map xs f in (has.0, omega arith, get_or-map f xs has.0 x (f x) has.1 ∙ ap f has.2)
-
 pub contains_filter_map : {A B : Type 0} (f : A → Option B) (xs : List A) (x : A) (y : B) → f x ≡ Some y → Contains xs x → Contains (filter_map f xs) y
 contains_filter_map f [] x y is has = absurd (let below = has.1 in omega arith)
 contains_filter_map {B = B} f (z ∷ xs) x y is (zero, below, same) =
@@ -31,6 +28,7 @@ contains_filter_map {B = B} f (z ∷ xs) x y is (suc k, below, same) = go (f z) 
 
 -- ---- pairs of two lists
 
+-- pairs of two lists, and pairs across them, are those of the whole
 pub pairs_append : {A : Type 0} (R : A → A → Type 0) (xs ys : List A) → AllPairs R xs → AllPairs R ys → All (λ x. All (R x) ys) xs → AllPairs R (xs ++ ys)
 pairs_append R [] ys one other across = other
 pairs_append R (x ∷ xs) ys one other across =

@@ -5,8 +5,7 @@ use Rattle.act_executor.proofs.Common.{All-contains, slice_get_within, get_or_fr
 use Rattle.act_executor.proofs.Common.{Cast, PutterView, new_putter, MailView, ControlView, starter, RepliesView, ReplyExecView, new_exec, IsNoDeath, Letter}
 use Rattle.act_executor.proofs.Common.{Asked, Endpoint, ExecPasses, caller_at, endpoint_callers, IsAtItsEndpoint, EndpointsDiffer, CallerPasses}
 use Rattle.act_executor.proofs.Common.{IsFreshEndpoint, AreDistinct, IsKillEndpoint, AreKillEndpoints, CallerSetup, AreMatched, Opened, group_of}
-use Rattle.act_executor.proofs.Common.{endpoints_from, IsExec, IsCaller, ArePaired, AreLines, AreAtLines, AreOpened, both_ways}
-use Rattle.act_executor.proofs.Cuts.{contains_map}
+use Rattle.act_executor.proofs.Common.{endpoints_from, IsExec, IsCaller, ArePaired, AreLines, AreAtLines, AreOpened, both_ways, contains_map}
 use Rattle.act_executor.proofs.Endpoints.{each_of, has_of, rising_of}
 use Rattle.act_executor.proofs.Places.{at_both, at_other, as_long, each_at, all_at, map_apart, pairs_weaker, apart_at, has_contains, contains_name, all_names, only_cast}
 

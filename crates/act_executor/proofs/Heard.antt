@@ -120,7 +120,8 @@ end_posts a c (Killed dead) = whole_front (DeathPost c a ∷ [])
 end_posts a c (RetiredEnd retired) = (DeathPost c a ∷ [], refl)
 end_posts a c (Starved dead) = whole_front (DeathPost c a ∷ [])
 
-front_after : {A : Type 0} (xs ys zs : List A) → IsPrefix ys zs → IsPrefix (xs ++ ys) (xs ++ zs)
+-- a prefix behind the same list
+pub front_after : {A : Type 0} (xs ys zs : List A) → IsPrefix ys zs → IsPrefix (xs ++ ys) (xs ++ zs)
 front_after {A = A} xs ys zs front = (front.0, append_assoc xs ys front.0 ∙ ap (λ (l : List A). xs ++ l) front.1)
 
 pub given_posts : (opening : KindState) (a c : ℕ) (log : List RunItem) (end : EndView) (notices : List Notice) → IsPrefix notices (replies_to opening a log c ++ deaths a end)

@@ -60,7 +60,7 @@ alive_told owner notices k answer alive told = go (is_death answer) refl told
     go false is told = told
 
 -- what was given at an endpoint, said of the endpoint's caller and the cast's actor
-given_to : (replies : List RepliesView) (cast : ActorSpec) (a c : ℕ) (s : ServedView) (endpoint : Endpoint ReplyExecView) → IsServed replies cast s → cast.actor ≡ a → Contains s.passes.notices.items endpoint → caller_at replies endpoint.place ≡ c → endpoint.pass.given ≡ replies_to cast.opening a (end_log s.end) c ++ deaths a s.end
+pub given_to : (replies : List RepliesView) (cast : ActorSpec) (a c : ℕ) (s : ServedView) (endpoint : Endpoint ReplyExecView) → IsServed replies cast s → cast.actor ≡ a → Contains s.passes.notices.items endpoint → caller_at replies endpoint.place ≡ c → endpoint.pass.given ≡ replies_to cast.opening a (end_log s.end) c ++ deaths a s.end
 given_to replies cast a c s endpoint serving actor sits line =
     let items = s.passes.notices.items in
     let due = all_in (λ (x : Endpoint ReplyExecView). x.pass.given ≡ replies_to cast.opening cast.actor (end_log s.end) (caller_at replies x.place) ++ deaths cast.actor s.end) items endpoint serving.given (in_from_contains items endpoint sits) in

@@ -9,9 +9,8 @@ use Rattle.act_rules.specs.declared.history.Letter.{Letter as SentLetter}
 use Rattle.act_rules.specs.declared.history.Letter.TheVariants.{Call as CallLetter, Note as NoteLetter}
 use Rattle.act_causes.specs.Deeds.{Retired}
 use Rattle.act_executor.proofs.Once.{Differ, differ_pairs, front_differs, HasEnds, both_same, all_differ}
-use Rattle.act_executor.proofs.Own.{seen_under, seen_in_steps}
 use Rattle.act_executor.proofs.Threads.{actor_key, key_of, deed_of_actor, all_threads, deeds_of_actor}
-use Rattle.act_executor.proofs.Projections.{deeds_in_order, IsKeyed}
+use Rattle.act_executor.proofs.Projections.{deeds_in_order, IsKeyed, seen_under, seen_in_steps}
 use Rattle.act_executor.proofs.ActorWork.{is_of_these}
 use Rattle.act_executor.proofs.FoundSteps.{found_is as found_alone}
 use Rattle.act_executor.proofs.Kept.{keep_stamped, kept_steps, kept_found}

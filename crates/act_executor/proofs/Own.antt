@@ -1,11 +1,11 @@
 -- A caller's own deeds in the merged list are its thread's steps, in order.
-use Rattle.act_executor.proofs.Common.{◌≡◌, ◌≢◌, ℕ, ◌==◌, Bool, true, false, cond, List, [], ◌∷◌, Option, Some, None, inl, inr, refl, ap, sym, ◌∙◌, ◌⊎◌, map}
-use Rattle.act_executor.proofs.Common.{filter_map, cons_option, eq-eqb, ne_eqb, eqb_tells, steps_in, under, Deed, Changed, AskedKill, TookCall, TookNote, Ran}
-use Rattle.act_executor.proofs.Common.{TookKill, ToldDeath, deeds_of, IsMergeOf, under_here, under_other, CallerStep, ChangeMade, KillAsked, CallerThreads}
+use Rattle.act_executor.proofs.Common.{◌≡◌, ℕ, ◌==◌, Bool, true, false, cond, List, [], ◌∷◌, Option, Some, None, refl, ap, sym, ◌∙◌, map}
+use Rattle.act_executor.proofs.Common.{filter_map, eq-eqb, ne_eqb, steps_in, Deed, Changed, AskedKill, TookCall, TookNote, Ran}
+use Rattle.act_executor.proofs.Common.{TookKill, ToldDeath, deeds_of, IsMergeOf, CallerStep, ChangeMade, KillAsked, CallerThreads}
 use Rattle.act_executor.proofs.Common.{ActorThreads}
 use Rattle.act_causes.specs.Deeds.{Retired}
-use Rattle.act_executor.proofs.Threads.{caller_key, key_of, deed_of_caller, as_deeds, all_threads, deeds_of_caller}
-use Rattle.act_executor.proofs.Projections.{deeds_in_order, IsKeyed}
+use Rattle.act_executor.proofs.Threads.{caller_key, key_of, deed_of_caller, all_threads, deeds_of_caller}
+use Rattle.act_executor.proofs.Projections.{deeds_in_order, IsKeyed, seen_under, seen_in_steps}
 
 -- the step that the deed is, where the caller does it
 abbrev pub own_step : ℕ → Deed → Option CallerStep
@@ -17,29 +17,6 @@ own_step c (Ran a item) = None
 own_step c (TookKill a) = None
 own_step c (ToldDeath a d) = None
 own_step c (Retired a) = None
-
-pub seen_under : {X : Type 0} (t : ℕ) (f : Deed → Option X) → ((deed : Deed) → (key_of deed == t) ≡ false → f deed ≡ None) → (xs : List (ℕ × (ℕ × Deed))) → IsKeyed xs
-    → filter_map f (deeds_in_order xs) ≡ filter_map f (map (λ d. d.1) (under t xs))
-seen_under t f none [] keyed = refl
-seen_under {X = X} t f none (x ∷ xs) keyed = go (seen_under t f none xs keyed.1) (eqb_tells x.0 t)
-  where
-    go : filter_map f (deeds_in_order xs) ≡ filter_map f (map (λ (d : ℕ × Deed). d.1) (under t xs))
-        → (((x.0 == t) ≡ true) × (x.0 ≡ t)) ⊎ (((x.0 == t) ≡ false) × (x.0 ≢ t))
-        → filter_map f (deeds_in_order (x ∷ xs)) ≡ filter_map f (map (λ (d : ℕ × Deed). d.1) (under t (x ∷ xs)))
-    go rest (inl same) =
-        ap (λ (l : List X). cons_option (f x.1.1) l) rest
-        ∙ ap (λ (l : List (ℕ × Deed)). filter_map f (map (λ (d : ℕ × Deed). d.1) l)) (sym (under_here t x xs same.0))
-    go rest (inr other) =
-        ap (λ (o : Option X). cons_option o (filter_map f (deeds_in_order xs))) (none x.1.1 (ap (λ (n : ℕ). n == t) keyed.0 ∙ other.0))
-        ∙ rest
-        ∙ ap (λ (l : List (ℕ × Deed)). filter_map f (map (λ (d : ℕ × Deed). d.1) l)) (sym (under_other t x xs other.0))
-
-pub seen_in_steps : {S X : Type 0} (f : Deed → Option X) (g : S → Option X) (deed_of : S → Deed) → ((step : S) → f (deed_of step) ≡ g step) → (steps : List (ℕ × S))
-    → filter_map f (map (λ d. d.1) (as_deeds deed_of steps)) ≡ filter_map g (steps_in steps)
-seen_in_steps f g deed_of same [] = refl
-seen_in_steps {X = X} f g deed_of same (step ∷ steps) =
-    ap (λ (o : Option X). cons_option o (filter_map f (map (λ (d : ℕ × Deed). d.1) (as_deeds deed_of steps)))) (same step.1)
-    ∙ ap (λ (l : List X). cons_option (g step.1) l) (seen_in_steps f g deed_of same steps)
 
 unkeyed : (m n : ℕ) → (caller_key m == caller_key n) ≡ false → (m == n) ≡ false
 unkeyed m n e = ne_eqb m n (λ same. let bad : true ≡ false = sym (eq-eqb (caller_key m) (caller_key n) (ap caller_key same)) ∙ e in cc)

@@ -3,14 +3,14 @@ use Rattle.act_executor.proofs.Common.{◌≡◌, ◌≢◌, ℕ, ◌==◌, Bool
 use Rattle.act_executor.proofs.Common.{All, AllPairs, filter, option_map, eq-eqb, eqb-true, KindState, Event, Post, RunItem, Step, Release, IsPrefix, ActorSpec}
 use Rattle.act_executor.proofs.Common.{contains, opening_of, actors_naming, runs_of, history, Answer, kept_at, world_sound, map-slice_get, Notice, OwnerView}
 use Rattle.act_executor.proofs.Common.{items_from, MailView, ControlView, RepliesView, notice_actor, steps_in, Driven, CallerStep, notice_collected, deeds_of}
-use Rattle.act_executor.proofs.Common.{SpecsFit, plan_of, end_log, replies_to, deaths, places_of, caller_at, ServedView, IsServed, AreJoined, IsPlayOfThreads}
-use Rattle.act_executor.proofs.Common.{pairs_of_map, cast_at, ActorStep, log_of_steps, ReplyExecView, Endpoint, Contains, filter_map, CallsThatDiedNeverRan}
+use Rattle.act_executor.proofs.Common.{SpecsFit, plan_of, end_log, places_of, ServedView, AreJoined, IsPlayOfThreads}
+use Rattle.act_executor.proofs.Common.{pairs_of_map, cast_at, ActorStep, log_of_steps, filter_map, CallsThatDiedNeverRan}
 use Rattle.act_executor.proofs.Common.{kept_in, log_in, is_between, DoesPlanIn, CollectsInLine, IsPlayOfPlans, IsPlayedAsPlanned, HasPosted, IsSent}
 use Rattle.act_rules.specs.declared.history.Post.TheVariants.{Reply as ReplyPost, Death as DeathPost}
 use Rattle.act_rules.specs.declared.history.Letter.{Letter as SentLetter}
 use Rattle.act_executor.proofs.Elements.{IsIn, in_from_contains, all_in, all_by_places, finds, found_is, contains_is}
 use Rattle.act_executor.proofs.Found.{naming, same_cast, served_cast, one_of}
-use Rattle.act_executor.proofs.Joint.{driven_of, served_of, Thread, thread, driver, audit_of}
+use Rattle.act_executor.proofs.Joint.{driven_of, served_of, Thread, thread, driver, audit_of, given_to}
 use Rattle.act_executor.proofs.AsPlay.{casts_stay}
 use Rattle.act_executor.proofs.HaveTraces.{HaveTraces}
 use Rattle.act_executor.proofs.JoinedTraces.{callers, actors, are_traced, caller_found, caller_none, actor_none, actor_found, is_play_of, kept_left, log_is_left, log_found, callers_differ}
@@ -20,14 +20,6 @@ use Rattle.act_executor.proofs.Ran.{died_unrun}
 use Rattle.act_executor.proofs.Once.{Differ, collected_once}
 use Rattle.act_executor.proofs.Letters.{letter_from, letter_in_step, taken_differ, delivered_once}
 use Rattle.act_executor.proofs.Found.{driven_named}
-
--- what an endpoint was given, as the actor's end tells it
-given_here : (replies : List RepliesView) (cast : ActorSpec) (a c : ℕ) (s : ServedView) (endpoint : Endpoint ReplyExecView) → IsServed replies cast s → cast.actor ≡ a → Contains s.passes.notices.items endpoint → caller_at replies endpoint.place ≡ c → endpoint.pass.given ≡ replies_to cast.opening a (end_log s.end) c ++ deaths a s.end
-given_here replies cast a c s endpoint serving actor sits line =
-    let items = s.passes.notices.items in
-    let due = all_in (λ (x : Endpoint ReplyExecView). x.pass.given ≡ replies_to cast.opening cast.actor (end_log s.end) (caller_at replies x.place) ++ deaths cast.actor s.end) items endpoint serving.given (in_from_contains items endpoint sits) in
-    subst (λ (b : ℕ). endpoint.pass.given ≡ replies_to cast.opening b (end_log s.end) c ++ deaths b s.end) actor
-    (subst (λ (b : ℕ). endpoint.pass.given ≡ replies_to cast.opening cast.actor (end_log s.end) b ++ deaths cast.actor s.end) line due)
 
 module _ {mails : List MailView} {controls : List ControlView} {replies : List RepliesView} {casts : List ActorSpec} {plans : List (ℕ × List Step)} {driven : List Driven} {served : List ServedView} (j : AreJoined mails controls replies casts plans driven served) (have : HaveTraces controls replies casts plans driven served) where
   abbrev owner_in : Driven → OwnerView
@@ -46,7 +38,7 @@ module _ {mails : List MailView} {controls : List ControlView} {replies : List R
         → IsPrefix (map (post_from c) (items_from notice_actor a d.passes.collects.taken)) (map (λ place. ReplyPost c a place) (places_of c (runs_of a (history casts events))) ++ DeathPost c a ∷ [])
     taken_of c a d s e f t listed =
         let audit = (audit_of j a c s d t listed e).notices in
-        let given = given_here replies t.cast.cast a c s audit.endpoint t.serving t.cast.actor audit.sits audit.line in
+        let given = given_to replies t.cast.cast a c s audit.endpoint t.serving t.cast.actor audit.sits audit.line in
         let log : runs_of a (history casts events) ≡ end_log s.end = play.runs a ∙ log_found j have a s f in
         subst (λ (l : List RunItem). IsPrefix (map (post_from c) (items_from notice_actor a d.passes.collects.taken)) (map (λ place. ReplyPost c a place) (places_of c l) ++ DeathPost c a ∷ [])) (sym log)
         (given_posts t.cast.cast.opening a c (end_log s.end) s.end (items_from notice_actor a d.passes.collects.taken) (subst (IsPrefix (items_from notice_actor a d.passes.collects.taken)) given audit.front))

@@ -18,7 +18,8 @@ IsKeyed merged = AllByRecursion (λ x. key_of x.1.1 ≡ x.0) merged
 
 -- ---- what is seen in one thread's deeds alone
 
-seen_under : {X : Type 0} (t : ℕ) (f : Deed → Option X) → ((deed : Deed) → (key_of deed == t) ≡ false → f deed ≡ None) → (xs : List (ℕ × (ℕ × Deed))) → IsKeyed xs
+-- what is seen of the deeds of one thread alone is seen in what stands under its number
+pub seen_under : {X : Type 0} (t : ℕ) (f : Deed → Option X) → ((deed : Deed) → (key_of deed == t) ≡ false → f deed ≡ None) → (xs : List (ℕ × (ℕ × Deed))) → IsKeyed xs
     → filter_map f (deeds_in_order xs) ≡ filter_map f (map (λ d. d.1) (under t xs))
 seen_under t f none [] keyed = refl
 seen_under {X = X} t f none (x ∷ xs) keyed = go (seen_under t f none xs keyed.1) (eqb_tells x.0 t)
@@ -126,7 +127,8 @@ end_is a (KillTaken kill) = refl
 end_is a (DeathTold c) = refl
 end_is a Retirement = eq-eqb a a refl
 
-seen_in_steps : {S X : Type 0} (f : Deed → Option X) (g : S → Option X) (deed_of : S → Deed) → ((step : S) → f (deed_of step) ≡ g step) → (steps : List (ℕ × S))
+-- what is seen of a thread's deeds is seen of its steps
+pub seen_in_steps : {S X : Type 0} (f : Deed → Option X) (g : S → Option X) (deed_of : S → Deed) → ((step : S) → f (deed_of step) ≡ g step) → (steps : List (ℕ × S))
     → filter_map f (map (λ d. d.1) (as_deeds deed_of steps)) ≡ filter_map g (steps_in steps)
 seen_in_steps f g deed_of same [] = refl
 seen_in_steps {X = X} f g deed_of same (step ∷ steps) =

@@ -1,8 +1,8 @@
 -- What stands before one step of a thread, by the threads: of each thread a front, and all that has a lower stamp.
 use Rattle.act_executor.proofs.Common.{◌≡◌, ℕ, ◌<◌, List, [], ◌∷◌, ◌++◌, Some, refl, ap, sym, ◌∙◌, subst, Contains, map, slice_get, list_any, map-append}
 use Rattle.act_executor.proofs.Common.{steps_in, IsPrefix, under, Deed, changes_by, log_by, is_dead_by, is_retired_by, deeds_of, IsCutAt, ActorStep}
-use Rattle.act_executor.proofs.Common.{is_retirement, log_of_steps, has_died_in, CallerStep, changes_made, CallerThreads, ActorThreads}
-use Rattle.act_executor.proofs.Cuts.{contains_map, contains_under, IsCutOf, cut_of, AreFrom, later_from}
+use Rattle.act_executor.proofs.Common.{is_retirement, log_of_steps, has_died_in, CallerStep, changes_made, CallerThreads, ActorThreads, contains_map}
+use Rattle.act_executor.proofs.Cuts.{contains_under, IsCutOf, cut_of, AreFrom, later_from}
 use Rattle.act_executor.proofs.Threads.{caller_key, actor_key, deed_of_caller, deed_of_actor, as_deeds, all_threads, deeds_of_caller, deeds_of_actor}
 use Rattle.act_executor.proofs.Projections.{deeds_in_order, IsKeyed, changes_are, log_is, death_is, retirement_is}
 

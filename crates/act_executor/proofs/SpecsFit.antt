@@ -8,7 +8,8 @@ all_within zero = All-nil (λ m. (1 ≤ m) × (m ≤ 0))
 all_within (suc n) = All-push (λ m. (1 ≤ m) × (m ≤ suc n)) (one_to n) (suc n)
     (All-weaker (λ m. (1 ≤ m) × (m ≤ n)) (λ m. (1 ≤ m) × (m ≤ suc n)) (λ m is. let below = is.1 in (is.0, omega (arith, below))) (one_to n) (all_within n)) (omega arith, omega arith)
 
-within : (n m : ℕ) → Contains (one_to n) m → (1 ≤ m) × (m ≤ n)
+-- a number up to a limit
+pub within : (n m : ℕ) → Contains (one_to n) m → (1 ≤ m) × (m ≤ n)
 within n m is = subst (λ (k : ℕ). (1 ≤ k) × (k ≤ n)) is.2 (all_within n is.0 m is.1)
 
 pub specs_fit : {K : Type 0} (state : K → KindState) (casts : List (Cast K)) → IsFitting casts → All HasNumbers casts → SpecsFit (map (actor_spec state) casts)

@@ -1,8 +1,9 @@
 -- Paths with the same key have the same choices.
 use Rattle.act_explore.proofs.Common.{◌≡◌, ℕ, zero, suc, ◌+◌, ◌<◌, ◌≤◌, ◌==◌, Bool, true, false, List, [], ◌∷◌, ◌++◌, map, if◌then◌else◌, refl, sym, ap, ◌∙◌}
 use Rattle.act_explore.proofs.Common.{arith, All, Contains, inl, inr, ◌⊎◌, flat_map, append_assoc, ne_eqb, cases_lt, All-contains, All-nil, All-cons, All-head}
-use Rattle.act_explore.proofs.Common.{All-tail, Contains-push_cases, one_to, in_one_to, Choice, Run, Take, runs_in, takes_in, letter_of, part_of, HasNumber}
+use Rattle.act_explore.proofs.Common.{All-tail, one_to, in_one_to, Choice, Run, Take, runs_in, takes_in, letter_of, part_of, HasNumber}
 use Rattle.act_explore.specs.Paths.{key_of}
+use Rattle.act_executor.proofs.SpecsFit.{within as in_limit}
 
 -- the actor's choices are the same on both
 pub record AreSame (p q : List Choice) (a : ℕ) : Type 0 where
@@ -50,15 +51,6 @@ parts p q (a ∷ actors) e =
     let tail : map letter_of (runs_in a p) ++ 10 ∷ flat_map (part_of p) actors ≡ map letter_of (runs_in a q) ++ 10 ∷ flat_map (part_of q) actors = cc in
     let apart = cut (runs_in a p) (runs_in a q) (flat_map (part_of p) actors) (flat_map (part_of q) actors) tail in
     All-cons (AreSame p q) a actors (record { runs = apart.front; takes = marks (takes_in a p) (takes_in a q) head }) (parts p q actors apart.back)
-
--- the numbers up to the limit
-in_limit : (n m : ℕ) → Contains (one_to n) m → (1 ≤ m) × (m ≤ n)
-in_limit zero m at = absurd (omega (arith, at.1))
-in_limit (suc n) m at = last (λ there. in_limit n m there) (Contains-push_cases (one_to n) (suc n) m at)
-  where
-    last : (Contains (one_to n) m → (1 ≤ m) × (m ≤ n)) → Contains (one_to n) m ⊎ (suc n ≡ m) → (1 ≤ m) × (m ≤ suc n)
-    last below (inl there) = let low = below there in (low.0, omega (arith, low.1))
-    last below (inr same) = (omega (arith, same), omega (arith, same))
 
 -- an actor beyond the limit has no choices
 module _ (a : ℕ) (out : (b : ℕ) → Contains (one_to 8) b → (b == a) ≡ false) where

@@ -4,6 +4,7 @@ use Rattle.act_explore.proofs.Common.{if◌then◌else◌, Option, Some, None, r
 use Rattle.act_explore.proofs.Common.{take_more, filter_map-append, list_any-append, RunItem, History, contains, runs_of, is_heard, Choice, Run, Take}
 use Rattle.act_explore.proofs.Common.{HasChosen, run_at, is_take, runs_in, takes_in, HasMade, letter_of}
 use Rattle.act_explore.proofs.Keys.{AreSame}
+use Rattle.act_plan_plays.proofs.Opened.{map_none}
 
 abbrev heard : ℕ → ℕ × Bool
 heard c = (c, true)
@@ -68,13 +69,8 @@ made_same p q h same made = record {
   killed = λ a. made.killed a ∙ (same a).takes;
 }
 
--- no choice was made
-nothing_mapped : {X Y : Type 0} (f : X → Y) (xs : List X) → map f xs ≡ [] → xs ≡ []
-nothing_mapped f [] e = refl
-nothing_mapped f (x ∷ xs) e = cc
-
 pub none_ran : (h : History) (a : ℕ) → HasMade [] h → runs_of a h ≡ []
-none_ran h a made = nothing_mapped (λ (i : RunItem). (i.caller, is_heard h i)) (runs_of a h) (made.choices a)
+none_ran h a made = map_none (λ (i : RunItem). (i.caller, is_heard h i)) (runs_of a h) (made.choices a)
 
 contains_head : (x : ℕ) (xs : List ℕ) → contains x (x ∷ xs) ≡ true
 contains_head x xs = ap (λ t. t || contains x xs) (eq-eqb x x refl)
@@ -100,7 +96,3 @@ runs_step a path i choice within is =
 
 pub letters_more : (old runs : List ℕ) (o : Option ℕ) → (old ++ map letter_of runs) ++ map letter_of (option_to_list o) ≡ old ++ map letter_of (runs ++ option_to_list o)
 letters_more old runs o = append_assoc old (map letter_of runs) (map letter_of (option_to_list o)) ∙ ap (λ l. old ++ l) (sym (map-append letter_of runs (option_to_list o)))
-
-pub none_left : {X : Type 0} (o : Option X) → ((x : X) → o ≡ Some x → ⊥) → o ≡ None
-none_left None never = refl
-none_left (Some x) never = absurd (never x refl)

@@ -1,6 +1,6 @@
 -- What was read, played and written of a history.
-use Rattle.std.proofs.Common.{◌≡◌, ℕ, ◌+◌, ◌≤◌, true, List, ◌++◌, length, map, Option, Some, None, Result, Ok, Err, IfOk, refl, string_bytes}
-use Rattle.std.specs.Io.KnownBytes.{Keeps}
+use Rattle.std.proofs.Common.{◌≡◌, ℕ, ◌+◌, ◌≤◌, true, List, ◌++◌, length, map, Option, Result, Ok, Err, IfOk, string_bytes}
+use Rattle.std.proofs.KnownBytes.{Keeps-refl}
 use Rattle.act_types.specs.declared.limits.TheConstants.{MAX_SCRIPT_BYTES}
 use Rattle.act_rules.specs.declared.event.Event.{Event}
 use Rattle.act_rules.specs.declared.script.Mode.TheVariants.{Play, Threads}
@@ -59,14 +59,10 @@ module _ (had left old new : Option (List ℕ)) (bytes : List ℕ) (whole : IsWh
   written (verdicts.Mistake text) (Err faults.Memory) is wrote = absurd wrote
   written (verdicts.Mistake text) (Err faults.Reading) is wrote = absurd wrote
 
-keeps_itself : (contents : Option (List ℕ)) → Keeps contents contents
-keeps_itself None = tt
-keeps_itself (Some bytes) = refl
-
 -- nothing was written
 pub unwritten : (had left old : Option (List ℕ)) (fault : CheckFault) → IsBeforeVerdict fault → Checked had left old old (Err fault)
-unwritten had left old faults.Memory is = keeps_itself old
-unwritten had left old faults.Reading is = keeps_itself old
+unwritten had left old faults.Memory is = Keeps-refl old
+unwritten had left old faults.Reading is = Keeps-refl old
 unwritten had left old faults.Mistake is = absurd is
 unwritten had left old faults.Refused is = absurd is
 unwritten had left old faults.Writing is = absurd is

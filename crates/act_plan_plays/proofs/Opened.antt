@@ -64,7 +64,8 @@ inside {K = K} state casts plans at fields seen is stands = subst (λ (v : PlanP
 
 -- ---- no choice was made
 
-map_none : {A B : Type 0} (f : A → B) (xs : List A) → map f xs ≡ [] → xs ≡ []
+-- what maps to nothing is nothing
+pub map_none : {A B : Type 0} (f : A → B) (xs : List A) → map f xs ≡ [] → xs ≡ []
 map_none f [] e = refl
 map_none f (x ∷ xs) e = cc
 

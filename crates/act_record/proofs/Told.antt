@@ -1,7 +1,8 @@
 -- What was written of a script whose run is recorded, by what there was to be written.
-use Rattle.std.proofs.Common.{◌≡◌, ℕ, ◌+◌, List, Option, Some, None, Result, Ok, Err, refl, sym, subst, ◌∙◌}
+use Rattle.std.proofs.Common.{◌≡◌, ℕ, ◌+◌, List, Option, Result, Ok, Err, refl, sym, subst, ◌∙◌}
+use Rattle.std.proofs.KnownBytes.{Keeps-refl}
 use Rattle.std.specs.Prelude.{string_bytes}
-use Rattle.std.specs.Io.KnownBytes.{Keeps, Appends}
+use Rattle.std.specs.Io.KnownBytes.{Appends}
 use Rattle.act_types.specs.declared.limits.TheConstants.{MAX_SCRIPT_BYTES}
 use Rattle.act_rules.specs.declared.event.Event.{Event}
 use Rattle.act_rules.specs.declared.script.Role.{Role}
@@ -64,16 +65,12 @@ module _ (had left old new : Option (List ℕ)) (bytes : List ℕ) (whole : IsWh
   told (answers.Refusal text) (Err (Console faults.Reading)) is wrote = absurd wrote
   told (answers.Refusal text) (Err Unplayed) is wrote = absurd wrote
 
-keeps_itself : (contents : Option (List ℕ)) → Keeps contents contents
-keeps_itself None = tt
-keeps_itself (Some bytes) = refl
-
 module _ (had left old : Option (List ℕ)) (bytes : List ℕ) (whole : IsWholeInput (MAX_SCRIPT_BYTES + 1) had left bytes) where
   -- nothing was to be written
   pub untold : (fault : RecordingFault) → IsAnswer (Err fault) (spelled_threads bytes) → IsRecorded had left old old (Err fault)
-  untold (Console faults.Memory) is = keeps_itself old
-  untold (Console faults.Thread) is = (bytes, whole, is.0, is.1, keeps_itself old)
+  untold (Console faults.Memory) is = Keeps-refl old
+  untold (Console faults.Thread) is = (bytes, whole, is.0, is.1, Keeps-refl old)
   untold (Console faults.Script) is = absurd is
   untold (Console faults.Reading) is = absurd is
   untold (Console faults.Writing) is = absurd is
-  untold Unplayed is = (bytes, whole, is.0, is.1, keeps_itself old)
+  untold Unplayed is = (bytes, whole, is.0, is.1, Keeps-refl old)

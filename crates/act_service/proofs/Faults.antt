@@ -1,15 +1,10 @@
 -- What a fault tells.
-use Rattle.act_service.proofs.Common.{◌≡◌, ℕ, List, [], ◌∷◌, Some, None, Ok, Err, slice_get, map, refl, sym, ap, subst, filter_map, Result, IfErr, IsErrAnd}
+use Rattle.act_service.proofs.Common.{◌≡◌, ℕ, List, [], ◌∷◌, Some, None, slice_get, map, refl, sym, ap, subst, filter_map}
 use Rattle.act_service.proofs.Common.{KindState, Step, ActorSpec, first_bad, Cast, actor_spec, SessionView, bad_step_of, callers_of_casts, first_bad_plan}
 use Rattle.act_service.proofs.Common.{RunFault, IsFault, IsThreadFault, EpochFault, Run, Service, BadCodes, Known, Given, HaveLed, LeadsOn, IsUnderWay}
 use Rattle.act_service.proofs.Common.{IsEpochFault, IsFaultAt, IsFaultOfCodes, IsOfService}
 use Rattle.act_executor.specs.declared.run.RunFault.TheVariants as run
 use Rattle.act_service.proofs.Leading.{carried}
-
--- what is known of an error
-pub err_only : {X E : Type 0} (r : Result X E) (P Q : E → Type 0) → IsErrAnd r P → ((e : E) → P e → Q e) → IfErr r Q
-err_only (Ok x) P Q is gives = tt
-err_only (Err e) P Q is gives = gives e is
 
 -- ---- without plans none is bad
 

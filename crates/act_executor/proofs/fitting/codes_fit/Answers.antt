@@ -1,11 +1,7 @@
-use Rattle.act_executor.proofs.Common.{◌≡◌, ℕ, ◌==◌, not, Bool, true, false, true≢false, refl, ap, sym, ◌∙◌, list_any, list_all-from_AllPass}
-use Rattle.act_executor.proofs.Common.{AllPass-from_list_all, Vec, Step}
+use Rattle.act_executor.proofs.Common.{ℕ, ◌==◌, not, true, false, true≢false, ap, sym, ◌∙◌, list_any, list_all-from_AllPass}
+use Rattle.act_executor.proofs.Common.{AllPass-from_list_all, Vec, Step, not-true}
 use Rattle.act_executor.proofs.fitting.codes_fit.Goals as goal
 use Rattle.act_executor.proofs.fitting.codes_fit.Goals.{then-callers_differ, else-callers_differ}
-
-not_set : (b : Bool) → not b ≡ true → b ≡ false
-not_set true is = absurd (true≢false (sym is))
-not_set false is = refl
 
 pub returns-then-are_named : goal.returns-then-are_named
 returns-then-are_named g c = (
@@ -15,7 +11,7 @@ returns-then-are_named g c = (
         record {
           differ = c.callers_differ.ensures.0 w.if-callers_differ.true;
           named = AllPass-from_list_all _ c.args.codes.now (sym w.are_named.ensures ∙ sym w.value-is ∙ c.if-are_named.true);
-          apart = λ k d below. not_set _ (passes k d below);
+          apart = λ k d below. not-true _ (passes k d below);
         }
     | else-callers_differ w ↦ absurd (true≢false (sym c.if-are_named.true ∙ w.value-is ∙ w.if-callers_differ.false))
   ],

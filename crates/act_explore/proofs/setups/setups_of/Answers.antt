@@ -2,8 +2,8 @@ use Rattle.act_explore.proofs.Common.{◌≡◌, ℕ, true, false, List, map, sl
 use Rattle.act_explore.proofs.Common.{CallerSetup, bad_of_setup, plan_of, first_bad_plan, PlansFit, bad_view, HoldPlans, plan_view, AreOfARun, of_a_run}
 use Rattle.act_explore.proofs.Common.{AreSuited}
 use Rattle.act_explore.proofs.Holding.{holding, suited, fits}
-use Rattle.act_explore.proofs.Paths.{none_left}
 use Rattle.act_explore.proofs.setups.setups_of.Goals as goal
+use Rattle.act_executor.proofs.Faults.{none_left}
 
 pub returns-then-not-plans_fit-clause-fault : goal.returns-then-not-plans_fit-clause-fault
 returns-then-not-plans_fit-clause-fault g c = λ suit.

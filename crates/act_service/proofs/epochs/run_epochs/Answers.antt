@@ -1,7 +1,8 @@
 use Rattle.act_service.proofs.Common.{◌≡◌, List, Some, map, sym, subst, Cast, actor_spec, CarriesOver, EpochFault, IsEpochFault, IsFaultAt, IsFaultOfCodes, IsUnderWay}
-use Rattle.act_service.proofs.Faults.{err_only, of_codes, of_epoch}
+use Rattle.act_service.proofs.Faults.{of_codes, of_epoch}
 use Rattle.act_service.proofs.Leading.{carried}
 use Rattle.act_service.proofs.epochs.run_epochs.Goals as goal
+use Rattle.act_executor.proofs.Faults.{err_only}
 
 pub returns-in_err-next_codes-clause-fault : goal.returns-in_err-next_codes-clause-fault
 returns-in_err-next_codes-clause-fault g c =

@@ -1,8 +1,9 @@
 use Rattle.std.proofs.Common.{rules, ◌≡◌, true, false, sym, ◌∙◌, get_or}
-use Rattle.act_drive.proofs.Through.{through_answered, not_true}
+use Rattle.act_drive.proofs.Through.{through_answered}
 use Rattle.act_drive.proofs.driver.Driver.is_through.Goals as goal
+use Rattle.act_drive.proofs.Common.{not-true}
 
 pub returns-then-self-number : goal.returns-then-self-number
 returns-then-self-number c = λ lines calling is.
     let noted : get_or c.args.self.now.noted c.args.a false ≡ true = search rules in
-    through_answered lines c.args.self.now c.args.a calling noted (sym c.awaits.ensures ∙ not_true c.awaits.result is)
+    through_answered lines c.args.self.now c.args.a calling noted (sym c.awaits.ensures ∙ not-true c.awaits.result is)
