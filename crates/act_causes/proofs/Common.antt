@@ -77,7 +77,7 @@ pub use Rattle.act_world.proofs.Delivering.{deliver_follows}
 pub use Rattle.act_world.proofs.Frames.{not_owner, still_lives}
 pub use Rattle.act_world.proofs.Killing.{contains-last, kill_follows}
 pub use Rattle.act_world.proofs.Lawful.{IsLawful, IsNamedLetter, has_letter-more, lawful_step, named_caller, sent_call_named, world_lawful}
-pub use Rattle.act_world.proofs.Lists.{get_set-other, get_set-same}
+pub use Rattle.act_world.proofs.Lists.{contains-more, get_set-other, get_set-same}
 pub use Rattle.act_world.proofs.Mail.{has_last}
 pub use Rattle.act_world.proofs.NextCall.{item_is, next_is}
 pub use Rattle.act_world.proofs.OneCaller.{needs_holds}

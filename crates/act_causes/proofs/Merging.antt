@@ -2,7 +2,7 @@
 use Rattle.act_causes.proofs.Common.{◌≡◌, ◌≢◌, ℕ, zero, suc, ◌≤◌, ◌<◌, ◌==◌, Bool, true, false, cond, List, [], ◌∷◌, ◌++◌, Some, refl, sym, ap, subst, ◌∙◌}
 use Rattle.act_causes.proofs.Common.{arith, find, map, filter, slice_get, nat_le, AllPairs, AllByRecursion, eqb-true, eq-eqb, ne_eqb, leb-true, leb-false}
 use Rattle.act_causes.proofs.Common.{map-append, filter-append, All-from_recursion, recursion_from_All, All-head, All-tail, AllPairs-cons, slice_get-get_or}
-use Rattle.act_causes.proofs.Common.{under, Thread, deeds_in, deeds_of, AreApart, NeverFall, IsMergeOf}
+use Rattle.act_causes.proofs.Common.{under, Thread, deeds_in, deeds_of, AreApart, NeverFall, IsMergeOf, contains-more}
 use Rattle.std.proofs.Common.{append-nil}
 use Rattle.std.specs.List.{Contains}
 
@@ -160,9 +160,6 @@ place_in_front {A = A} [] ys k m n x least at lt = absurd (behind ys k least at)
     behind (y ∷ ys) (suc k) least at = behind ys k least.1 at
 place_in_front (z ∷ xs) ys zero m n x least at lt = at
 place_in_front (z ∷ xs) ys (suc k) m n x least at lt = place_in_front xs ys k m n x least at lt
-
-contains-more : {A : Type 0} (xs : List A) (y x : A) → Contains xs x → Contains (y ∷ xs) x
-contains-more xs y x c = (suc c.0, omega (arith, c.1), c.2)
 
 -- what stands under a number stands in the list
 in_list : {A : Type 0} (t : ℕ) (xs : List (ℕ × A)) (k : ℕ) (d : A) → slice_get (under t xs) k ≡ Some d → Contains xs (t, d)

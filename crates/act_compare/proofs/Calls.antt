@@ -15,10 +15,11 @@ pub record AreSameBelow (n : ℕ) (one other : OwnerView) : Type 0 where
   pub answers : (k : ℕ) → k < n → kept_at one.kept k ≡ kept_at other.kept k
 
 -- a call without its number
-abbrev given : Call → Submission
+abbrev pub given : Call → Submission
 given call = record { actor = call.actor; method = call.method; args = call.args }
 
-given_back : (calls : List Submission) (k : ℕ) (call : Option Submission) → option_map given (option_map (numbered_call calls k) call) ≡ call
+-- a call that got a number is the same without it
+pub given_back : (calls : List Submission) (k : ℕ) (call : Option Submission) → option_map given (option_map (numbered_call calls k) call) ≡ call
 given_back calls k None = refl
 given_back calls k (Some call) = refl
 

@@ -1,12 +1,12 @@
 -- A script's roles and plans as a run takes them, and what the run tells of the script.
 use Rattle.act_console.proofs.Common.{◌≡◌, ◌≢◌, ℕ, ◌<◌, ◌≤◌, ◌==◌, Bool, true, false, not, ◌||◌, if◌then◌else◌, List, [], ◌∷◌, ◌++◌, length, map, get_or}
 use Rattle.act_console.proofs.Common.{Option, Some, None, Result, Ok, Err, All, AllPairs, refl, sym, ◌∙◌, ap, subst, arith, filter, slice_get, nat_lt}
-use Rattle.act_console.proofs.Common.{option_map, IsSome, Vec, list_any, nat_tests, length-map, get_or-map, All-cons, All-map, filter_passes, slice_get-map}
+use Rattle.act_console.proofs.Common.{option_map, IsSome, Vec, list_any, nat_tests, length-map, All-cons, All-map, filter_passes, slice_get-map}
 use Rattle.act_console.proofs.Common.{KindState, Role, Step, Wrong, TooMany, BadPlan, ActorSpec, contains, one_to, Threads, actor_spec_of, callers_of_roles}
 use Rattle.act_console.proofs.Common.{plan_in_script, is_too_many, bad_lines, or_fault, with_good_plans, list_any-map, length-filter_least, Cast, actor_spec}
 use Rattle.act_console.proofs.Common.{OwnerView, EndView, PlansFit, pairs_of_map, first_bad_plan, IsJoined, IsPlayedAsPlanned, RunFault, plan_view, IsFault}
 use Rattle.act_console.proofs.Common.{Items, Steps, AreFitting, Mark, plan_from, script_of, mark_view, step_view, line_in, first_stranger, HasLine, Explains}
-use Rattle.act_console.proofs.Common.{plans_in, joined_summary, IsSummary}
+use Rattle.act_console.proofs.Common.{plans_in, joined_summary, IsSummary, all_of_map, Sorted, AreSorted}
 use Rattle.act_rules.specs.Grammar.{Script as Spelled, spelled}
 use Rattle.act_executor.specs.declared.run.RunFault.TheVariants as faults
 use Rattle.act_scripts.specs.declared.script.Script.{Script}
@@ -25,9 +25,6 @@ map_both g f (x ∷ xs) = ap (λ ys. g (f x) ∷ ys) (map_both g f xs)
 map_same : {X : Type 0} (xs : List X) → map (λ x. x) xs ≡ xs
 map_same [] = refl
 map_same (x ∷ xs) = ap (λ ys. x ∷ ys) (map_same xs)
-
-all_of_map : {X Y : Type 0} (P : Y → Type 0) (f : X → Y) (xs : List X) → All P (map f xs) → All (λ x. P (f x)) xs
-all_of_map P f xs all k d within = subst P (get_or-map f xs k d (f d) within) (all k (f d) (omega (arith, length-map xs f)))
 
 kept_step : {X : Type 0} (p : X → Bool) (x : X) (kept : List X) (b : Bool) → p x ≡ b → All (λ y. p y ≡ true) kept → All (λ y. p y ≡ true) (if b then x ∷ kept else kept)
 kept_step p x kept true is all = All-cons (λ y. p y ≡ true) x kept is all
@@ -201,3 +198,7 @@ module _ (roles : List Role) (steps : List (ℕ × Step × ℕ)) (marks : List M
   explains (faults.BadPlan c place) fit told = let bad = bad_line_of c place told in (bad.0, bad.2, bad_script roles steps bad.0 fit bad.1)
   explains faults.NoThread fit told = (script_of roles steps, good_script roles steps fit (no_bad_line (script_of roles steps) (sym same ∙ told) known))
   explains faults.NoMemory fit told = tt
+
+-- the plans are those of the roles' callers
+pub sorted_plans : (roles seen : List Role) (steps : List (ℕ × Step × ℕ)) (sorted : Sorted) → seen ≡ roles → AreSorted (callers_of_roles seen) steps sorted → map plan_view sorted.plans.items ≡ map (plan_from steps) (callers_of_roles roles)
+sorted_plans roles seen steps sorted same are = are.plans ∙ ap (λ (roles : List Role). map (plan_from steps) (callers_of_roles roles)) same

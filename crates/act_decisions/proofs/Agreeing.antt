@@ -4,7 +4,7 @@ use Rattle.act_decisions.proofs.Common.{refl, sym, ap, ◌∙◌, subst, arith, 
 use Rattle.act_decisions.proofs.Common.{if◌then◌else◌, eqb-true, get_or, is_skipped, lines_in, map-append, take_more}
 use Rattle.std.proofs.Common.{◌≢◌, Bor, IfSome, None, not, add-one, codes}
 use Rattle.std.specs.List.{AllZip}
-use Rattle.std.proofs.lemmas.List.{length-append, length-map, length-take-le, take_all}
+use Rattle.std.proofs.lemmas.List.{length-map, length-take-le, take_all}
 use Rattle.std.proofs.lemmas.List.Elements.{All-cons, All-head, All-nil, All-tail, filter-append}
 use Rattle.std.proofs.lemmas.List.Splits.{slice_split_none, slice_split_at}
 use Rattle.act_types.specs.Texts.{space, with_spaces, settled_text}
@@ -49,13 +49,6 @@ pub told_line_first : (text first left : List ℕ) → IsOfOneLine first → IsC
 told_line_first text first left plain cut is =
     cut_lines text first left plain cut
     ∙ ap (λ (lines : List (List ℕ)). lines ++ lines_told left) (one_line first plain ∙ ap (λ (b : Bool). if not b then first ∷ [] else []) is)
-
--- what is left is shorter
-pub left_shorter : (text first left : List ℕ) → 0 < length text → IsCut text first left → length left < length text
-left_shorter text first left some (inl cut) =
-    let long : length text ≡ length first + suc (length left) = ap length cut ∙ length-append first (10 ∷ left) in
-    omega arith
-left_shorter text first left some (inr (all, none)) = let long : length left ≡ 0 = ap length none in omega arith
 
 -- ---- stems, one after the other
 

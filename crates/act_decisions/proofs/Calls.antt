@@ -8,6 +8,7 @@ use Rattle.std.proofs.Math.Seq.{get_or-append_seam, take-append_seam}
 use Rattle.std.proofs.lemmas.List.{get_or-take, length-append, length-take, length-take-le, take-append-drop}
 use Rattle.std.proofs.lemmas.Option.{slice_get_within}
 use Rattle.act_rules.specs.declared.script.Step.TheVariants as step
+use Rattle.act_compare.proofs.Calls.{given, given_back}
 
 -- ---- one item more of which something holds
 
@@ -19,14 +20,6 @@ module _ {X : Type 0} (P : X → Type 0) (xs : List X) where
   each n whole front = subst (All P) (take_all n xs whole) front
 
 -- ---- a caller's call
-
--- a call without its number
-abbrev given : Call → Submission
-given call = record { actor = call.actor; method = call.method; args = call.args }
-
-given_back : (calls : List Submission) (k : ℕ) (call : Option Submission) → option_map given (option_map (numbered_call calls k) call) ≡ call
-given_back calls k None = refl
-given_back calls k (Some call) = refl
 
 -- the call that the caller has
 pub next_is : (calls : List Submission) (k : ℕ) (call : Call) (actor : ℕ) (method : Method) (args : List Arg) → Some call ≡ call_at calls k → call.actor ≡ actor → call.method ≡ method → call.args ≡ args → IsNext k actor method args calls

@@ -34,7 +34,7 @@ pub use Rattle.act_types.specs.declared.call.Method.{Method}
 pub use Rattle.act_types.specs.declared.limits.TheConstants.{MAX_SCRIPT_BYTES}
 pub use Rattle.act_world.proofs.Headline.{calls_are}
 pub use Rattle.act_world.proofs.Lawful.{world_lawful}
-pub use Rattle.act_world.proofs.Lists.{get_set-other}
+pub use Rattle.act_world.proofs.Lists.{get_set-other, read_is}
 pub use Rattle.act_world.specs.IsReachedBy.{HasRoom, IsReachedBy}
 pub use Rattle.act_world.specs.View.{WorldView, world_view}
 pub use Rattle.std.proofs.Common.{All, Bool, Bor, Err, IsOk, IsTrue, List, None, Ok, Option, Result, Some, [], ap, append_assoc, arith, false, filter, get_or}

@@ -1,5 +1,5 @@
 -- What a walk decides that doesn't end as steps and lines tell.
-use Rattle.act_early.proofs.Common.{◌≡◌, ℕ, suc, ◌≤◌, ◌==◌, Bool, true, false, cond, List, [], ◌∷◌, length, map, filter, Some, None, inl, inr, sym, ap, ◌∙◌, arith, Event, Step, ActorSpec}
+use Rattle.act_early.proofs.Common.{◌≡◌, ℕ, ◌≤◌, ◌==◌, Bool, true, cond, List, length, map, filter, Some, None, inl, inr, sym, ap, ◌∙◌, arith, Event, Step, ActorSpec}
 use Rattle.std.specs.Prelude.{All, IsOk, IsTrue}
 use Rattle.std.specs.List.{list_all}
 use Rattle.std.proofs.lemmas.List.{length-map}
@@ -8,6 +8,7 @@ use Rattle.act_rules.specs.History.{actors_naming, opening}
 use Rattle.act_rules.specs.Rules.{outcomes}
 use Rattle.act_rules.specs.Plans.{first_bad}
 use Rattle.act_rules.specs.Scripts.{actor_spec_of}
+use Rattle.act_rules.proofs.Lists.{length-filter_least}
 use Rattle.act_scripts.specs.Roles.{AreFitting}
 use Rattle.act_summaries.specs.Summaries.{is_sayable_role}
 use Rattle.act_console.specs.Plans.{steps_of_caller}
@@ -26,19 +27,11 @@ use Rattle.act_decisions.proofs.SaidEnds.{binds}
 
 -- ---- the steps that a caller is bound to
 
-filter_few : {X : Type 0} (p : X → Bool) (xs : List X) → length (filter p xs) ≤ length xs
-filter_few p [] = omega arith
-filter_few {X = X} p (x ∷ xs) = go (p x) (filter_few p xs)
-  where
-    go : (b : Bool) → length (filter p xs) ≤ length xs → length (cond b (x ∷ filter p xs) (filter p xs)) ≤ suc (length xs)
-    go true rest = omega (arith, rest)
-    go false rest = omega (arith, rest)
-
 -- they are no more than all steps
 pub few_own : (c : ℕ) (steps : List (ℕ × Step × ℕ)) → length (steps_of_caller c steps) ≤ length steps
 few_own c steps =
     let one = length-map (filter (λ (s : ℕ × Step × ℕ). s.0 == c) steps) (λ (s : ℕ × Step × ℕ). s.1) in
-    let two = filter_few (λ (s : ℕ × Step × ℕ). s.0 == c) steps in
+    let two = length-filter_least (λ (s : ℕ × Step × ℕ). s.0 == c) steps in
     omega (arith, one, two)
 
 module _ (end : ToldEnd) (steps : List (ℕ × Step × ℕ)) (lines : AllFitSteps end steps) where

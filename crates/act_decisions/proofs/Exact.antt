@@ -1,7 +1,7 @@
 -- Lines beside the text that they tell: what is read off the text is what they tell.
 use Rattle.act_decisions.proofs.Common.{◌≡◌, ◌⊎◌, ℕ, suc, ◌+◌, ◌-◌, ◌<◌, ◌≤◌, ◌==◌, ◌||◌, Bool, true, false, List, [], ◌∷◌, ◌++◌, length, map, take, inl, inr}
 use Rattle.act_decisions.proofs.Common.{refl, sym, ap, ◌∙◌, subst, arith, append_assoc, append-nil, All, flat_map, flat_map-append}
-use Rattle.act_decisions.proofs.Common.{if◌then◌else◌, get_or, eq-eqb, eqb-true, told_line, IsToldAs, Make, is_skipped, lines_in, Bor}
+use Rattle.act_decisions.proofs.Common.{if◌then◌else◌, get_or, eq-eqb, eqb-true, told_line, IsToldAs, Make, is_skipped, lines_in}
 use Rattle.std.proofs.Common.{codes, drop, None, Some, position, ◌≢◌, add-one}
 use Rattle.std.proofs.lemmas.Bool.Decides.{leb_tells}
 use Rattle.std.proofs.lemmas.List.{get_or-take, length-take, take-append-drop}
@@ -16,6 +16,7 @@ use Rattle.std.proofs.lemmas.List.Elements.{All-append, All-take}
 use Rattle.std.proofs.lemmas.Slice.Eq.{starts_is, ends_is}
 use Rattle.act_rules.specs.Report.{line}
 use Rattle.act_summaries.specs.Lines.{ends_in, is_open}
+use Rattle.act_summaries.proofs.Bytes.{heads, tails}
 use Rattle.std.specs.List.{onto_first}
 use Rattle.std.proofs.lemmas.List.Splits.{slice_split-cons_yes, slice_split-cons_no}
 
@@ -25,28 +26,22 @@ IsOfOneLine text = All (λ (b : ℕ). b ≢ 10) text
 
 -- ---- where a text is cut
 
-cons-heads : (a b : ℕ) (x y : List ℕ) → a ∷ x ≡ b ∷ y → a ≡ b
-cons-heads a b x y e = cc
-
-cons-tails : (a b : ℕ) (x y : List ℕ) → a ∷ x ≡ b ∷ y → x ≡ y
-cons-tails a b x y e = cc
-
 -- two texts that are cut at the end of their first line are cut alike
 pub cut_alike : (one other front back : List ℕ) → IsOfOneLine one → IsOfOneLine other → one ++ 10 ∷ front ≡ other ++ 10 ∷ back → (one ≡ other) × (front ≡ back)
-cut_alike [] [] front back plain same e = (refl, cons-tails 10 10 front back e)
-cut_alike [] (b ∷ other) front back plain same e = absurd (All-head (λ (b : ℕ). b ≢ 10) b other same (sym (cons-heads 10 b front (other ++ 10 ∷ back) e)))
-cut_alike (b ∷ one) [] front back plain same e = absurd (All-head (λ (b : ℕ). b ≢ 10) b one plain (cons-heads b 10 (one ++ 10 ∷ front) back e))
+cut_alike [] [] front back plain same e = (refl, tails 10 10 front back e)
+cut_alike [] (b ∷ other) front back plain same e = absurd (All-head (λ (b : ℕ). b ≢ 10) b other same (sym (heads 10 b front (other ++ 10 ∷ back) e)))
+cut_alike (b ∷ one) [] front back plain same e = absurd (All-head (λ (b : ℕ). b ≢ 10) b one plain (heads b 10 (one ++ 10 ∷ front) back e))
 cut_alike (a ∷ one) (b ∷ other) front back plain same e =
     let rest = cut_alike one other front back (All-tail (λ (b : ℕ). b ≢ 10) a one plain) (All-tail (λ (b : ℕ). b ≢ 10) b other same)
-    (cons-tails a b (one ++ 10 ∷ front) (other ++ 10 ∷ back) e) in
-    let first = cons-heads a b (one ++ 10 ∷ front) (other ++ 10 ∷ back) e in
+    (tails a b (one ++ 10 ∷ front) (other ++ 10 ∷ back) e) in
+    let first = heads a b (one ++ 10 ∷ front) (other ++ 10 ∷ back) e in
     ((λ i. first i ∷ rest.0 i), rest.1)
 
 -- a text that ends no line isn't cut
 pub uncut : (one other back : List ℕ) → IsOfOneLine one → one ≡ other ++ 10 ∷ back → ⊥
 uncut one [] back plain e = All-head (λ (b : ℕ). b ≢ 10) 10 back (subst IsOfOneLine e plain) refl
 uncut [] (b ∷ other) back plain e = cc
-uncut (a ∷ one) (b ∷ other) back plain e = uncut one other back (All-tail (λ (b : ℕ). b ≢ 10) a one plain) (cons-tails a b one (other ++ 10 ∷ back) e)
+uncut (a ∷ one) (b ∷ other) back plain e = uncut one other back (All-tail (λ (b : ℕ). b ≢ 10) a one plain) (tails a b one (other ++ 10 ∷ back) e)
 
 -- a first line that was cut off, or is all
 abbrev pub IsCut : List ℕ → List ℕ → List ℕ → Type 0
@@ -160,9 +155,6 @@ beside_told text told more shown first left old new is plain as_told begun first
     (subst (λ (t : List ℕ). new ≡ old ++ told_line t) same.0 (adds (subst (IsToldAs text) (sym same.0) as_told)), same.1)
 
 -- ---- all lines, beside what is shown
-
-abbrev texts : List (Bor (List ℕ)) → List (List ℕ)
-texts lines = map (λ line. line.now) lines
 
 abbrev told_of : List ℕ × List ℕ → List ℕ
 told_of pair = told_line pair.1

@@ -1,11 +1,10 @@
 -- What was read, looked up by number, beside the roles of a script.
-use Rattle.act_decisions.proofs.Common.{◌≡◌, ℕ, ◌+◌, ◌<◌, ◌≤◌, ◌==◌, ◌⊎◌, inl, inr, Bool, true, false, if◌then◌else◌, List, [], ◌∷◌, length, map, filter, get_or, Option, Some, None}
+use Rattle.act_decisions.proofs.Common.{◌≡◌, ℕ, ◌+◌, ◌<◌, ◌≤◌, ◌==◌, ◌⊎◌, inl, inr, Bool, true, false, if◌then◌else◌, List, [], length, map, filter, get_or, Option, Some, None}
 use Rattle.act_decisions.proofs.Common.{leb, leb-true, leb-false, refl, sym, ap, ◌∙◌, subst, arith, option_map, slice_get, slice_get-get_or, ActorSpec, actor_spec_of, Role, ToldEnd}
-use Rattle.std.specs.Prelude.{◌≢◌, AllPairs, find, nat_lt}
-use Rattle.std.proofs.lemmas.Bool.{cases_lt, ltb-true}
+use Rattle.std.specs.Prelude.{◌≢◌, AllPairs, find}
+use Rattle.std.proofs.lemmas.Bool.{cases_lt}
 use Rattle.std.proofs.lemmas.List.Kept.{AllPairs-filter}
 use Rattle.act_rules.specs.History.{actors_naming, callers_in, contains}
-use Rattle.act_rules.specs.Scripts.{actors_of_roles}
 use Rattle.act_rules.proofs.Lists.{AllPairs-map, find-map}
 use Rattle.act_scripts.specs.Roles.{AreFitting}
 use Rattle.act_walks.specs.declared.told.ToldActor.{ToldActor}
@@ -19,12 +18,6 @@ use Rattle.std.proofs.lemmas.Option.{same_Some, slice_get_past, slice_get_within
 -- the item at a place
 pub item_at : {X : Type 0} (xs : List X) (n : ℕ) (x : X) → n < length xs → x ≡ get_or xs n x → slice_get xs n ≡ Some x
 item_at {X = X} xs n x within is = slice_get-get_or xs n x within ∙ ap (λ (y : X). Some y) (sym is)
-
--- the item that is read there
-pub read_at : {X : Type 0} (read items : List X) (n : ℕ) (x : X) → read ≡ items → true ≡ nat_lt n (length read) → x ≡ get_or read n x
-    → slice_get items n ≡ Some x
-read_at {X = X} read items n x same within is =
-    ap (λ (l : List X). slice_get l n) (sym same) ∙ item_at read n x (ltb-true n (length read) (sym within)) is
 
 -- what holds below a place, and there
 pub below_more : (P : ℕ → Type 0) (n : ℕ) → ((i : ℕ) → i < n → P i) → P n → (i : ℕ) → i < n + 1 → P i
@@ -92,23 +85,6 @@ pub role_found : (roles : List Role) (a : ℕ) (found : Option Role) → found �
 role_found roles a found is =
     ap (λ (o : Option Role). callers_in (option_map actor_spec_of o)) is
     ∙ ap callers_in (sym (find-map (λ (cast : ActorSpec). cast.actor == a) actor_spec_of roles))
-
-abbrev roles_of : ℕ → List Role → List Role
-roles_of c roles = filter (λ (r : Role). contains c r.callers) roles
-
-abbrev casts_of : ℕ → List Role → List ActorSpec
-casts_of c roles = filter (λ (cast : ActorSpec). contains c cast.callers) (map actor_spec_of roles)
-
--- the roles that name a caller are its casts
-pub naming_same : (c : ℕ) (roles : List Role) → actors_of_roles c roles ≡ actors_naming c (map actor_spec_of roles)
-naming_same c [] = refl
-naming_same c (role ∷ roles) = go (contains c role.callers) (naming_same c roles)
-  where
-    go : (b : Bool) → actors_of_roles c roles ≡ actors_naming c (map actor_spec_of roles)
-        → map (λ (r : Role). r.actor) (if b then role ∷ roles_of c roles else roles_of c roles)
-        ≡ map (λ (cast : ActorSpec). cast.actor) (if b then actor_spec_of role ∷ casts_of c roles else casts_of c roles)
-    go true rest = ap (λ (actors : List ℕ). role.actor ∷ actors) rest
-    go false rest = rest
 
 -- the actors whose casts name a caller differ
 pub naming_differ : (c : ℕ) (casts : List ActorSpec) → AreFitting casts → AllPairs (λ (one other : ℕ). one ≢ other) (actors_naming c casts)

@@ -5,12 +5,12 @@ use Rattle.act_early.proofs.Common.{ActorSpec, History, opening, calls_of, runs_
 use Rattle.act_rules.proofs.Unique.{map-slice_get}
 use Rattle.act_rules.proofs.Kept.{length-answers_from}
 use Rattle.act_rules.proofs.Sound.{consistent, deaths_are}
+use Rattle.act_rules.proofs.Lists.{All_at}
 use Rattle.act_rules.specs.Consistent.{IsAsSubmitted}
 use Rattle.act_rules.specs.History.{answer_of}
 use Rattle.act_rules.specs.RunList.{answers_from}
 use Rattle.act_rules.specs.Submissions.{settled_future}
 use Rattle.act_early.proofs.Replies.{reply_died}
-use Rattle.std.specs.List.{AllByRecursion}
 use Rattle.act_types.specs.declared.call.Arg.{Arg}
 use Rattle.act_types.specs.declared.call.Arg.TheVariants.{Plain, Fut}
 use Rattle.act_types.specs.declared.call.Settled.{Settled}
@@ -37,11 +37,6 @@ use Rattle.act_decisions.proofs.SaidCalls.{data_calls, ran_item}
 use Rattle.act_decisions.proofs.Chosen.{wants_reply, is_death, reply_there, chosen, chosen_all, chosen_length, chosen_at, chosen_past}
 
 -- ---- lists
-
-each_at : {A : Type 0} (P : A → Type 0) (xs : List A) (k : ℕ) (x : A) → AllByRecursion P xs → slice_get xs k ≡ Some x → P x
-each_at P [] k x all e = cc
-each_at P (y ∷ ys) zero x all e = let same : y ≡ x = cc in subst P same all.0
-each_at P (y ∷ ys) (suc k) x all e = each_at P ys k x all.1 e
 
 -- the failure of a future came of the future
 settled_bad : (kept : List (Option Answer)) (k : ℕ) (arg : Arg) → settle kept arg ≡ Bad k → arg ≡ Fut k
@@ -106,7 +101,7 @@ module _ (end : ToldEnd) (steps : List (ℕ × Step × ℕ)) (casts : List Actor
       let item = item_of_said end h fits taken.actor taken.place taken.run taken.at in
       let of : item.0.caller ≡ c = item.2.caller ∙ taken.caller in
       let sub : IsAsSubmitted (λ c. calls_of c h) (λ c. kept_of c h) item.0 =
-      each_at (IsAsSubmitted (λ c. calls_of c h) (λ c. kept_of c h)) (runs_of taken.actor h) taken.place item.0 ((consistent h sound).as_submitted taken.actor) item.1 in
+      All_at (IsAsSubmitted (λ c. calls_of c h) (λ c. kept_of c h)) (runs_of taken.actor h) taken.place item.0 ((consistent h sound).as_submitted taken.actor) item.1 in
       no_failure (kept_of item.0.caller h) sub.call.args k value (ap (λ (d : ℕ). kept_at (kept_of d h) k) of ∙ is)
       (subst (λ (l : List Settled). Contains l (Bad k)) (sym item.2.args ∙ sub.args) taken.took)
 

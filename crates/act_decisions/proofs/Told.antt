@@ -1,10 +1,7 @@
 -- The lines that are told, one after the other.
-use Rattle.act_decisions.proofs.Common.{◌≡◌, ℕ, List, [], ◌∷◌, ◌++◌, map, Bor, refl, sym, ap, ◌∙◌, flat_map, flat_map-append}
+use Rattle.act_decisions.proofs.Common.{◌≡◌, ℕ, List, [], ◌∷◌, ◌++◌, Bor, refl, sym, ap, ◌∙◌, flat_map, flat_map-append}
 use Rattle.act_decisions.proofs.Common.{append-nil, map-append, All-append, All-cons, All-nil, told_line, IsToldAs, Make}
-
--- the texts of borrowed lines
-abbrev texts : List (Bor (List ℕ)) → List (List ℕ)
-texts lines = map (λ line. line.now) lines
+use Rattle.act_scripts.proofs.Each.{texts}
 
 -- the line of a pair, as it is told
 abbrev told_of : List ℕ × List ℕ → List ℕ

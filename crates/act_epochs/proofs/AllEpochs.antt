@@ -21,10 +21,11 @@ use Rattle.act_plans.specs.Runs.{cast_at}
 use Rattle.act_executor.specs.Joined.{end_of, log_of_end, calls_in, log_in, killed_in}
 use Rattle.act_executor.proofs.Cuts.{pairs_append}
 use Rattle.act_executor.proofs.Heard.{front_after}
+use Rattle.act_executor.proofs.Lists.{place_behind}
 use Rattle.act_own.specs.Kept.{OpensAt}
 use Rattle.act_epochs.specs.Epochs.{Epoch, IsEpoch, casts_left, AreEpochs, casts_after}
 use Rattle.act_epochs.specs.OverEpochs.{runs, submitted_in, ran_in, IsInState, IsAnswerOfAllRuns, IsOver, AreConsistent, CastKeeps}
-use Rattle.act_epochs.proofs.Lists.{front_before, state_after-append, place_behind, answer_between}
+use Rattle.act_epochs.proofs.Lists.{front_before, state_after-append, answer_between}
 use Rattle.act_epochs.proofs.OneEpoch.{submitted_as, ran_as, no_end, no_calls, left_is, none_left, killed_leaves_none, other_is_left, ran_front, ran_whole, left_state, calls_differ}
 
 -- the calls of a later epoch have a later number

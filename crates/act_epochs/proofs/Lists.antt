@@ -10,6 +10,7 @@ use Rattle.act_rules.specs.RunList.{Answer, after_item, answers_from, answer_at,
 use Rattle.act_rules.specs.Consistent.{IsPrefix}
 use Rattle.act_rules.proofs.Kept.{answers_from-append, length-answers_from, answer_at-front}
 use Rattle.act_executor.proofs.Elements.{IsIn}
+use Rattle.act_executor.proofs.Lists.{place_behind}
 
 -- ---- prefixes
 
@@ -61,13 +62,6 @@ places_apart {A} n (x ∷ xs) =
 pub state_after-append : (state : KindState) (xs ys : List RunItem) → state_after state (xs ++ ys) ≡ state_after (state_after state xs) ys
 state_after-append state [] ys = refl
 state_after-append state (x ∷ xs) ys = state_after-append (after_item state x).0 xs ys
-
--- a place behind a list
-pub place_behind : {A : Type 0} (xs ys : List A) (k : ℕ) → slice_get (xs ++ ys) (length xs + k) ≡ slice_get ys k
-place_behind [] ys k = let e : 0 + k ≡ k = omega arith in ap (slice_get ys) e
-place_behind (x ∷ xs) ys k =
-    let e : length (x ∷ xs) + k ≡ suc (length xs + k) = omega arith in
-    ap (slice_get (x ∷ xs ++ ys)) e ∙ place_behind xs ys k
 
 -- the answer at a place of runs that others precede and follow
 pub answer_between : (state : KindState) (xs ys zs : List RunItem) (k : ℕ) (item : RunItem) → slice_get ys k ≡ Some item

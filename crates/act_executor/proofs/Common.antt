@@ -132,6 +132,8 @@ pub use Rattle.act_types.specs.declared.call.Packet.{Packet}
 pub use Rattle.act_types.specs.declared.call.ReleaseNote.{ReleaseNote}
 pub use Rattle.act_types.specs.declared.call.Reply.{Reply}
 pub use Rattle.act_types.specs.declared.limits.TheConstants.{MAX_ACTORS, MAX_CALLERS}
+pub use Rattle.act_world.proofs.Heard.{death_listed}
+pub use Rattle.act_world.proofs.Lists.{contains-more}
 pub use Rattle.act_world.specs.Refines.{is_death_to}
 pub use Rattle.atomic_table.specs.Seated.{TableId}
 pub use Rattle.std.proofs.Common.{All, AllPairs, Bool, Contains, Err, IfErr, IsErrAnd, IsOk, IsTrue, List, None, Ok, Option, Result, Some, [], ap, append-nil}

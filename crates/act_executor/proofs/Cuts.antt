@@ -2,12 +2,9 @@
 use Rattle.act_executor.proofs.Common.{◌≡◌, ◌≢◌, ℕ, zero, suc, ◌≤◌, ◌<◌, ◌==◌, Bool, true, false, List, [], ◌∷◌, ◌++◌, Option, Some, None, All, inl, inr, refl}
 use Rattle.act_executor.proofs.Common.{ap, sym, ◌∙◌, subst, arith, Contains, ◌⊎◌, map, filter_map, slice_get, nat_le, AllPairs, AllByRecursion, cons_option}
 use Rattle.act_executor.proofs.Common.{eq-eqb, leb-true, leb-false, eqb_tells, All-append, All-head, All-tail, Contains-append_right}
-use Rattle.act_executor.proofs.Common.{AllPairs-cons, IsPrefix, under, under_here, under_other}
+use Rattle.act_executor.proofs.Common.{AllPairs-cons, IsPrefix, under, under_here, under_other, contains-more}
 
 -- ---- what is contained
-
-pub contains_more : {A : Type 0} (xs : List A) (y x : A) → Contains xs x → Contains (y ∷ xs) x
-contains_more xs y x has = (suc has.0, (let below = has.1 in omega arith), has.2)
 
 pub contains_head : {A : Type 0} (xs : List A) (x : A) → Contains (x ∷ xs) x
 contains_head xs x = (0, omega arith, refl)
@@ -24,7 +21,7 @@ contains_filter_map {B = B} f (z ∷ xs) x y is (suc k, below, same) = go (f z) 
   where
     go : (o : Option B) → Contains (filter_map f xs) y → Contains (cons_option o (filter_map f xs)) y
     go None has = has
-    go (Some w) has = contains_more (filter_map f xs) w y has
+    go (Some w) has = contains-more (filter_map f xs) w y has
 
 -- ---- pairs of two lists
 
@@ -107,7 +104,7 @@ contained_in_front {A = A} [] ys m n x from has lt = absurd (behind ys from has)
     behind (y ∷ ys) from (zero, below, is) = let e : y.0 ≡ n = ap (λ (d : ℕ × A). d.0) is in omega (arith, from.0, e, lt)
     behind (y ∷ ys) from (suc k, below, is) = behind ys from.1 (k, omega arith, is)
 contained_in_front (z ∷ xs) ys m n x from (zero, below, is) lt = (0, omega arith, is)
-contained_in_front (z ∷ xs) ys m n x from (suc k, below, is) lt = contains_more xs z (n, x) (contained_in_front xs ys m n x from (k, omega arith, is) lt)
+contained_in_front (z ∷ xs) ys m n x from (suc k, below, is) lt = contains-more xs z (n, x) (contained_in_front xs ys m n x from (k, omega arith, is) lt)
 
 -- of two cuts, the one with all below m is the shorter one
 pub shorter_front : {A : Type 0} (m : ℕ) (xs rest front later : List (ℕ × A)) → xs ++ rest ≡ front ++ later → AllByRecursion (λ x. x.0 < m) xs → AreFrom m later → IsPrefix xs front
@@ -151,10 +148,10 @@ contains_under {A = A} t (x ∷ xs) y has = go (contains_under t xs y) (eqb_tell
   where
     head_or : (Contains (map (λ (d : ℕ × A). d.1) (under t xs)) y → Contains (map (λ (x : ℕ × (ℕ × A)). x.1.1) xs) y) → Contains (x.1.1 ∷ map (λ (d : ℕ × A). d.1) (under t xs)) y → Contains (x.1.1 ∷ map (λ (x : ℕ × (ℕ × A)). x.1.1) xs) y
     head_or rest (zero, below, is) = (0, omega arith, is)
-    head_or rest (suc k, below, is) = contains_more (map (λ (x : ℕ × (ℕ × A)). x.1.1) xs) x.1.1 y (rest (k, omega arith, is))
+    head_or rest (suc k, below, is) = contains-more (map (λ (x : ℕ × (ℕ × A)). x.1.1) xs) x.1.1 y (rest (k, omega arith, is))
 
     go : (Contains (map (λ (d : ℕ × A). d.1) (under t xs)) y → Contains (map (λ (x : ℕ × (ℕ × A)). x.1.1) xs) y)
         → (((x.0 == t) ≡ true) × (x.0 ≡ t)) ⊎ (((x.0 == t) ≡ false) × (x.0 ≢ t))
         → Contains (map (λ (x : ℕ × (ℕ × A)). x.1.1) (x ∷ xs)) y
     go rest (inl same) = head_or rest (subst (λ (l : List (ℕ × A)). Contains (map (λ (d : ℕ × A). d.1) l) y) (under_here t x xs same.0) has)
-    go rest (inr other) = contains_more (map (λ (x : ℕ × (ℕ × A)). x.1.1) xs) x.1.1 y (rest (subst (λ (l : List (ℕ × A)). Contains (map (λ (d : ℕ × A). d.1) l) y) (under_other t x xs other.0) has))
+    go rest (inr other) = contains-more (map (λ (x : ℕ × (ℕ × A)). x.1.1) xs) x.1.1 y (rest (subst (λ (l : List (ℕ × A)). Contains (map (λ (d : ℕ × A). d.1) l) y) (under_other t x xs other.0) has))

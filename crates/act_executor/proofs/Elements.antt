@@ -3,6 +3,7 @@ use Rattle.act_executor.proofs.Common.{◌≡◌, ℕ, zero, suc, ◌+◌, Bool,
 use Rattle.act_executor.proofs.Common.{arith, inl, inr, ◌<◌, length-append, ◌==◌, ◌||◌, map, filter, find, slice_get, All, Contains, ◌⊎◌, AllByRecursion}
 use Rattle.act_executor.proofs.Common.{list_any, range_with_len, enumerate_from, eq-eqb, eqb-true, slice_get_read, slice_get-get_or, slice_get_within}
 use Rattle.act_executor.proofs.Common.{get_or_from_slice_get, All-contains, any_passes_from_place, IsPrefix, slice_get-filter, slice_get_front, contains}
+use Rattle.act_executor.proofs.Common.{get_or-map, length-map}
 use Rattle.std.proofs.lemmas.List.{append-nil}
 
 -- x stands in xs
@@ -36,6 +37,10 @@ all_from_places P (x ∷ xs) f = (f 0 x refl, all_from_places P xs (λ k y e. f 
 
 pub all_by_places : {A : Type 0} (P : A → Type 0) (xs : List A) → ((k : ℕ) (x : A) → slice_get xs k ≡ Some x → P x) → All P xs
 all_by_places P xs f k d below = f k _ (slice_get-get_or xs k d below)
+
+-- what holds of all that a list is mapped to
+pub all_of_map : {X Y : Type 0} (P : Y → Type 0) (f : X → Y) (xs : List X) → All P (map f xs) → All (λ x. P (f x)) xs
+all_of_map P f xs all k d within = subst P (get_or-map f xs k d (f d) within) (all k (f d) (omega (arith, length-map xs f)))
 
 -- a list whose elements stand at the same places of another is its front
 pub front_by_places : {A : Type 0} (xs ys : List A) → ((k : ℕ) (x : A) → slice_get xs k ≡ Some x → slice_get ys k ≡ Some x) → IsPrefix xs ys

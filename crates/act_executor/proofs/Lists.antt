@@ -1,6 +1,6 @@
 -- Lists that are used up, and lists that agree place by place.
 use Rattle.act_executor.proofs.Common.{◌≡◌, ℕ, ◌+◌, ◌<◌, suc, zero, List, [], ◌∷◌, ◌++◌, length, map, get_or, zip, ◌⊎◌, inl, inr, sym, ap, ◌∙◌, subst, refl}
-use Rattle.act_executor.proofs.Common.{arith, All, eq-or-lt_of_le, get_or-map, length-map, Each}
+use Rattle.act_executor.proofs.Common.{arith, All, eq-or-lt_of_le, get_or-map, length-map, Each, slice_get}
 
 module _ {X : Type 0} (P : X → Type 0) where
   -- what holds of all elements holds of those behind the first
@@ -61,3 +61,10 @@ same_place f xs ys i x lt same at =
 pub append_over : {X : Type 0} (xs : List X) (x : X) (rest : List X) → (xs ++ x ∷ []) ++ rest ≡ xs ++ x ∷ rest
 append_over [] x rest = refl
 append_over (y ∷ xs) x rest = ap (λ l. y ∷ l) (append_over xs x rest)
+
+-- a place behind a list
+pub place_behind : {A : Type 0} (xs ys : List A) (k : ℕ) → slice_get (xs ++ ys) (length xs + k) ≡ slice_get ys k
+place_behind [] ys k = let e : 0 + k ≡ k = omega arith in ap (slice_get ys) e
+place_behind (x ∷ xs) ys k =
+    let e : length (x ∷ xs) + k ≡ suc (length xs + k) = omega arith in
+    ap (slice_get (x ∷ xs ++ ys)) e ∙ place_behind xs ys k

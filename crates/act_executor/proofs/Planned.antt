@@ -1,18 +1,16 @@
 -- What a caller's thread did by its plan, the caller does by its plan in the play.
 use Rattle.act_executor.proofs.Common.{◌≡◌, ℕ, ◌==◌, Bool, true, false, cond, List, [], ◌∷◌, ◌++◌, Option, Some, None, inl, inr, refl, ap, sym, ◌∙◌, subst, All}
-use Rattle.act_executor.proofs.Common.{append_assoc, append-nil, filter_map, is_some, Contains, AllByRecursion, AllZip, cons_option, list_any, eqb-true}
-use Rattle.act_executor.proofs.Common.{and_parts, All-from_recursion, recursion_from_All, filter_map-append, Answered, Death, Event, Post, Step, history}
+use Rattle.act_executor.proofs.Common.{append_assoc, append-nil, filter_map, is_some, AllByRecursion, AllZip, cons_option, eqb-true}
+use Rattle.act_executor.proofs.Common.{All-from_recursion, recursion_from_All, filter_map-append, Answered, Death, Event, Step, history}
 use Rattle.act_executor.proofs.Common.{Answer, ActorSpec, History, kept_at, OwnerView, is_known_dead, Change, Copied, Released, Submitted, Sent, Noticed}
-use Rattle.act_executor.proofs.Common.{after_changes, after_all-append, is_death_to, Deed, Changed, AskedKill, TookCall, TookNote, Ran, TookKill, ToldDeath}
+use Rattle.act_executor.proofs.Common.{after_changes, after_all-append, Deed, Changed, AskedKill, TookCall, TookNote, Ran, TookKill, ToldDeath}
 use Rattle.act_executor.proofs.Common.{change_of, changes_by, owner_by, owner_after, IsEventOf, CallerStep, ChangeMade, KillAsked, change_made, changes_made}
-use Rattle.act_executor.proofs.Common.{owner_after_steps, KeepsAnswers, EachFront, step_of, DoesStepIn, DoesPlanIn, DoesPlan}
-use Rattle.act_rules.specs.declared.history.Post.TheVariants.{Reply as ReplyPost, Death as DeathPost}
+use Rattle.act_executor.proofs.Common.{owner_after_steps, KeepsAnswers, EachFront, step_of, DoesStepIn, DoesPlanIn, DoesPlan, death_listed}
 use Rattle.act_rules.specs.declared.script.Step.TheVariants.{Submit as SubmitStep, Copy as CopyStep, Release as ReleaseStep, Kill as KillStep, Await as AwaitStep}
 use Rattle.act_causes.specs.Deeds.{Retired}
 use Rattle.act_drive.specs.PlanTraces.{IsMeanwhile as IsMeanwhileStep}
 use Rattle.act_executor.proofs.Threads.{deed_of_caller}
 use Rattle.act_executor.specs.PlanPlays.{IsMeanwhile}
-use Rattle.act_executor.proofs.Elements.{any_is, contains_from_in}
 use Rattle.act_executor.proofs.Own.{own_step}
 
 -- ---- cuts of what a filter keeps
@@ -89,17 +87,6 @@ module _ {A B : Type 0} (f : A → Option B) where
           subst (λ (z : B). IsCutBy f (x ∷ xs) (z ∷ ys) y zs) head (more_by (Some b) x xs ys y zs is (less tail))
 
 -- ---- a death that is told
-
-death_is : (c a : ℕ) (post : Post) → is_death_to c a post ≡ true → post ≡ DeathPost c a
-death_is c a (ReplyPost d b place) e = cc
-death_is c a (DeathPost d b) e =
-    let both = and_parts (d == c) (b == a) e in
-    ap (λ (n : ℕ). DeathPost n b) (eqb-true d c both.0) ∙ ap (λ (n : ℕ). DeathPost c n) (eqb-true b a both.1)
-
-death_collected : (c a : ℕ) (posts : List Post) → list_any (is_death_to c a) posts ≡ true → Contains posts (DeathPost c a)
-death_collected c a posts told =
-    let one = any_is (is_death_to c a) posts told in
-    subst (Contains posts) (death_is c a one.0 one.1.passes) (contains_from_in posts one.0 one.1.inside)
 
 -- ---- a deed of the caller's is its event
 
@@ -383,7 +370,7 @@ module _ (casts : List ActorSpec) (c : ℕ) (h : History) where
       (λ deeds first rest stands. does_plan plan _ deeds first later rest stands (subst (λ (l : List CallerStep). DoesPlan (owner_after_steps owner l) plan later) does more))
   does_plan (KillStep a ∷ plan) owner before first steps events stands (skipped, done, later, quiet, does, whole, more) = elim does [
     | inl unasked ↦ spared (KillStep a) plan owner before first skipped later events
-        (λ deeds first known is. inr (refl, death_collected c a (history casts first).collected (known.deaths c a (ap (λ (o : OwnerView). is_known_dead o a) is ∙ unasked.1))))
+        (λ deeds first known is. inr (refl, death_listed c a (history casts first).collected (known.deaths c a (ap (λ (o : OwnerView). is_known_dead o a) is ∙ unasked.1))))
         (cut_so owner before first steps done skipped later events stands whole unasked.0) quiet
         (λ deeds first rest stands. does_plan plan _ deeds first later rest stands (subst (λ (l : List CallerStep). DoesPlan (owner_after_steps owner l) plan later) unasked.0 more))
     | inr asked ↦ acted (KillStep a) plan owner before first skipped (KillAsked a) later events

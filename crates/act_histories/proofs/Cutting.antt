@@ -1,5 +1,5 @@
 -- Where the lines of what was left begin, line by line.
-use Rattle.std.proofs.Common.{◌≡◌, ◌≢◌, ◌⊎◌, inl, inr, ℕ, suc, ◌+◌, ◌-◌, ◌<◌, ◌==◌, cond, Bool, true, false, List, [], ◌∷◌, ◌++◌, length, drop, refl, sym, ap, ◌∙◌, arith, append_assoc}
+use Rattle.std.proofs.Common.{◌≡◌, ◌≢◌, ◌⊎◌, inl, inr, ℕ, ◌+◌, ◌-◌, ◌==◌, cond, Bool, true, false, List, [], ◌∷◌, ◌++◌, length, drop, refl, sym, ap, ◌∙◌, arith, append_assoc}
 use Rattle.std.proofs.lemmas.Bool.{eqb-true}
 use Rattle.std.proofs.lemmas.List.{length-append}
 use Rattle.std.proofs.lemmas.List.Elements.{All-head, All-tail}
@@ -62,11 +62,6 @@ one_less bytes left line below plain (inr (all, empty)) none so_far = record {
     append_none : (l : List ℕ) → l ++ [] ≡ l
     append_none [] = refl
     append_none (b ∷ l) = ap (λ (m : List ℕ). b ∷ m) (append_none l)
-
--- what is left is shorter
-pub shorter : (left line below : List ℕ) → 0 < length left → IsCut left line below → length below < length left
-shorter left line below some (inl cut) = let long : length left ≡ length line + suc (length below) = ap length cut ∙ length-append line (10 ∷ below) in omega arith
-shorter left line below some (inr (all, none)) = let long : length below ≡ 0 = ap length none in omega arith
 
 -- a line that tells what was left is where it begins
 here : (left : List ℕ) → tells_left left ≡ true → told_part true left ≡ left

@@ -1,6 +1,7 @@
 -- The names of specifications and of the crates below that most proofs here cite, passed on from one place.
 pub use Rattle.act_order_plays.specs.Plays.{EndsAs, Fits, IsKeptFor, IsPlayOf, LeavesTold, Waited, answer_to, answers, args_of, call_key, calls_by}
 pub use Rattle.act_order_plays.specs.Plays.{cast_of_actor, casts_of, future_of, item_key, kept_for, run_key, runs_by, submission_key}
+pub use Rattle.act_orders.proofs.Lists.{get_taken}
 pub use Rattle.act_orders.specs.Causes.{IsWhole, run_of}
 pub use Rattle.act_orders.specs.Order.{EndsRight, Happened, IsAfter, IsCause, IsInOrder, IsInOrderBy, IsLastRun, IsOrder, RunsBefore, RunsInTurn, RunsNext}
 pub use Rattle.act_orders.specs.Order.{SameCaller, SameWay, actor_of, call_of, calls_run}

@@ -3,6 +3,7 @@ use Rattle.act_order_plays.proofs.Common.{◌≡◌, ℕ, zero, suc, ◌<◌, �
 use Rattle.act_order_plays.proofs.Common.{None, slice_get, refl, sym, ap, subst, ◌∙◌, arith, filter_map, option_map, Contains, eqb-true, eq-eqb, slice_get-map}
 use Rattle.act_order_plays.proofs.Common.{IsPrefix, element, slice_get_front, slice_get-filter, IsPrefix-filter, filter-slice_get, map-slice_get, Happening}
 use Rattle.act_order_plays.proofs.Common.{Submitted, Ran, Answered, Run, Told, call_of, calls_run, SameCaller, RunsInTurn, calls_by, future_of, runs_by}
+use Rattle.act_order_plays.proofs.Common.{get_taken}
 use Rattle.act_order_plays.proofs.Lists.{Has, has_of, contains_of, has_filter, filter_has, has_filter_map, filter_map_has, Differ, below, below_at, below_has, below_differ, cases_le}
 
 abbrev pub submitted_in : Happening → Option ℕ
@@ -119,12 +120,6 @@ run_at told n has =
 -- whether a run is of this actor
 abbrev pub is_run_of : ℕ → Run → Bool
 is_run_of a run = run.actor == a
-
-pub get_taken : {A : Type 0} (i : ℕ) (xs : List A) (k : ℕ) (v : A) → slice_get (take i xs) k ≡ Some v → (k < i) × (slice_get xs k ≡ Some v)
-get_taken zero xs k v at = absurd (cc)
-get_taken (suc i) [] k v at = absurd (cc)
-get_taken (suc i) (x ∷ xs) zero v at = (omega arith, at)
-get_taken (suc i) (x ∷ xs) (suc k) v at = let h = get_taken i xs k v at in (omega (arith, h.0), h.1)
 
 -- the first items of a list are a prefix of it
 pub take_front : {A : Type 0} (i : ℕ) (xs : List A) → IsPrefix (take i xs) xs

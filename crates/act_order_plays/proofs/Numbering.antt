@@ -3,10 +3,10 @@ use Rattle.act_order_plays.proofs.Common.{◌≡◌, ℕ, zero, suc, ◌+◌, �
 use Rattle.act_order_plays.proofs.Common.{slice_get, refl, sym, ap, subst, ◌∙◌, arith, option_map, enumerate_from, eqb-true, eq-eqb, length-map, slice_get-map}
 use Rattle.act_order_plays.proofs.Common.{IsPrefix, RunItem, Submission, items_of, calls_to, number_of, History, calls_of, runs_of, ran_count, element}
 use Rattle.act_order_plays.proofs.Common.{slice_get_front, IsPrefix-map, calls_to_grow, calls_to-number, InOrder, numbered, numbers, calls_to-at, map-slice_get}
-use Rattle.act_order_plays.proofs.Common.{Happening, Submitted, Ran, Run, Told, call_of, SameWay, RunsInTurn, IsCause, calls_by, future_of}
+use Rattle.act_order_plays.proofs.Common.{Happening, Submitted, Ran, Run, Told, call_of, SameWay, RunsInTurn, IsCause, calls_by, future_of, get_taken}
 use Rattle.act_order_plays.proofs.Premises.{Premises}
 use Rattle.act_order_plays.proofs.Lists.{Has, has_filter, filter_has, Differ, front_ends}
-use Rattle.act_order_plays.proofs.Fronts.{subs_of, rans_of, rans_of_has, has_rans_of, call_at, call_before, calls_differ, IsRunAt, run_at, ran_earlier, get_taken, take_front}
+use Rattle.act_order_plays.proofs.Fronts.{subs_of, rans_of, rans_of_has, has_rans_of, call_at, call_before, calls_differ, IsRunAt, run_at, ran_earlier, take_front}
 use Rattle.act_order_plays.proofs.Causes.{IsNext, Good, earlier_ran}
 use Rattle.act_order_plays.proofs.Answering.{call_of_item, item_of_call}
 use Rattle.act_order_plays.proofs.Stands.{sub_of, Shape, runs_are, calls_are}

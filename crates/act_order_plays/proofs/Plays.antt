@@ -1,9 +1,8 @@
 -- A history in order is a play.
 use Rattle.act_order_plays.proofs.Common.{◌≡◌, ◌≢◌, ℕ, zero, suc, ◌<◌, ◌≤◌, List, ◌++◌, length, take, refl, sym, subst, arith, Contains, Event, History}
 use Rattle.act_order_plays.proofs.Common.{opening, history, after_all-append, End, Live, Dead, Retired, Happening, Submitted, Ran, Answered, Open, Told}
-use Rattle.act_order_plays.proofs.Common.{call_of, Happened, IsInOrderBy, IsWhole, Fits, LeavesTold, IsPlayOf, casts_of}
+use Rattle.act_order_plays.proofs.Common.{call_of, Happened, IsInOrderBy, IsWhole, Fits, LeavesTold, IsPlayOf, casts_of, get_taken}
 use Rattle.act_order_plays.proofs.Lists.{has_of, contains_of}
-use Rattle.act_order_plays.proofs.Fronts.{get_taken}
 use Rattle.act_order_plays.proofs.Premises.{Premises, premises}
 use Rattle.act_order_plays.proofs.Stands.{Leads, leads_now, leads_then}
 use Rattle.act_order_plays.proofs.Playing.{all_reached, waited_more}

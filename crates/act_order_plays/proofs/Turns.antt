@@ -5,10 +5,11 @@ use Rattle.act_order_plays.proofs.Common.{RunItem, Submission, items_of, calls_t
 use Rattle.act_order_plays.proofs.Common.{is_retired, element, slice_get_front, IsPrefix-filter, All_at, calls_to-number, filter-slice_get, IsSound, deaths_are}
 use Rattle.act_order_plays.proofs.Common.{IsNamed, Retires, ran_all, End, Live, Dead, Retired, Outcome, Run, Told, call_of, actor_of, calls_run, SameCaller}
 use Rattle.act_order_plays.proofs.Common.{SameWay, RunsInTurn, EndsRight, IsWhole, casts_of, IsKeptFor, EndsAs, LeavesTold, kept_for, runs_by, future_of}
+use Rattle.act_order_plays.proofs.Common.{get_taken}
 use Rattle.act_rules.proofs.Unique.{map-slice_get, rank as rank_in, same_place, held_call, one_place}
 use Rattle.act_orders.specs.declared.told.Outcome.TheVariants as out
 use Rattle.act_order_plays.proofs.Lists.{contains_of, below, below_at}
-use Rattle.act_order_plays.proofs.Fronts.{is_by, is_run_of, IsRunAt, get_taken, take_front, rank, run_ranks, run_before, ran_earlier, runs_earlier}
+use Rattle.act_order_plays.proofs.Fronts.{is_by, is_run_of, IsRunAt, take_front, rank, run_ranks, run_before, ran_earlier, runs_earlier}
 use Rattle.act_order_plays.proofs.Casts.{has_contains, cast_of_is}
 use Rattle.act_order_plays.proofs.Numbering.{futures_to, futures_ran, futures_differ, front_ran}
 use Rattle.act_order_plays.proofs.Left.{ran_by, run_happened, run_call, stands, call_there, item_at, run_told, item_here}

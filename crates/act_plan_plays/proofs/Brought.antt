@@ -4,7 +4,7 @@ use Rattle.act_plan_plays.proofs.Common.{◌∙◌, subst, ◌||◌, not, slice_
 use Rattle.act_plan_plays.proofs.Common.{WorldRefusal, ActorEnded, NoCaller, Sending, needs, calls_to, copies_held, send_refusal, History, is_letter}
 use Rattle.act_plan_plays.proofs.Common.{has_letter, is_ended, is_caller, calls_of, copies_of, kept_of, runs_of, refusal_of, did, add_event, after_by, after}
 use Rattle.act_plan_plays.proofs.Common.{and_also, letter_actor, deliver_refusal, call_letter, was_sent, is_last, slice_get_last, added_grows, ended_stays}
-use Rattle.act_plan_plays.proofs.Common.{letter_is, has_front, has_last, IsBrought, after_mail, after_post}
+use Rattle.act_plan_plays.proofs.Common.{letter_is, has_front, has_last, IsBrought, after_mail, after_post, or_cases}
 use Rattle.act_rules.specs.declared.event.Event.TheVariants as event
 use Rattle.act_rules.specs.declared.history.Letter.TheVariants.{Note as NoteLetter}
 
@@ -26,17 +26,13 @@ brought_kept h other accepted same brought letter there live =
 
 -- ---- a letter that is sent is brought
 
-either : (x y : Bool) → (x || y) ≡ true → (x ≡ true) ⊎ (y ≡ true)
-either true y e = inl refl
-either false y e = inr e
-
 one_letter : (x : Bool) → (x || false) ≡ true → x ≡ true
 one_letter true e = refl
 one_letter false e = cc
 
 -- a letter of the longer mail was there before, or is the new one
 older_or_new : (letter new : Letter) (mail : List Letter) → has_letter letter (mail ++ new ∷ []) ≡ true → (has_letter letter mail ≡ true) ⊎ (letter ≡ new)
-older_or_new letter new mail e = go (either (has_letter letter mail) (has_letter letter (new ∷ [])) (sym (list_any-append (is_letter letter) mail (new ∷ [])) ∙ e))
+older_or_new letter new mail e = go (or_cases (has_letter letter mail) (has_letter letter (new ∷ [])) (sym (list_any-append (is_letter letter) mail (new ∷ [])) ∙ e))
   where
     go : (has_letter letter mail ≡ true) ⊎ (has_letter letter (new ∷ []) ≡ true) → (has_letter letter mail ≡ true) ⊎ (letter ≡ new)
     go (inl there) = inl there

@@ -60,7 +60,8 @@ pub use Rattle.act_rules.specs.declared.script.Step.TheVariants.{Await, Copy, Ki
 pub use Rattle.act_types.specs.KindState.{KindState}
 pub use Rattle.act_types.specs.declared.call.Arg.{Arg}
 pub use Rattle.act_types.specs.declared.call.Packet.{Packet}
-pub use Rattle.act_world.proofs.Lists.{get_set-other, get_set-same}
+pub use Rattle.act_world.proofs.Heard.{death_listed}
+pub use Rattle.act_world.proofs.Lists.{get_set-other, get_set-same, read_is}
 pub use Rattle.act_world.proofs.NextCall.{item_is, next_is}
 pub use Rattle.act_world.proofs.OneCaller.{IsHere}
 pub use Rattle.act_world.proofs.Submitting.{submission_refused}
@@ -72,7 +73,7 @@ pub use Rattle.act_world.specs.declared.slot.Slot.{Slot}
 pub use Rattle.std.proofs.Common.{All, Bool, Contains, Err, IsOk, List, None, Ok, OnOk, Option, Result, Some, [], ap, arith, cond, false, filter, find, get_or}
 pub use Rattle.std.proofs.Common.{if◌then◌else◌, inl, inr, is_none, is_ok, is_some, leb, length, map, nat_lt, not, option_map, refl, replicate, slice_get}
 pub use Rattle.std.proofs.Common.{slice_set, subst, suc, sym, take, true, zero, ℕ, ◌&&◌, ◌++◌, ◌+◌, ◌-◌, ◌<◌, ◌==◌, ◌||◌, ◌∙◌, ◌∷◌, ◌≡◌, ◌≢◌, ◌≤◌, ◌⊎◌}
-pub use Rattle.std.proofs.lemmas.Bool.{and_from, and_parts, cases_lt, eq-eqb, eqb-true, leb-false, leb-true, ltb-true, or_left}
+pub use Rattle.std.proofs.lemmas.Bool.{and_from, and_parts, cases_lt, eq-eqb, eqb-true, leb-false, leb-true, ltb-true, or_cases, or_left}
 pub use Rattle.std.proofs.lemmas.Bool.Decides.{nat_tests}
 pub use Rattle.std.proofs.lemmas.List.{get_or-map, length-map, take_all, take_more}
 pub use Rattle.std.proofs.lemmas.List.Elements.{All-append, All-cons, All-nil, All-push, Contains-append_left, Contains-append_right}

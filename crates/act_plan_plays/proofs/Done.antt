@@ -1,11 +1,10 @@
 -- Nothing is left of a caller that is no choice.
 use Rattle.act_plan_plays.proofs.Common.{◌≡◌, ℕ, zero, suc, Bool, true, false, cond, List, [], ◌∷◌, length, Option, Some, None, refl, ap, sym, ◌∙◌, subst}
-use Rattle.act_plan_plays.proofs.Common.{Contains, arith, ◌==◌, ◌&&◌, ◌||◌, not, nat_lt, map, filter, find, slice_get, is_some, list_all, list_any}
-use Rattle.act_plan_plays.proofs.Common.{range_with_len, and_parts, eqb-true, nat_tests, slice_get_within, Step, Kill, Post, Submission, Answer, copies_held}
+use Rattle.act_plan_plays.proofs.Common.{arith, ◌==◌, ◌&&◌, ◌||◌, not, nat_lt, map, filter, find, slice_get, is_some, list_all}
+use Rattle.act_plan_plays.proofs.Common.{range_with_len, nat_tests, slice_get_within, Step, Kill, Submission, Answer, copies_held}
 use Rattle.act_plan_plays.proofs.Common.{kept_at, is_known, ActorSpec, History, contains, names, cast_of, actors_naming, copies_of, has_letter, call_letter}
-use Rattle.act_plan_plays.proofs.Common.{was_sent, copies_in, OwnerView, is_known_call, is_sent, is_ready, first_ready, is_known_dead, Refines, is_death_to}
+use Rattle.act_plan_plays.proofs.Common.{was_sent, copies_in, OwnerView, is_known_call, is_sent, is_ready, first_ready, is_known_dead, Refines, death_listed}
 use Rattle.act_plan_plays.proofs.Common.{IsHere, At, next_step, world, Parts, Stands, held, may_take, shows_dead, is_left_out, HasNoStep, IsDone, cast_known}
-use Rattle.act_rules.specs.declared.history.Post.TheVariants.{Reply as ReplyPost, Death as DeathPost}
 use Rattle.act_plan_plays.proofs.Loops.{none_passes, in_range}
 use Rattle.act_plan_plays.proofs.Seen.{live_shown, refuses}
 
@@ -31,26 +30,6 @@ named_listed c a (cast ∷ casts) e = go (cast.actor == a) refl (contains c cast
     go false is false named rest e = ap (λ (x : Bool). contains a (listed x)) named ∙ rest e
 
 -- ---- a death that was collected
-
-death_is : (c a : ℕ) (post : Post) → is_death_to c a post ≡ true → post ≡ DeathPost c a
-death_is c a (ReplyPost d b place) e = cc
-death_is c a (DeathPost d b) e =
-    let parts = and_parts (d == c) (b == a) e in
-    let one : d ≡ c = eqb-true d c parts.0 in
-    let two : b ≡ a = eqb-true b a parts.1 in
-    ap (λ (x : ℕ). DeathPost x b) one ∙ ap (λ (x : ℕ). DeathPost c x) two
-
-further : {X : Type 0} (x y : X) (xs : List X) → Contains xs y → Contains (x ∷ xs) y
-further x y xs has = (suc has.0, omega (arith, has.1), has.2)
-
-pub death_listed : (c a : ℕ) (posts : List Post) → list_any (is_death_to c a) posts ≡ true → Contains posts (DeathPost c a)
-death_listed c a [] e = cc
-death_listed c a (post ∷ posts) e = go (is_death_to c a post) refl (death_listed c a posts) e
-  where
-    go : (b : Bool) → is_death_to c a post ≡ b → (list_any (is_death_to c a) posts ≡ true → Contains posts (DeathPost c a)) → (b || list_any (is_death_to c a) posts) ≡ true
-        → Contains (post ∷ posts) (DeathPost c a)
-    go true is rest e = (zero, omega arith, death_is c a post is)
-    go false is rest e = further post (DeathPost c a) posts (rest e)
 
 -- ---- the parts
 

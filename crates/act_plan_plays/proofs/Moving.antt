@@ -1,7 +1,7 @@
 -- What is done without a choice: where the play stands then.
 use Rattle.act_plan_plays.proofs.Common.{◌≡◌, ◌≢◌, ℕ, ◌+◌, ◌<◌, ◌≤◌, Bool, true, false, cond, List, [], ◌∷◌, ◌++◌, length, Option, Some, None, refl, ap, sym}
-use Rattle.act_plan_plays.proofs.Common.{◌∙◌, subst, arith, get_or, ◌==◌, ◌||◌, nat_lt, slice_get, slice_set, eqb-true, eq-eqb, ltb-true, slice_get_past}
-use Rattle.act_plan_plays.proofs.Common.{slice_get-get_or, get_or_from_slice_get, Event, Did, WorldRefusal, Step, Submit, Copy, Release, Kill, Await}
+use Rattle.act_plan_plays.proofs.Common.{◌∙◌, subst, arith, get_or, ◌==◌, ◌||◌, slice_get, slice_set, eqb-true, eq-eqb, slice_get_past}
+use Rattle.act_plan_plays.proofs.Common.{get_or_from_slice_get, Event, Did, WorldRefusal, Step, Submit, Copy, Release, Kill, Await}
 use Rattle.act_plan_plays.proofs.Common.{occurrences, ActorSpec, History, contains, names, cast_of, is_dead, refusal_of, did, add_event, after_by, after}
 use Rattle.act_plan_plays.proofs.Common.{slice_get_last, WorldView, get_set-same, get_set-other, contains_push, At, steps_of, next_step, MayTake, taken}
 use Rattle.act_plan_plays.proofs.Common.{skipped, with_event, IsPlay, Closes, Happens, HaveSameChoices, occurrences-push, Quiesces, quiesces_same}
@@ -99,10 +99,6 @@ steps_more c at next done below steps more d within = go (c == d) refl
 -- what is read of a caller's steps
 pub done_is : (c n : ℕ) (at : At) (done : List ℕ) → n ≡ c → c < 17 → HasSteps at done → get_or done n 0 ≡ steps_of c at
 done_is c n at done same below steps = ap (λ (m : ℕ). get_or done m 0) same ∙ get_or_from_slice_get done c (steps_of c at) 0 (steps c below)
-
-pub read_is : {X : Type 0} (read items : List X) (n : ℕ) (x : X) → read ≡ items → true ≡ nat_lt n (length read) → x ≡ get_or read n x → slice_get items n ≡ Some x
-read_is {X = X} read items n x same within is =
-    ap (λ (l : List X). slice_get l n) (sym same) ∙ slice_get-get_or read n x (ltb-true n (length read) (sym within)) ∙ ap (λ (y : X). Some y) (sym is)
 
 -- a caller's next step is what stands in its plan at the number of steps that it is done with
 pub next_is : (plans : ℕ → List Step) (c n : ℕ) (at : At) (plan : List Step) (next : Option Step) → plans c ≡ plan → n ≡ steps_of c at → slice_get plan n ≡ next → next_step plans c at ≡ next

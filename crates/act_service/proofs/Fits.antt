@@ -1,6 +1,6 @@
 -- The casts that an epoch leaves fit.
 use Rattle.act_service.proofs.Common.{◌≡◌, ◌≢◌, ℕ, suc, ◌==◌, List, [], ◌∷◌, map, Option, Some, None, refl, sym, ap, ◌∙◌, subst, arith, All, AllPairs}
-use Rattle.act_service.proofs.Common.{filter_map, option_map, list_any, cons_option, eqb-true, length-map, get_or-map, All-nil, All-cons, All-map}
+use Rattle.act_service.proofs.Common.{filter_map, option_map, list_any, cons_option, eqb-true, length-map, get_or-map, All-nil, All-cons, All-map, all_of_map}
 use Rattle.act_service.proofs.Common.{AllPairs-cons, AllPairs-filter, KindState, ActorSpec, one_to, IsLimit, Cast, CallersDiffer, IsFitting, actor_spec}
 use Rattle.act_service.proofs.Common.{EndView, Killed, Retired, Starved, end_id, cast_at, actors_of_casts, found_passes, found_all, numbers_differ, cast_of_end}
 
@@ -21,10 +21,6 @@ pairs_here n ns apart k d lt = apart 0 (suc k) d (omega arith) (omega arith)
 
 pairs_there : (n : ℕ) (ns : List ℕ) → AllPairs (λ one other. one ≢ other) (n ∷ ns) → AllPairs (λ one other. one ≢ other) ns
 pairs_there n ns apart i j d before below = apart (suc i) (suc j) d (omega arith) (omega arith)
-
--- what holds of all images
-of_images : {X Y : Type 0} (P : Y → Type 0) (f : X → Y) (xs : List X) → All P (map f xs) → All (λ x. P (f x)) xs
-of_images P f xs all k d lt = subst P (get_or-map f xs k d (f d) lt) (all k (f d) (omega (arith, length-map xs f)))
 
 -- ---- the actors that are cast again
 
@@ -101,7 +97,7 @@ module _ {K : Type 0} (state : K → KindState) where
 
   pub fitting : (casts : List (Cast K)) → AllPairs (λ (one other : ActorSpec). one.actor ≢ other.actor) (map (actor_spec state) casts) → All IsSound (map (actor_spec state) casts) → IsFitting casts
   fitting casts apart all =
-      let each = of_images IsSound (actor_spec state) casts all in record {
+      let each = all_of_map IsSound (actor_spec state) casts all in record {
         actors = λ i j d before below same. apart i j (actor_spec state d) before (omega (arith, length-map casts (actor_spec state)))
             (ap (λ (spec : ActorSpec). spec.actor) (get_or-map (actor_spec state) casts i d (actor_spec state d) (omega arith)) ∙ same
             ∙ sym (ap (λ (spec : ActorSpec). spec.actor) (get_or-map (actor_spec state) casts j d (actor_spec state d) below)));

@@ -14,8 +14,9 @@ use Rattle.act_rules.specs.declared.history.Submission.{Submission}
 use Rattle.act_rules.specs.RunList.{Answer}
 use Rattle.act_rules.specs.Submissions.{kept_at}
 use Rattle.act_rules.specs.Report.{stage_text}
+use Rattle.act_rules.proofs.Lists.{All_weaker}
 use Rattle.act_summaries.specs.Stems.{Kept, Nothing, Reply, Death, Any, Call, Ran, OfCall, OfEnd, OfRun, placed, IsReadable, IsKeptSo, HasWords, IsRanSo}
-use Rattle.act_summaries.proofs.Bytes.{differ, tails, texts_apart, begins_once, spaced, IsWord, AreWords, word_lacks, Each-weaker, decimal_word}
+use Rattle.act_summaries.proofs.Bytes.{differ, tails, texts_apart, begins_once, spaced, IsWord, AreWords, word_lacks, decimal_word}
 use Rattle.act_summaries.proofs.Marks.{TellsBoth, TellsRest, peel, head_same, told_both, told_same, words_same}
 use Rattle.act_summaries.proofs.Texts.{numbered, kept_word, future_as, item_as, place_text, future_name, actor_word, future_word, place_word}
 use Rattle.act_summaries.proofs.Words.{IsGoodArg, dead_alike, value_word, method_word, method_no_mark, args_words, args_no_marks}
@@ -166,7 +167,7 @@ has_words (Some (method, args)) item line tail good says tells =
     let both = words_same mine (method_text method) (map settled_text item.args) (map settled_text args) lack lacks args_lack
     (words_lack (map settled_text args) (readable_words args says.2)) (same ∙ says.0) in (
       method_same item.method method good.method says.1 both.0,
-      args_same item.args args (Each-weaker IsGoodArg IsReadable item.args readable good.args) says.2 both.1,
+      args_same item.args args (All_weaker IsGoodArg IsReadable item.args readable good.args) says.2 both.1,
     )
 
 module _ (a : ℕ) where

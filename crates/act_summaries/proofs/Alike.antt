@@ -13,19 +13,18 @@ use Rattle.act_rules.specs.RunList.{state_after}
 use Rattle.act_rules.specs.Grammar.{lines_in}
 use Rattle.act_rules.specs.Report.{one_to, stage_text}
 use Rattle.act_rules.specs.Laws.{history, is_sayable_method}
-use Rattle.act_rules.proofs.Lists.{slice_get-filter, slice_get-enumerate_from, slice_get_front, option_map-none}
+use Rattle.act_rules.proofs.Lists.{slice_get-filter, slice_get-enumerate_from, slice_get_front, option_map-none, All_at, All_weaker}
 use Rattle.act_rules.proofs.Kept.{kept_by, kept_at_is}
 use Rattle.act_rules.proofs.Order.{numbers, numbered as keyed}
 use Rattle.act_rules.proofs.Unique.{held_submission, rank}
 use Rattle.act_rules.proofs.Sound.{answers_are, consistent}
 use Rattle.act_summaries.specs.Lines.{AreTold}
 use Rattle.act_summaries.specs.Summaries.{AreReadOneWay, open_line, KeepsDeath}
-use Rattle.act_summaries.proofs.Bytes.{tails, spaced, IsWord, IsPlain, Lacks, AreWords, word_plain, word_lacks, plain_lacks, Each-append, Each-weaker}
+use Rattle.act_summaries.proofs.Bytes.{tails, spaced, IsWord, IsPlain, Lacks, AreWords, word_plain, word_lacks, plain_lacks, Each-append}
 use Rattle.act_summaries.proofs.Marks.{TellsRest, peel, head_same}
 use Rattle.act_summaries.proofs.Reading.{IsToldTwice, told_twice}
 use Rattle.act_summaries.proofs.Texts.{numbered, kept_word, future_as, item_as, actor_as, futures, actors, lines_of, summary_is, actor_word, future_name, future_word, place_text, place_word, is_of, of_caller, of_actor, filtered}
 use Rattle.act_summaries.proofs.Words.{IsGoodArg, IsGoodState, answer_word, method_word, args_words, state_plain, plain_from, spaced_plain, dead_alike}
-use Rattle.act_summaries.proofs.Replies.{at_good}
 use Rattle.act_summaries.proofs.Facts.{Facts, facts, IsGoodCall, IsCallerNumber, call_numbers, cast_good, calls_good, items_good, opened_good, kept_good, died_or_not}
 use Rattle.act_summaries.proofs.Decoding.{IsGoodKept, AreKeptAlike, futures_alike, IsGoodItem, IsSameItem, items_alike}
 
@@ -52,7 +51,7 @@ module _ (casts : List ActorSpec) (h : History) (f : Facts casts h) where
     where
       one : (item : RunItem) → IsSubmittedHere item → AllByRecursion IsGoodArg item.args → IsGoodItem item
       one item sub good =
-          let call = at_good IsGoodCall (calls_of item.caller h) item.future sub.call (calls_good h item.caller f.good) sub.at in
+          let call = All_at IsGoodCall (calls_of item.caller h) item.future sub.call (calls_good h item.caller f.good) sub.at in
           let number = call_numbers casts h item.caller item.future sub.call f sub.at in
           let within = slice_get_within (calls_of item.caller h) item.future sub.call sub.at in
           record {
@@ -150,7 +149,7 @@ module _ (casts : List ActorSpec) (h : History) (f : Facts casts h) where
       )
 
   words_plain : (words : List (List ℕ)) → AreWords words → AllByRecursion IsPlain words
-  words_plain words all = Each-weaker IsWord IsPlain words word_plain all
+  words_plain words all = All_weaker IsWord IsPlain words word_plain all
 
   item_plain : (a place : ℕ) (item : RunItem) → IsGoodItem item → IsPlain (item_as a place item)
   item_plain a place item good =
@@ -186,7 +185,7 @@ module _ (casts : List ActorSpec) (h : History) (f : Facts casts h) where
   -- no line of a summary has a line end in it
   pub lines_lack_ends : AllByRecursion (Lacks 10) (lines_of h)
   lines_lack_ends =
-      Each-weaker IsPlain (Lacks 10) (lines_of h) (λ text is. plain_lacks 10 text (omega arith) is)
+      All_weaker IsPlain (Lacks 10) (lines_of h) (λ text is. plain_lacks 10 text (omega arith) is)
       (Each-append IsPlain (flat_map (futures h) (one_to 16)) (flat_map (actors h) (one_to 8))
       (flat IsPlain (futures h) (λ c. numbered_each IsPlain (λ (call : Submission). call.actor ≤ 8) (future_as c (kept_of c h)) 0 (calls_of c h) (λ k call few. future_plain c k call) (few_actors c)) (one_to 16))
       (flat IsPlain (actors h) actors_plain (one_to 8)))

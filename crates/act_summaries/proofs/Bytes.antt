@@ -6,6 +6,7 @@ use Rattle.std.specs.Cmp.Lexicographic.{bytes_decides}
 use Rattle.std.specs.Fmt.{signed_decimal, digits_onto, digit_glyph, digits}
 use Rattle.std.specs.List.{AllByRecursion, list_all}
 use Rattle.act_types.specs.Texts.{space, with_spaces}
+use Rattle.act_rules.proofs.Lists.{All_weaker}
 
 -- ---- what each byte of a text is
 
@@ -13,10 +14,6 @@ use Rattle.act_types.specs.Texts.{space, with_spaces}
 pub Each-append : {A : Type 0} (P : A → Type 0) (xs ys : List A) → AllByRecursion P xs → AllByRecursion P ys → AllByRecursion P (xs ++ ys)
 Each-append P [] ys p q = q
 Each-append P (x ∷ xs) ys p q = (p.0, Each-append P xs ys p.1 q)
-
-pub Each-weaker : {A : Type 0} (P Q : A → Type 0) (xs : List A) → ((x : A) → P x → Q x) → AllByRecursion P xs → AllByRecursion Q xs
-Each-weaker P Q [] f h = tt
-Each-weaker P Q (x ∷ xs) f h = (f x h.0, Each-weaker P Q xs f h.1)
 
 -- the text has no such byte
 abbrev pub Lacks : ℕ → List ℕ → Type 0
@@ -36,14 +33,14 @@ AreWords words = AllByRecursion IsWord words
 
 -- a word has no space, and no byte below one
 pub word_lacks : (b : ℕ) (text : List ℕ) → b ≤ 32 → IsWord text → Lacks b text
-word_lacks b text low word = Each-weaker (λ (x : ℕ). 32 < x) (λ (x : ℕ). x ≢ b) text (λ x above same. omega (arith, above, same)) word
+word_lacks b text low word = All_weaker (λ (x : ℕ). 32 < x) (λ (x : ℕ). x ≢ b) text (λ x above same. omega (arith, above, same)) word
 
 -- a word has no byte below a space
 pub word_plain : (text : List ℕ) → IsWord text → IsPlain text
-word_plain text word = Each-weaker (λ (x : ℕ). 32 < x) (λ (x : ℕ). 32 ≤ x) text (λ x above. omega (arith, above)) word
+word_plain text word = All_weaker (λ (x : ℕ). 32 < x) (λ (x : ℕ). 32 ≤ x) text (λ x above. omega (arith, above)) word
 
 pub plain_lacks : (b : ℕ) (text : List ℕ) → b < 32 → IsPlain text → Lacks b text
-plain_lacks b text low plain = Each-weaker (λ (x : ℕ). 32 ≤ x) (λ (x : ℕ). x ≢ b) text (λ x above same. omega (arith, above, same)) plain
+plain_lacks b text low plain = All_weaker (λ (x : ℕ). 32 ≤ x) (λ (x : ℕ). x ≢ b) text (λ x above same. omega (arith, above, same)) plain
 
 -- numerals that a test tells apart differ
 pub differ : (m n : ℕ) → (m == n) ≡ false → m ≢ n
@@ -100,11 +97,11 @@ decimal_digits n = onto_digits 64 n [] tt
 
 -- a number is written as a word
 pub decimal_word : (n : ℕ) → IsWord (decimal n)
-decimal_word n = Each-weaker (λ (x : ℕ). (48 ≤ x) × (x ≤ 57)) (λ (x : ℕ). 32 < x) (decimal n) (λ x d. omega (arith, d.0)) (decimal_digits n)
+decimal_word n = All_weaker (λ (x : ℕ). (48 ≤ x) × (x ≤ 57)) (λ (x : ℕ). 32 < x) (decimal n) (λ x d. omega (arith, d.0)) (decimal_digits n)
 
 -- a number has no dot
 pub decimal_lacks : (n b : ℕ) → b < 48 → Lacks b (decimal n)
-decimal_lacks n b low = Each-weaker (λ (x : ℕ). (48 ≤ x) × (x ≤ 57)) (λ (x : ℕ). x ≢ b) (decimal n) (λ x d same. omega (arith, d.0, same)) (decimal_digits n)
+decimal_lacks n b low = All_weaker (λ (x : ℕ). (48 ≤ x) × (x ≤ 57)) (λ (x : ℕ). x ≢ b) (decimal n) (λ x d same. omega (arith, d.0, same)) (decimal_digits n)
 
 pub signed_word : (n : ℤ) → IsWord (signed_decimal n)
 signed_word (pos n) = decimal_word n

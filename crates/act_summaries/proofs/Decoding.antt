@@ -19,12 +19,14 @@ use Rattle.act_rules.specs.Laws.{is_sayable, is_sayable_method}
 use Rattle.act_rules.specs.Words.{method_at, value_at}
 use Rattle.act_rules.specs.Report.{future_text}
 use Rattle.act_rules.proofs.ReadingBack.{method_reads_back, value_reads_back}
+use Rattle.act_rules.proofs.Lists.{All_weaker}
 use Rattle.act_summaries.specs.Stems.{IsReadable}
 use Rattle.act_summaries.specs.Summaries.{open_line}
-use Rattle.act_summaries.proofs.Bytes.{differ, tails, apart, spaced, IsWord, AreWords, AreDigits, Lacks, word_lacks, Each-weaker, cut, decimal_digits, decimal_lacks}
+use Rattle.act_summaries.proofs.Bytes.{differ, tails, apart, spaced, IsWord, AreWords, AreDigits, Lacks, word_lacks, cut, decimal_digits}
 use Rattle.act_summaries.proofs.Marks.{Mark, Equals, Live, Retired, word_of, end_of, TellsRest, peel, head_same, told_both, unmarked, told_same, words_same, AreLacking}
 use Rattle.act_summaries.proofs.Reading.{IsToldTwice}
 use Rattle.act_summaries.proofs.Texts.{numbered, kept_word, future_as, item_as, place_text, future_name, name_is, actor_word, future_word, place_word}
+use Rattle.act_summaries.proofs.Texts.{caller_dots}
 use Rattle.act_summaries.proofs.Words.{IsGoodArg, IsGoodAnswer, answer_word, answer_no_mark, method_word, method_no_mark, args_words, args_no_marks}
 
 -- ---- a future's line
@@ -177,15 +179,12 @@ args_same (x ∷ xs) (y ∷ ys) p q e =
     (λ i. arg_same x y p.0 q.0 head i ∷ args_same xs ys p.1 q.1 tail i)
 
 pub words_lack : (words : List (List ℕ)) → AreWords words → AreLacking words
-words_lack words all = Each-weaker IsWord (Lacks 32) words (λ word is. word_lacks 32 word (omega arith) is) all
-
-pub dotless : (c : ℕ) → Lacks 46 (caller_text c)
-dotless c = (differ 99 46 refl, decimal_lacks c 46 (omega arith))
+words_lack words all = All_weaker IsWord (Lacks 32) words (λ word is. word_lacks 32 word (omega arith) is) all
 
 -- two futures of one name are the same, where the numbers of callers and futures are below 2^64
 pub future_is : (c d j k : ℕ) → c < 2 ^ 64 → d < 2 ^ 64 → j < 2 ^ 64 → k < 2 ^ 64 → future_name c j ≡ future_name d k → (c ≡ d) × (j ≡ k)
 future_is c d j k p q r s e =
-    let both = cut 46 (caller_text c) (caller_text d) (decimal j) (decimal k) (dotless c) (dotless d) e in
+    let both = cut 46 (caller_text c) (caller_text d) (decimal j) (decimal k) (caller_dots c) (caller_dots d) e in
     (decimal_injective c d p q (tails 99 99 (decimal c) (decimal d) both.0), decimal_injective j k r s both.1)
 
 module _ (lines : List (List ℕ)) (a : ℕ) where
@@ -210,7 +209,7 @@ module _ (lines : List (List ℕ)) (a : ℕ) where
         caller = call.0;
         future = call.1;
         method = method_same x.method y.method p.method q.method words.0;
-        args = args_same x.args y.args (Each-weaker IsGoodArg IsReadable x.args readable p.args) (Each-weaker IsGoodArg IsReadable y.args readable q.args) words.1;
+        args = args_same x.args y.args (All_weaker IsGoodArg IsReadable x.args readable p.args) (All_weaker IsGoodArg IsReadable y.args readable q.args) words.1;
       }
 
   -- all items of a run list

@@ -24,7 +24,7 @@ use Rattle.act_rules.specs.declared.script.KindName.TheVariants as kind
 use Rattle.act_rules.specs.Scripts.{opening_state}
 use Rattle.act_rules.specs.Submissions.{limit_refusal}
 use Rattle.act_rules.specs.Laws.{history}
-use Rattle.act_rules.proofs.Lists.{All_more, option_map-none, option_or-none}
+use Rattle.act_rules.proofs.Lists.{All_more, option_map-none, option_or-none, All_at}
 use Rattle.act_rules.proofs.Ended.{needs-none, under-push}
 use Rattle.act_rules.proofs.Steps.{IsKept, after_all_keeps, after_keeps}
 use Rattle.act_rules.proofs.Order.{next_item_is}
@@ -35,7 +35,7 @@ use Rattle.act_rules.proofs.RanAll.{AllNamed, IsNamed, named_step}
 use Rattle.std.proofs.lemmas.Bool.{leb-true}
 use Rattle.act_summaries.specs.Summaries.{is_sayable_role, is_sayable_event}
 use Rattle.act_summaries.proofs.Words.{IsGoodArg, IsGoodAnswer, IsGoodState}
-use Rattle.act_summaries.proofs.Replies.{AreGoodItems, runs_good, at_good}
+use Rattle.act_summaries.proofs.Replies.{AreGoodItems, runs_good}
 use Rattle.act_summaries.proofs.Ends.{EndOnce, ends_once}
 
 -- ---- lists
@@ -148,7 +148,7 @@ kept_good h c k answer s sound e = elim (died_or_not answer) [
   where
     go : (a place : ℕ) (o : Option KindState) → opening_of a h ≡ o → option_and_then (λ (state : KindState). answer_at state (runs_of a h) place) o ≡ Some answer → IsGoodAnswer answer
     go a place None is e = absurd (cc)
-    go a place (Some state) is e = at_good IsGoodAnswer (answers_from state (runs_of a h)) place answer (opened_good h a state s is).1 e
+    go a place (Some state) is e = All_at IsGoodAnswer (answers_from state (runs_of a h)) place answer (opened_good h a state s is).1 e
 
 settled_good : (h : History) (c : ℕ) (args : List Arg) → IsGood h → IsSound h → list_all is_sayable_arg args ≡ true → AllByRecursion IsGoodArg (map (settle (kept_of c h)) args)
 settled_good h c [] s sound e = tt
@@ -167,7 +167,7 @@ next_good : (h : History) (a c : ℕ) (item : RunItem) → IsGood h → IsSound 
 next_good h a c item s sound e =
     let next = next_item_is a c h item e in
     let call = calls_to-at a (calls_of c h) (ran_count c a h) next.call next.at in
-    let good = at_good IsGoodCall (calls_of c h) next.call.0 next.call.1 (calls_good h c s) call.at in
+    let good = All_at IsGoodCall (calls_of c h) next.call.0 next.call.1 (calls_good h c s) call.at in
     subst (λ (i : RunItem). AllByRecursion IsGoodArg i.args) next.is (settled_good h c next.call.1.args s sound good.1)
 
 good_step : (h : History) (event : Event) → is_sayable_event event ≡ true → IsGood h → IsSound h → refusal_of h event ≡ None → IsGood (add_event h event)
@@ -317,7 +317,7 @@ pub call_numbers : (casts : List ActorSpec) (h : History) (c k : ℕ) (call : Su
 call_numbers casts h c k call f at =
     let pair = map-slice_get (λ (s : ℕ × Submission). s.1) (filter (λ (s : ℕ × Submission). s.0 == c) h.submitted) k call at in
     let place = filter-slice_get (λ (s : ℕ × Submission). s.0 == c) h.submitted k pair.0 pair.1 in
-    let named : names pair.0.0 (cast_of pair.0.1.actor h) ≡ true = at_good (IsNamed h) h.submitted place.place pair.0 f.named place.at in
+    let named : names pair.0.0 (cast_of pair.0.1.actor h) ≡ true = All_at (IsNamed h) h.submitted place.place pair.0 f.named place.at in
     let caller : pair.0.0 ≡ c = eqb-true pair.0.0 c place.passes in
     named_good h c call.actor f.good
     (subst (λ (n : ℕ). names n (cast_of call.actor h) ≡ true) caller (subst (λ (s : Submission). names pair.0.0 (cast_of s.actor h) ≡ true) pair.2 named))

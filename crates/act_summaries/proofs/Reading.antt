@@ -1,11 +1,11 @@
 -- From the bytes to the texts that their lines tell.
-use Rattle.std.proofs.Common.{◌≡◌, ◌≢◌, ℕ, zero, suc, ◌-◌, ◌==◌, ◌||◌, ◌⊎◌, inl, inr, Bool, true, false, cond, not, List, [], ◌∷◌, ◌++◌, codes, length, take, drop}
+use Rattle.std.proofs.Common.{◌≡◌, ◌≢◌, ℕ, zero, suc, ◌-◌, ◌==◌, ◌||◌, inl, inr, Bool, true, false, cond, not, List, [], ◌∷◌, ◌++◌, codes, length, take, drop}
 use Rattle.std.proofs.Common.{refl, sym, ap, ◌∙◌, subst, arith, append_assoc, length-append, map, filter, Contains}
 use Rattle.std.specs.List.{AllByRecursion, AllZip, flat_map, onto_first}
 use lib.Pointwise.{pointwise}
 use Rattle.std.proofs.lemmas.List.{take-append-drop}
 use Rattle.std.proofs.lemmas.List.Elements.{recursion_from_All}
-use Rattle.std.proofs.lemmas.Bool.{eqb-true, eq-eqb, and_parts}
+use Rattle.std.proofs.lemmas.Bool.{eqb-true, eq-eqb, and_parts, or_cases}
 use Rattle.std.proofs.Math.Seq.{take-append_seam}
 use Rattle.act_rules.specs.Grammar.{is_skipped, lines_in}
 use Rattle.act_rules.specs.Report.{line}
@@ -34,13 +34,9 @@ record IsOpenAt (text : List ℕ) : Type 0 where
   mark : Mark
   is : text ≡ front ++ 32 ∷ (word_of mark ++ 32 ∷ end_of mark ∷ [])
 
-either : (a b : Bool) → (a || b) ≡ true → (a ≡ true) ⊎ (b ≡ true)
-either true b e = inl refl
-either false b e = inr e
-
 open_at : (text : List ℕ) → is_open text ≡ true → IsOpenAt text
-open_at text e = elim (either (ends_in (codes " = *") text || ends_in (codes " live ?") text) (ends_in (codes " retired ?") text) e) [
-  | inl front ↦ elim (either (ends_in (codes " = *") text) (ends_in (codes " live ?") text) front) [
+open_at text e = elim (or_cases (ends_in (codes " = *") text || ends_in (codes " live ?") text) (ends_in (codes " retired ?") text) e) [
+  | inl front ↦ elim (or_cases (ends_in (codes " = *") text) (ends_in (codes " live ?") text) front) [
     | inl is ↦ record { front = take (length text - 4) text; mark = Equals; is = ends_so (codes " = *") text is }
     | inr is ↦ record { front = take (length text - 7) text; mark = Live; is = ends_so (codes " live ?") text is }
   ]

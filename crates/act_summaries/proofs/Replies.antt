@@ -1,6 +1,6 @@
 -- What the kinds of scripts answer is sayable, and so is what they hold.
 use Rattle.std.proofs.Common.{◌≡◌, ℕ, zero, suc, ◌+◌, ◌-◌, ◌<◌, ◌≤◌, ◌||◌, ◌&&◌, ◌^◌, Bool, true, false, cond, not, List, [], ◌∷◌, ◌++◌, length, take}
-use Rattle.std.proofs.Common.{refl, sym, ap, ◌∙◌, subst, arith, filter, find, slice_get, Option, Some, None, option_map, is_some, Result, Ok, Err, bytes_eq, nat_lt}
+use Rattle.std.proofs.Common.{refl, sym, ap, ◌∙◌, arith, filter, find, slice_get, Option, Some, None, option_map, is_some, Result, Ok, Err, bytes_eq, nat_lt}
 use Rattle.std.proofs.Common.{ℤ, pos, negsuc, length-append}
 use Rattle.std.specs.Prelude.{◌+ℤ◌, ◌-ℤ◌, int_lt, int_le}
 use Rattle.std.specs.List.{AllByRecursion}
@@ -22,7 +22,7 @@ use Rattle.act_rules.specs.Kinds.{Reply, is_in_range, is_storable, need, look_up
 use Rattle.act_rules.specs.Kinds.{item_at, list_reply, reply_of}
 use Rattle.act_rules.specs.RunList.{Answer, with_value, values_of, step_of_reply, call_reply, step_of_call, after_item, state_after, answers_from}
 use Rattle.act_rules.specs.Laws.{is_sayable}
-use Rattle.act_rules.proofs.Lists.{length-filter_least}
+use Rattle.act_rules.proofs.Lists.{length-filter_least, All_at}
 use Rattle.act_summaries.proofs.Bytes.{Each-append}
 use Rattle.act_summaries.proofs.Words.{IsGoodArg, IsGoodAnswer, IsGoodPair, IsGoodState, is_known_fault}
 
@@ -58,11 +58,6 @@ small_in_range : (n : ℕ) → n ≤ 4096 → is_in_range (pos n) ≡ true
 small_in_range n few = low_in_range n (omega (arith, few))
 
 -- ---- lists
-
-pub at_good : {A : Type 0} (P : A → Type 0) (xs : List A) (k : ℕ) (x : A) → AllByRecursion P xs → slice_get xs k ≡ Some x → P x
-at_good P [] k x h e = cc
-at_good P (y ∷ xs) zero x h e = let same : y ≡ x = cc in subst P same h.0
-at_good P (y ∷ xs) (suc k) x h e = at_good P xs k x h.1 e
 
 take_good : {A : Type 0} (P : A → Type 0) (n : ℕ) (xs : List A) → AllByRecursion P xs → AllByRecursion P (take n xs)
 take_good P zero xs h = tt
@@ -185,12 +180,12 @@ list_good items Push args h s = failed BadArgs refl
 list_good items Pop [] h s =
     look_up_good (ItemsOf (take (length items - 1) items)) NoItems (slice_get items (length items - 1)) refl
     (take_good (λ (w : Value). is_sayable w ≡ true) (length items - 1) items h.0, omega (arith, take_few (length items - 1) items, h.1))
-    (λ v e. at_good (λ (w : Value). is_sayable w ≡ true) items (length items - 1) v h.0 e)
+    (λ v e. All_at (λ (w : Value). is_sayable w ≡ true) items (length items - 1) v h.0 e)
 list_good items Pop args h s = failed BadArgs refl
 list_good items At (Int i ∷ []) h s = look_up_good (ItemsOf items) NoItem (item_at i items) refl h (λ v e. go i v e)
   where
     go : (i : ℤ) (v : Value) → item_at i items ≡ Some v → is_sayable v ≡ true
-    go (pos n) v e = at_good (λ (w : Value). is_sayable w ≡ true) items n v h.0 e
+    go (pos n) v e = All_at (λ (w : Value). is_sayable w ≡ true) items n v h.0 e
     go (negsuc n) v e = cc
 list_good items At args h s = failed BadArgs refl
 list_good items Len [] h s = answered (ItemsOf items) (count_value items) h (small_in_range (length items) h.1)

@@ -1,7 +1,7 @@
 -- Places in lists of which some items are left out.
 use Rattle.act_told.proofs.Common.{◌≡◌, ℕ, zero, suc, ◌+◌, ◌<◌, ◌≤◌, ◌⊎◌, ◌==◌, inl, inr, Bool, true, false, cond, List, [], ◌∷◌, ◌++◌, length, map, filter}
-use Rattle.act_told.proofs.Common.{take, slice_get, Option, Some, None, option_map, refl, ap, sym, subst, ◌∙◌, arith, enumerate_from, Contains, eq-eqb}
-use Rattle.act_told.proofs.Common.{eqb-true, cases_lt, length-append, slice_get_within, slice_get-get_or, slice_get-map, get_or_from_slice_get, one_to, RunItem}
+use Rattle.act_told.proofs.Common.{take, slice_get, Option, Some, None, option_map, refl, ap, sym, subst, ◌∙◌, arith, enumerate_from, eq-eqb}
+use Rattle.act_told.proofs.Common.{eqb-true, cases_lt, length-append, slice_get_within, slice_get-map, one_to, RunItem}
 use Rattle.act_told.proofs.Common.{Submission, items_of, calls_to, IsPrefix, slice_get_front, slice_get-filter, slice_get-enumerate_from, element, numbered}
 use Rattle.act_told.proofs.Common.{numbers, map-slice_get, enumerate-slice_get, same_place, rank}
 
@@ -58,27 +58,6 @@ stands {A = A} t (y ∷ xs) r x e = go (t y) refl r (λ m. stands t xs m x) e
 
 -- ---- among the first items
 
-get_taken : {A : Type 0} → (i : ℕ) (xs : List A) (k : ℕ) (v : A) → slice_get (take i xs) k ≡ Some v → (k < i) × (slice_get xs k ≡ Some v)
-get_taken zero xs k v at = absurd (cc)
-get_taken (suc i) [] k v at = absurd (cc)
-get_taken (suc i) (x ∷ xs) zero v at = (omega arith, at)
-get_taken (suc i) (x ∷ xs) (suc k) v at = let h = get_taken i xs k v at in (omega (arith, h.0), h.1)
-
-get_in_taken : {A : Type 0} → (i : ℕ) (xs : List A) (k : ℕ) (v : A) → slice_get xs k ≡ Some v → k < i → slice_get (take i xs) k ≡ Some v
-get_in_taken zero xs k v at lt = absurd (omega arith)
-get_in_taken (suc i) [] k v at lt = absurd (cc)
-get_in_taken (suc i) (x ∷ xs) zero v at lt = at
-get_in_taken (suc i) (x ∷ xs) (suc k) v at lt = get_in_taken i xs k v at (omega arith)
-
-pub found_among : {A : Type 0} (i : ℕ) (xs : List A) (v : A) → Contains (take i xs) v → (k : ℕ) × (k < i) × (slice_get xs k ≡ Some v)
-found_among i xs v has =
-    let at = slice_get-get_or (take i xs) has.0 v has.1 ∙ ap (λ (x : _). Some x) has.2 in
-    let g = get_taken i xs has.0 v at in (has.0, g.0, g.1)
-
-pub among : {A : Type 0} (i : ℕ) (xs : List A) (k : ℕ) (v : A) → slice_get xs k ≡ Some v → k < i → Contains (take i xs) v
-among i xs k v at lt =
-    let here = get_in_taken i xs k v at lt in (k, slice_get_within (take i xs) k v here, get_or_from_slice_get (take i xs) k v v here)
-
 -- ---- the numbers from 1 on
 
 pub two_parts : {A : Type 0} (xs ys : List A) (n : ℕ) (v : A) → slice_get (xs ++ ys) n ≡ Some v →
@@ -89,11 +68,6 @@ two_parts (x ∷ xs) ys (suc n) v e = elim (two_parts xs ys n v e) [
   | inl h ↦ inl (omega (arith, h.0), h.1)
   | inr h ↦ inr (h.0, omega (arith, h.1), h.2)
 ]
-
-pub past_front : {A : Type 0} (xs ys : List A) (n : ℕ) → slice_get (xs ++ ys) (length xs + n) ≡ slice_get ys n
-past_front [] ys n = let e : 0 + n ≡ n = omega arith in ap (slice_get ys) e
-past_front (x ∷ xs) ys n = let e : suc (length xs) + n ≡ suc (length xs + n) = omega arith in
-    ap (slice_get (x ∷ (xs ++ ys))) e ∙ past_front xs ys n
 
 length-one_to : (n : ℕ) → length (one_to n) ≡ n
 length-one_to zero = refl

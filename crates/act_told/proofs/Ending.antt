@@ -4,13 +4,14 @@ use Rattle.act_told.proofs.Common.{None, option_map, Ok, Err, IsTrue, refl, ap, 
 use Rattle.act_told.proofs.Common.{cases_lt, get_or_past, length-map, slice_get_within, slice_get-map, get_or_from_slice_get, MAX_ACTORS, MAX_CALLERS}
 use Rattle.act_told.proofs.Common.{ActorDied, ActorSpec, contains, Answer, items_of, RunItem, Submission, Step, kept_at, calls_to, element, map-slice_get}
 use Rattle.act_told.proofs.Common.{OwnerView, is_death, is_death-only, EndView, Killed, Retired, Starved, end_id, end_log, IfRetired, IsJoined, RanAll}
-use Rattle.act_told.proofs.Common.{owner_of, end_of, calls_in, kept_in, calls_of_owner, kept_of_owner, is_killed, is_killed_end, Call, Failed, Died, Open, Run}
+use Rattle.act_told.proofs.Common.{owner_of, end_of, calls_in, kept_in, calls_of_owner, kept_of_owner, is_killed, is_killed_end, Call, Failed, Died, Run}
 use Rattle.act_told.proofs.Common.{call_of, actor_of, calls_run, actor_place, start_of, outcome_of, calls_told, runs_told, actor_told, end_told, told_by}
 use Rattle.act_told.proofs.Common.{StandsAsItsActor}
 use Rattle.act_orders.specs.declared.told.Actor.{Actor as ActorTold}
 use Rattle.act_orders.specs.declared.told.End.TheVariants as told
 use Rattle.act_told.proofs.Counting.{passed, goes_to, call_among, stands}
 use Rattle.act_told.proofs.Standing.{Apart, apart, first_is, some_first, begins, call_is, IsCallOf, run_at, calls_ahead, runs_ahead, place_is, place_tells}
+use Rattle.act_told.proofs.Turning.{told_is}
 
 -- ---- outcomes and ends
 
@@ -57,11 +58,6 @@ actor_is : (owners : List OwnerView) (ends : List EndView) (x : ℕ) (end : EndV
 actor_is owners ends x end at =
     get_or_from_slice_get (map (actor_told owners) ends) x (actor_told owners end) (record { callers = []; end = told.Live })
     (slice_get-map (actor_told owners) ends x ∙ ap (option_map (actor_told owners)) at)
-
-call_told_is : (owners : List OwnerView) (ends : List EndView) (n : ℕ) (call : Call) → slice_get (calls_told ends 0 owners) n ≡ Some call →
-    call_of (told_by owners ends) n ≡ call
-call_told_is owners ends n call at =
-    get_or_from_slice_get (calls_told ends 0 owners) n call (record { caller = 0; actor = 0; waits = []; takes = []; outcome = Open }) at
 
 -- past the last actor nobody has retired
 not_past : (owners : List OwnerView) (ends : List EndView) (x : ℕ) → length ends ≤ x →
@@ -132,7 +128,7 @@ ends_right casts plans owners ends j n lt =
     let actors = apart end_id ends (λ a. list_any (λ (cast : ActorSpec). cast.actor == a) casts) MAX_ACTORS j.actors in
     let one = element (calls_told ends 0 owners) n lt in
     let c = call_is ends 0 owners n one.0 one.1 in
-    let is : call_of (told_by owners ends) n ≡ one.0 = call_told_is owners ends n one.0 one.1 in
+    let is : call_of (told_by owners ends) n ≡ one.0 = told_is owners ends n one.0 one.1 in
     record {
       died = λ died. ap (λ (x : Call). (actor_of (told_by owners ends) x.actor).end) is
           ∙ died_right casts plans owners ends j callers actors n one.0 c (sym (ap (λ (x : Call). x.outcome) is) ∙ died);

@@ -3,8 +3,8 @@ use Rattle.act_told.proofs.Common.{◌≡◌, ℕ, zero, suc, ◌+◌, ◌<◌, 
 use Rattle.act_told.proofs.Common.{slice_get, Some, option_map, refl, ap, sym, ◌∙◌, arith, eq-eqb, ne_eqb, eqb-true, position_or_len_is, passes_at_first}
 use Rattle.act_told.proofs.Common.{length-map, slice_get_within, slice_get-get_or, slice_get-map, get_or_from_slice_get, one_to, RunItem, Submission, kept_at}
 use Rattle.act_told.proofs.Common.{slice_get_more, OwnerView, EndView, end_id, end_log, owner_of, Call, Run, actor_place, outcome_of, start_of, call_told}
-use Rattle.act_told.proofs.Common.{calls_from, calls_told, run_told, runs_told}
-use Rattle.act_told.proofs.Counting.{two_parts, past_front, once_among}
+use Rattle.act_told.proofs.Common.{calls_from, calls_told, run_told, runs_told, place_behind}
+use Rattle.act_told.proofs.Counting.{two_parts, once_among}
 use Rattle.act_told.proofs.Going.{length_calls}
 
 -- ---- items with numbers of their own
@@ -123,7 +123,7 @@ call_at ends before (first ∷ owners) (suc m) k owner call at has =
     let e : length first.calls + calls_ahead m owners + k ≡ length here + (calls_ahead m owners + k) = omega (arith, size) in
     let z : before + length first.calls + calls_ahead m owners ≡ before + (length first.calls + calls_ahead m owners) = omega arith in
     ap (slice_get (here ++ calls_told ends (before + length first.calls) owners)) e
-    ∙ past_front here (calls_told ends (before + length first.calls) owners) (calls_ahead m owners + k)
+    ∙ place_behind here (calls_told ends (before + length first.calls) owners) (calls_ahead m owners + k)
     ∙ call_at ends (before + length first.calls) owners m k owner call at has
     ∙ ap (λ (n : ℕ). Some (call_told ends owner n k call)) z
 
@@ -209,7 +209,7 @@ run_at owners a (first ∷ ends) (suc j) p end item at has =
     let e : length (end_log first) + runs_ahead j ends + p ≡ length here + (runs_ahead j ends + p) = omega (arith, size) in
     let z : a + 1 + j ≡ a + suc j = omega arith in
     ap (slice_get (here ++ runs_told owners (a + 1) ends)) e
-    ∙ past_front here (runs_told owners (a + 1) ends) (runs_ahead j ends + p)
+    ∙ place_behind here (runs_told owners (a + 1) ends) (runs_ahead j ends + p)
     ∙ run_at owners (a + 1) ends j p end item at has
     ∙ ap (λ (n : ℕ). Some (run_told owners n item)) z
 

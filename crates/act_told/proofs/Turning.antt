@@ -3,8 +3,9 @@ use Rattle.act_told.proofs.Common.{◌≡◌, ℕ, ◌+◌, ◌<◌, ◌==◌, L
 use Rattle.act_told.proofs.Common.{arith, Contains, list_any, eq-eqb, eqb-true, slice_get_within, slice_get-map, get_or_from_slice_get, MAX_ACTORS, MAX_CALLERS}
 use Rattle.act_told.proofs.Common.{ActorSpec, contains, IsPrefix, IsAsSubmitted, items_of, Submission, Step, All_at, element, numbered, numbers, map-slice_get}
 use Rattle.act_told.proofs.Common.{OwnerView, EndView, end_id, end_log, IsJoined, owner_of, calls_in, kept_in, log_in, calls_of_owner, log_of_end, Call, Run}
-use Rattle.act_told.proofs.Common.{Open, call_of, calls_run, SameWay, IsNext, actor_place, start_of, call_told, calls_told, runs_told, told_by}
-use Rattle.act_told.proofs.Counting.{ran_call, one_place, ran_before, found_among, among}
+use Rattle.act_told.proofs.Common.{Open, call_of, calls_run, SameWay, IsNext, actor_place, start_of, call_told, calls_told, runs_told, told_by, found_before}
+use Rattle.act_told.proofs.Common.{has_before}
+use Rattle.act_told.proofs.Counting.{ran_call, one_place, ran_before}
 use Rattle.act_told.proofs.Standing.{Apart, apart, first_is, some_first, Begins, begins, call_at, call_is, run_at, run_is, IsRunOf, calls_ahead, runs_ahead, place_is, place_tells}
 
 -- the log of an actor that is there
@@ -50,7 +51,7 @@ ran casts plans owners ends j apart i run at =
     }
 
 -- what a call is told as
-told_is : (owners : List OwnerView) (ends : List EndView) (n : ℕ) (call : Call) → slice_get (calls_told ends 0 owners) n ≡ Some call →
+pub told_is : (owners : List OwnerView) (ends : List EndView) (n : ℕ) (call : Call) → slice_get (calls_told ends 0 owners) n ≡ Some call →
     call_of (told_by owners ends) n ≡ call
 told_is owners ends n call at =
     get_or_from_slice_get (calls_told ends 0 owners) n call (record { caller = 0; actor = 0; waits = []; takes = []; outcome = Open }) at
@@ -137,7 +138,7 @@ turn_is owners ends i run r callers actors n lt way =
     let start : start_of 0 b.item.caller owners ≡ calls_ahead r.caller.place owners =
     ap (λ (x : ℕ). start_of 0 x owners) b.caller ∙ (let h = r.caller.start in omega (arith, h)) in
     let call : start_of 0 b.item.caller owners + b.item.future ≡ n = let h = c.stands in let g = b.future in omega (arith, h, g, start, ahead) in
-    among i (calls_run (told_by owners ends)) (runs_ahead r.is.place ends + b.place) n
+    has_before i (calls_run (told_by owners ends)) (runs_ahead r.is.place ends + b.place) n
     (slice_get-map (λ (x : Run). x.call) (runs_told owners 0 ends) (runs_ahead r.is.place ends + b.place)
     ∙ ap (option_map (λ (x : Run). x.call)) at ∙ ap (λ (x : ℕ). Some x) call)
     (let h = r.is.stands in let g = b.earlier in omega (arith, h, g))
@@ -152,7 +153,7 @@ in_turn casts plans owners ends j i run at =
     record {
       here = here_is owners ends i run r actors;
       once = λ has.
-          let among = found_among i (calls_run (told_by owners ends)) run.call has in
+          let among = found_before i (calls_run (told_by owners ends)) run.call has in
           let other = map-slice_get (λ (x : Run). x.call) (runs_told owners 0 ends) among.0 run.call among.2 in
           let s = ran casts plans owners ends j actors among.0 other.0 other.1 in
           let same = once_is owners ends i among.0 run other.0 r s callers actors other.2 in

@@ -5,13 +5,14 @@ use Rattle.act_early.proofs.Common.{kept_of, kept_at, is_dead, refusal_of, add_e
 use Rattle.act_early.proofs.Choosing.{cast_known}
 use Rattle.act_plan_plays.proofs.Common.{◌≤◌, ◌⊎◌, inl, inr, get_or, get_or_from_slice_get, cases_lt, IsBehind, WorldView, SlotView, Runs, Died, Ended, Vacant, IsStage, stage_of_slot, is_dead_slot, Refines, IsOwnerOf, is_death_to, shows_dead, option_map_or}
 use Rattle.act_plan_plays.proofs.Common.{Did, copies_in, OwnerView, is_known_dead, list_any, not_dead, length-map}
-use Rattle.act_plan_plays.proofs.Done.{death_listed, names_copies}
+use Rattle.act_plan_plays.proofs.Done.{names_copies}
 use Rattle.act_plan_plays.proofs.Moving.{told_place}
 use Rattle.std.proofs.lemmas.Option.{slice_get-map}
 use Rattle.act_rules.specs.declared.event.Event.TheVariants as event
 use Rattle.act_rules.specs.declared.history.Post.TheVariants.{Death as DeathPost}
 use Rattle.act_rules.specs.declared.outcome.Did.TheVariants as did_so
 use Rattle.act_world.proofs.Lawful.{world_lawful}
+use Rattle.act_world.proofs.Heard.{death_listed}
 use Rattle.act_told_ends.specs.Told.{Told}
 use Rattle.act_told_ends.specs.Walks.{MayHear}
 use Rattle.act_told_ends.proofs.Lists.{place_in}

@@ -7,8 +7,8 @@ use Rattle.act_plan_plays.proofs.Common.{WorldView, IsBehind, named_call, named_
 use Rattle.std.proofs.Common.{Bor, option_copied, nat_lt, get_or}
 use Rattle.std.proofs.lemmas.Bool.{ltb-false}
 use Rattle.std.proofs.lemmas.Option.{slice_get_past}
-use Rattle.act_plan_plays.proofs.Moving.{read_is}
 use Rattle.act_rules.specs.declared.event.Event.TheVariants as event
+use Rattle.act_world.proofs.Lists.{read_is}
 
 -- a stranger has no calls, and no answers
 pub no_calls : (casts : List ActorSpec) (h : History) (c : ℕ) (world : WorldView) (events : List Event) → IsBehind casts h world events → is_caller c h ≡ false → calls_of c h ≡ []

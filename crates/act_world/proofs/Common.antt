@@ -117,7 +117,7 @@ pub use Rattle.std.proofs.lemmas.Option.{get_or_from_slice_get, slice_get-get_or
 pub use Rattle.std.proofs.lemmas.Option.{unwrap_or-slice_get}
 pub use Rattle.std.proofs.lemmas.Result.{IfOk-weaker, on_err_weaker}
 pub use Rattle.std.proofs.lemmas.Simd.{map-map}
-pub use Rattle.std.specs.List.{AllByRecursion, enumerate_from, list_all, list_any}
+pub use Rattle.std.specs.List.{AllByRecursion, Contains, enumerate_from, list_all, list_any}
 pub use Rattle.std.specs.Option.{option_map_or, option_or}
 pub use Rattle.std.specs.Result.{result_unwrap_or}
 pub use Rattle.std.specs.Vec.Iter.{into_iter_items, into_iter_len}

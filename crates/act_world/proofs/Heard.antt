@@ -3,7 +3,7 @@ use Rattle.act_world.proofs.Common.{◌≡◌, ◌≢◌, ℕ, Bool, false, List
 use Rattle.act_world.proofs.Common.{slice_set, list_any, or-false, ne_eqb, list_any-append, Collect, Submission, Post, Answer, History, calls_of, kept_of}
 use Rattle.act_world.proofs.Common.{answer_in, first_answer, did, Outcome, refusal_of, outcome_of, did_collect, add_event, after, and_also, was_sent, Grows}
 use Rattle.act_world.proofs.Common.{added_grows, or_else, kept_of-collected, OwnerView, collect_result, after_collect, KnowsDeath, Posted, NetworkView}
-use Rattle.act_world.proofs.Common.{told_collected, SlotView, WorldView, IsOwnerOf, is_death_to, Refines}
+use Rattle.act_world.proofs.Common.{told_collected, SlotView, WorldView, IsOwnerOf, is_death_to, Refines, zero, true, arith, and_parts, eqb-true, Contains}
 use Rattle.act_rules.specs.declared.history.Post.TheVariants.{Reply as ReplyPost, Death as DeathPost}
 use Rattle.act_world.proofs.Changes.{accepted_follows}
 use Rattle.act_world.proofs.Lawful.{IsLawful}
@@ -11,6 +11,7 @@ use Rattle.act_world.proofs.Frames.{SameCaller, owners_change, mail_stays, repli
 use Rattle.act_world.proofs.Pending.{kept_long}
 use Rattle.act_world.proofs.Sending.{SeesOwner}
 use Rattle.act_world.proofs.Tables.{table_is, kept_there}
+use Rattle.act_world.proofs.Lists.{contains-more}
 
 -- ---- the history after the post was collected
 
@@ -30,6 +31,24 @@ no_answer h d k b (DeathPost c a) apart = let other : (c == d) ≡ false = ne_eq
 no_death : (d b : ℕ) (post : Post) → caller_of post ≢ d → is_death_to d b post ≡ false
 no_death d b (ReplyPost c a place) apart = refl
 no_death d b (DeathPost c a) apart = let other : (c == d) ≡ false = ne_eqb c d apart in rw other refl
+
+death_is : (c a : ℕ) (post : Post) → is_death_to c a post ≡ true → post ≡ DeathPost c a
+death_is c a (ReplyPost d b place) e = cc
+death_is c a (DeathPost d b) e =
+    let parts = and_parts (d == c) (b == a) e in
+    let one : d ≡ c = eqb-true d c parts.0 in
+    let two : b ≡ a = eqb-true b a parts.1 in
+    ap (λ (x : ℕ). DeathPost x b) one ∙ ap (λ (x : ℕ). DeathPost c x) two
+
+-- a death that was collected is among the posts
+pub death_listed : (c a : ℕ) (posts : List Post) → list_any (is_death_to c a) posts ≡ true → Contains posts (DeathPost c a)
+death_listed c a [] e = cc
+death_listed c a (post ∷ posts) e = go (is_death_to c a post) refl (death_listed c a posts) e
+  where
+    go : (b : Bool) → is_death_to c a post ≡ b → (list_any (is_death_to c a) posts ≡ true → Contains posts (DeathPost c a)) → (b || list_any (is_death_to c a) posts) ≡ true
+        → Contains (post ∷ posts) (DeathPost c a)
+    go true is rest e = (zero, omega arith, death_is c a post is)
+    go false is rest e = contains-more posts post (DeathPost c a) (rest e)
 
 pub or_else_none : (o : Option Answer) → o ≡ or_else o None
 or_else_none None = refl

@@ -1,12 +1,21 @@
 -- Laws of lists: what stands at a place, what is written there, and what a filter leaves.
 use Rattle.act_world.proofs.Common.{◌≡◌, ◌≢◌, ℕ, zero, suc, true, false, List, [], ◌∷◌, length, Some, None, refl, ap, sym, Bool, cond, arith, slice_get}
-use Rattle.act_world.proofs.Common.{slice_set, filter, take, zip, slice_get_past}
+use Rattle.act_world.proofs.Common.{slice_set, filter, take, zip, slice_get_past, ◌∙◌, get_or, nat_lt, ltb-true, slice_get-get_or, Contains}
 
 pub zip_at : {X Y : Type 0} (xs : List X) (ys : List Y) (j : ℕ) (x : X) (y : Y) → slice_get xs j ≡ Some x → slice_get ys j ≡ Some y → slice_get (zip xs ys) j ≡ Some (x, y)
 zip_at [] ys j x y e f = cc
 zip_at (z ∷ xs) [] j x y e f = cc
 zip_at (z ∷ xs) (w ∷ ys) zero x y e f = let one : z ≡ x = cc in let two : w ≡ y = cc in rw (one, two) refl
 zip_at (z ∷ xs) (w ∷ ys) (suc j) x y e f = zip_at xs ys j x y e f
+
+-- the item that is read there
+pub read_is : {X : Type 0} (read items : List X) (n : ℕ) (x : X) → read ≡ items → true ≡ nat_lt n (length read) → x ≡ get_or read n x → slice_get items n ≡ Some x
+read_is {X = X} read items n x same within is =
+    ap (λ (l : List X). slice_get l n) (sym same) ∙ slice_get-get_or read n x (ltb-true n (length read) (sym within)) ∙ ap (λ (y : X). Some y) (sym is)
+
+-- what a list contains, a longer one does
+pub contains-more : {A : Type 0} (xs : List A) (y x : A) → Contains xs x → Contains (y ∷ xs) x
+contains-more xs y x c = (suc c.0, omega (arith, c.1), c.2)
 
 -- where an element of a filtered list stands in the list, and how many pass before it
 pub record IsRanked {A : Type 0} (p : A → Bool) (xs : List A) (n : ℕ) (x : A) : Type 0 where

@@ -1,8 +1,7 @@
 -- Texts of places, one after another.
 use Rattle.act_written.proofs.Common.{◌≡◌, ◌≢◌, inl, inr, ℕ, zero, suc, ◌+◌, ◌<◌, ◌≤◌, ◌-◌, List, [], ◌++◌, length, get_or, append_assoc, add-one, refl, ap}
 use Rattle.act_written.proofs.Common.{sym, ◌∙◌, arith, All, Contains, All-contains_itself, eq-eqb, ne_eqb, append-nil, Told, run_of, of_each, run_line}
-use Rattle.act_written.proofs.Common.{run_line_of, IsPast}
-use Rattle.act_written.proofs.Pushed.{same_or_not}
+use Rattle.act_written.proofs.Common.{run_line_of, IsPast, same_or_not}
 
 -- the text of one place more was written
 pub each_next : (text_of : ℕ → List ℕ) (n : ℕ) (old now new : List ℕ) → now ≡ old ++ of_each text_of n →

@@ -1,13 +1,6 @@
 -- Numbers of calls and of runs, as they are found one after another.
-use Rattle.act_written.proofs.Common.{◌≡◌, ◌≢◌, ℕ, zero, suc, ◌+◌, ◌<◌, ◌⊎◌, inl, inr, List, [], ◌∷◌, ◌++◌, length, get_or, refl, ap, sym, ◌∙◌, arith}
-use Rattle.act_written.proofs.Common.{get_or_append_left, get_or-append_seam, Told, call_number}
-
--- two numbers are one, or not
-pub same_or_not : (m n : ℕ) → (m ≡ n) ⊎ (m ≢ n)
-same_or_not zero zero = inl refl
-same_or_not zero (suc n) = inr (λ e. absurd (omega arith))
-same_or_not (suc m) zero = inr (λ e. absurd (omega arith))
-same_or_not (suc m) (suc n) = elim (same_or_not m n) [ inl e ↦ inl (ap (λ k. suc k) e) | inr d ↦ inr (λ e. d (omega arith)) ]
+use Rattle.act_written.proofs.Common.{◌≡◌, ℕ, ◌+◌, ◌<◌, inl, inr, List, [], ◌∷◌, ◌++◌, length, get_or, ap, sym, ◌∙◌, arith}
+use Rattle.act_written.proofs.Common.{get_or_append_left, get_or-append_seam, Told, call_number, same_or_not}
 
 -- the numbers of the calls so far, and one more
 pub number_pushed : (told : Told) (numbers : List ℕ) (place number : ℕ) → length numbers ≡ place →

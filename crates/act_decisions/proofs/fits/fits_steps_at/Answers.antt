@@ -1,12 +1,11 @@
-use Rattle.act_decisions.proofs.Common.{◌≡◌, ℕ, subst, rules, FitsSteps}
-use Rattle.act_decisions.proofs.Fitting.{read_at}
+use Rattle.act_decisions.proofs.Common.{◌≡◌, ℕ, subst, rules, FitsSteps, read_is}
 use Rattle.act_decisions.proofs.fits.fits_steps_at.Goals as goal
 
 pub returns-in-Some : goal.returns-in-Some
 returns-in-Some c = λ holds.
     let same : c.unwrap-c.result ≡ c.args.number = search rules in (
       c.in-Some.caller.now,
-      read_at c.deref.result.now c.args.end.now.callers.items c.args.number c.in-Some.caller.now c.deref.ensures.value
+      read_is c.deref.result.now c.args.end.now.callers.items c.args.number c.in-Some.caller.now c.deref.ensures.value
           c.in-Some.ensures.lookup.0 c.in-Some.ensures.lookup.1,
       subst (λ (d : ℕ). FitsSteps d c.args.steps.now c.in-Some.caller.now) same (c.fits_steps.ensures holds),
     )

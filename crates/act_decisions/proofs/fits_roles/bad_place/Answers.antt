@@ -1,15 +1,16 @@
 use Rattle.act_decisions.proofs.Common.{ℕ, List, map, sym, ap, ◌∙◌, subst, actor_spec_of}
 use Rattle.std.specs.Prelude.{◌≢◌, AllPairs}
 use Rattle.act_rules.specs.Plans.{first_bad}
-use Rattle.act_decisions.proofs.Fitting.{naming_differ, naming_same}
+use Rattle.act_rules.proofs.Planned.{actors_of-actor_spec}
+use Rattle.act_decisions.proofs.Fitting.{naming_differ}
 use Rattle.act_decisions.proofs.fits_roles.bad_place.Goals as goal
 
 pub bad_step-requires-clause-differ : goal.bad_step-requires-clause-differ
 bad_step-requires-clause-differ c =
     subst (λ (actors : List ℕ). AllPairs (λ one other. one ≢ other) actors)
-    (sym (c.deref.ensures.value ∙ c.in_ok-actors.ensures ∙ naming_same c.args.c c.args.roles.now))
+    (sym (c.deref.ensures.value ∙ c.in_ok-actors.ensures ∙ actors_of-actor_spec c.args.c c.args.roles.now))
     (naming_differ c.args.c (map actor_spec_of c.args.roles.now) c.requires.roles)
 
 pub returns : goal.returns
 returns c = c.in_ok-bad.ensures
-    ∙ ap (λ (actors : List ℕ). first_bad actors c.args.plan.now) (c.deref.ensures.value ∙ c.in_ok-actors.ensures ∙ naming_same c.args.c c.args.roles.now)
+    ∙ ap (λ (actors : List ℕ). first_bad actors c.args.plan.now) (c.deref.ensures.value ∙ c.in_ok-actors.ensures ∙ actors_of-actor_spec c.args.c c.args.roles.now)

@@ -1,7 +1,7 @@
-use Rattle.act_decisions.proofs.Common.{◌≤◌, List, length, sym, ◌∙◌, subst}
+use Rattle.act_decisions.proofs.Common.{◌≤◌, List, length, sym, ◌∙◌, subst, read_is}
 use Rattle.std.specs.Prelude.{option_copied}
 use Rattle.act_walks.specs.declared.told.ToldActor.{ToldActor}
-use Rattle.act_decisions.proofs.Fitting.{callers_said, read_at, role_found, unsaid}
+use Rattle.act_decisions.proofs.Fitting.{callers_said, role_found, unsaid}
 use Rattle.act_decisions.proofs.fits_roles.fits_role.Goals as goal
 
 pub returns-in-None : goal.returns-in-None
@@ -13,7 +13,7 @@ returns-in-None c = λ holds.
 pub returns-in-Some : goal.returns-in-Some
 returns-in-Some c = λ holds.
     callers_said c.args.end.now c.args.a c.in-Some.actor.now
-    (read_at c.deref.result.now c.args.end.now.actors.items c.args.a c.in-Some.actor.now c.deref.ensures.value
+    (read_is c.deref.result.now c.args.end.now.actors.items c.args.a c.in-Some.actor.now c.deref.ensures.value
     c.in-Some.ensures.lookup.0 c.in-Some.ensures.lookup.1)
     ∙ sym c.deref-in-Some.ensures.value ∙ c.are_callers_of-in-Some.ensures holds
     ∙ role_found c.args.roles.now c.args.a (option_copied c.role_at-role.result) c.role_at-role.ensures

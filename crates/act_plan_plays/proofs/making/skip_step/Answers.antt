@@ -1,6 +1,7 @@
 use Rattle.act_plan_plays.proofs.Common.{◌≡◌, ◌<◌, ◌∙◌, sym, ap, subst, Some, get_or, arith, slice_get, Step, History, world_view, Refines, IsOwnerOf, parts_of}
+use Rattle.act_plan_plays.proofs.Common.{read_is}
 use Rattle.act_plan_plays.proofs.Seen.{left_out}
-use Rattle.act_plan_plays.proofs.Moving.{done_is, read_is, next_is, skip_comes}
+use Rattle.act_plan_plays.proofs.Moving.{done_is, next_is, skip_comes}
 use Rattle.act_plan_plays.proofs.making.skip_step.Goals as goal
 
 pub returns : goal.returns

@@ -1,5 +1,5 @@
-use Rattle.act_plan_plays.proofs.Common.{◌≡◌, ◌<◌, Some, get_or, arith, slice_get, parts_of}
-use Rattle.act_plan_plays.proofs.Moving.{done_is, read_is, next_is, step_comes}
+use Rattle.act_plan_plays.proofs.Common.{◌≡◌, ◌<◌, Some, get_or, arith, slice_get, parts_of, read_is}
+use Rattle.act_plan_plays.proofs.Moving.{done_is, next_is, step_comes}
 use Rattle.act_plan_plays.proofs.making.take_step.Goals as goal
 
 pub returns : goal.returns

@@ -2,7 +2,7 @@ use Rattle.std.proofs.Common.{◌≡◌, ℕ, List, map, None, Ok, ap, sym, ◌�
 use Rattle.act_rules.specs.declared.script.Role.{Role}
 use Rattle.act_rules.specs.declared.script.Step.{Step}
 use Rattle.act_rules.specs.History.{ActorSpec}
-use Rattle.act_rules.specs.Scripts.{callers_of_roles, with_good_plans, actor_spec_of}
+use Rattle.act_rules.specs.Scripts.{with_good_plans, actor_spec_of}
 use Rattle.act_actor.specs.Casts.{actor_spec}
 use Rattle.act_scripts.specs.Roles.{AreFitting}
 use Rattle.act_serve.specs.Served.{end_view}
@@ -14,20 +14,15 @@ use Rattle.act_replay.specs.declared.run.RecordFault.TheVariants.{Run, Unplayed}
 use Rattle.act_replay.specs.Faults.{IsRecordFault}
 use Rattle.act_executor.specs.Plays.{IsPlayOf}
 use Rattle.act_console.specs.declared.threads.Mark.{Mark}
-use Rattle.act_console.specs.declared.threads.Sorted.{Sorted}
-use Rattle.act_console.specs.Plans.{AreSorted, plan_from, script_of, mark_view, step_view, first_stranger}
+use Rattle.act_console.specs.Plans.{script_of, mark_view, step_view, first_stranger}
 use Rattle.act_console.specs.Threads.{plans_in}
 use Rattle.act_console.proofs.Roles.{casts_fit}
 use Rattle.act_console.proofs.PlansOf.{no_bad_line}
-use Rattle.act_console.proofs.ThreadsRun.{plans_fit, joined_same, planned_same, bad_same, good_script, has_line, explains}
+use Rattle.act_console.proofs.ThreadsRun.{plans_fit, joined_same, planned_same, bad_same, good_script, has_line, explains, sorted_plans}
 use Rattle.act_record.specs.Record.{IsPlay}
 use Rattle.act_record.specs.Answer.{HasLineOf, IsAnswer, IsExplained}
 use Rattle.act_record.proofs.Ends.{plays}
 use Rattle.act_record.proofs.record.answer_of_steps.Goals as goal
-
--- the plans are those of the roles' callers
-sorted_plans : (roles seen : List Role) (steps : List (ℕ × Step × ℕ)) (sorted : Sorted) → seen ≡ roles → AreSorted (callers_of_roles seen) steps sorted → map plan_view sorted.plans.items ≡ map (plan_from steps) (callers_of_roles roles)
-sorted_plans roles seen steps sorted same are = are.plans ∙ ap (λ (roles : List Role). map (plan_from steps) (callers_of_roles roles)) same
 
 -- the casts are those of the roles, of a copy of which they were made
 of_roles : (casts : List ActorSpec) (copies seen roles : List Role) → casts ≡ map actor_spec_of copies → copies ≡ seen → seen ≡ roles → casts ≡ map actor_spec_of roles
