@@ -31,7 +31,8 @@ front =
 abbrev deeds : List Deed
 deeds = front ++ Retired 1 ∷ []
 
-all_one : {A : Type 0} (P : A → Type 0) (x : A) → P x → All P (x ∷ [])
+-- what holds of one element holds of all of a list of it alone
+pub all_one : {A : Type 0} (P : A → Type 0) (x : A) → P x → All P (x ∷ [])
 all_one P x holds = All-cons P x [] holds (All-nil P)
 
 pub fitting : SpecsFit casts

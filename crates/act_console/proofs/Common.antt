@@ -91,7 +91,7 @@ pub use Rattle.std.proofs.lemmas.Option.{slice_get-get_or, slice_get-map, slice_
 pub use Rattle.std.proofs.lemmas.Result.{IfOk-equal, IfOk-weaker}
 pub use Rattle.std.proofs.lemmas.Str.{IsAscii-append, IsUtf8-from_ascii}
 pub use Rattle.std.specs.Global.{Vec}
-pub use Rattle.std.specs.Io.KnownBytes.{Appends, Consumes, Keeps}
+pub use Rattle.std.specs.Io.KnownBytes.{Appends, Consumes}
 pub use Rattle.std.specs.List.{AllByRecursion, flat_map, list_any, position_or_len}
 pub use Rattle.std.specs.Option.{option_map_or}
 pub use Rattle.std.specs.Str.{IsAscii}

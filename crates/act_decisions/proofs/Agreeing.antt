@@ -141,8 +141,5 @@ pub some_left : (o : Option (Bor (List ℕ))) (P Q : List ℕ → Type 0) → ((
 some_left None P Q weaker is = tt
 some_left (Some left) P Q weaker is = weaker left.now is
 
-pub not_so : (b : Bool) → b ≡ true → b ≡ false → ⊥
-not_so b yes_is no_is = let e : true ≡ false = sym yes_is ∙ no_is in cc
-
 pub told_not : (b : Bool) → b ≡ true → not b ≡ true → ⊥
 told_not b yes_is no_is = let e : not true ≡ true = ap not (sym yes_is) ∙ no_is in cc

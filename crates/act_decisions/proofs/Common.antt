@@ -5,6 +5,7 @@ pub use Rattle.act_console.proofs.Shown.{summary_is}
 pub use Rattle.act_console.specs.Input.{IsWholeInput}
 pub use Rattle.act_console.specs.Parts.{world_report}
 pub use Rattle.act_console.specs.Plans.{script_of, steps_of_caller}
+pub use Rattle.act_early.proofs.Worlds.{not_so}
 pub use Rattle.act_executor.specs.PlanPlays.{DoesPlanIn, DoesStepIn, step_of}
 pub use Rattle.act_summaries.specs.Lines.{AreTold, IsToldAs, Make, told_line}
 pub use Rattle.act_decisions.specs.Fits.{AllFitSteps, FitsSteps, StartsWith, binding, own_step}

@@ -49,6 +49,10 @@ pub or_second : (x y : Bool) → y ≡ true → (x || y) ≡ true
 or_second true y e = refl
 or_second false y e = e
 
+-- no test comes out both ways
+pub not_so : (b : Bool) → b ≡ true → b ≡ false → ⊥
+not_so b yes_is no_is = let e : true ≡ false = sym yes_is ∙ no_is in cc
+
 -- an actor that may take a kill has a cast, hasn't ended, and its kill was asked
 pub take_needs : (h : History) (a : ℕ) → refusal_of h (event.TakeKill a) ≡ None
     → (is_some (cast_of a h) ≡ true) × (is_ended a h ≡ false) × (contains a h.asked ≡ true)

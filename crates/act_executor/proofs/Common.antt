@@ -134,7 +134,6 @@ pub use Rattle.act_types.specs.declared.call.Reply.{Reply}
 pub use Rattle.act_types.specs.declared.limits.TheConstants.{MAX_ACTORS, MAX_CALLERS}
 pub use Rattle.act_world.proofs.Heard.{death_listed}
 pub use Rattle.act_world.proofs.Lists.{contains-more}
-pub use Rattle.act_world.specs.Refines.{is_death_to}
 pub use Rattle.atomic_table.specs.Seated.{TableId}
 pub use Rattle.std.proofs.Common.{All, AllPairs, Bool, Contains, Err, IfErr, IsErrAnd, IsOk, IsTrue, List, None, Ok, Option, Result, Some, [], ap, append-nil}
 pub use Rattle.std.proofs.Common.{append_assoc, arith, cond, drop, false, filter, filter_map, find, flat_map, get_or, if◌then◌else◌, inl, inr, is_some, length}

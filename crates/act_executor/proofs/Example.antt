@@ -11,16 +11,14 @@ use Rattle.act_types.specs.declared.call.Value.TheVariants as value
 use Rattle.act_types.specs.declared.call.Method.TheVariants as method
 use Rattle.act_rules.specs.declared.script.Step.TheVariants as step
 use Rattle.act_mailbox.specs.Lines.{items_from as items_put}
-use Rattle.act_executor.proofs.Elements.{all_by_places, contains_is}
+use Rattle.act_executor.proofs.Elements.{contains_is}
+use Rattle.act_causes.proofs.Example.{all_one}
 
 -- ---- lists of one
 
 pub one_at : {A : Type 0} (x y : A) (k : ℕ) → slice_get (x ∷ []) k ≡ Some y → x ≡ y
 one_at x y zero e = cc
 one_at x y (suc k) e = cc
-
-pub all_one : {A : Type 0} (P : A → Type 0) (x : A) → P x → All P (x ∷ [])
-all_one P x p = all_by_places P (x ∷ []) (λ k y e. subst P (one_at x y k e) p)
 
 pub pairs_one : {A : Type 0} (R : A → A → Type 0) (x : A) → AllPairs R (x ∷ [])
 pairs_one R x i j e first second = absurd (omega arith)

@@ -86,8 +86,6 @@ module _ {A B : Type 0} (f : A → Option B) where
           let tail : filter_map f xs ≡ ys ++ y ∷ zs = cc in
           subst (λ (z : B). IsCutBy f (x ∷ xs) (z ∷ ys) y zs) head (more_by (Some b) x xs ys y zs is (less tail))
 
--- ---- a death that is told
-
 -- ---- a deed of the caller's is its event
 
 own_is : (c : ℕ) (deed : Deed) (step : CallerStep) → own_step c deed ≡ Some step → deed ≡ deed_of_caller c step

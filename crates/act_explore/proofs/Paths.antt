@@ -69,6 +69,7 @@ made_same p q h same made = record {
   killed = λ a. made.killed a ∙ (same a).takes;
 }
 
+-- no choice was made
 pub none_ran : (h : History) (a : ℕ) → HasMade [] h → runs_of a h ≡ []
 none_ran h a made = map_none (λ (i : RunItem). (i.caller, is_heard h i)) (runs_of a h) (made.choices a)
 

@@ -9,7 +9,7 @@ pub use Rattle.act_early.proofs.Listed.{named_caller}
 pub use Rattle.act_early.proofs.Notes.{has_front, has_last, notes_sent}
 pub use Rattle.act_early.proofs.Quiesces.{Quiesces, death_quiesces, quiesces_same, quiesces_trans, quiet_quiesces, skip_quiesces, step_quiesces}
 pub use Rattle.act_early.proofs.Replies.{named_call}
-pub use Rattle.act_early.proofs.Worlds.{IsWorld, contains_push, either_of, not_dead, or_second, take_needs, world}
+pub use Rattle.act_early.proofs.Worlds.{IsWorld, contains_push, either_of, not_dead, not_so, or_second, take_needs, world}
 pub use Rattle.act_early.specs.Early.{HasRunMore, HasTakenMore, IsQuiescent, is_heard}
 pub use Rattle.act_early.specs.Fronts.{HaveSameChoices}
 pub use Rattle.act_early.specs.Plays.{At, Closes, Happens, IsPlay, MayTake, Opens, next_step, opened, skipped, steps_of, taken, with_event}
@@ -34,7 +34,7 @@ pub use Rattle.act_rules.proofs.Lists.{element, front_trans, list_any-map, optio
 pub use Rattle.act_rules.proofs.RanAll.{Retires, copies_named, world_retires}
 pub use Rattle.act_rules.proofs.Steps.{after_all-append, outcomes-append}
 pub use Rattle.act_rules.specs.Consistent.{IsPrefix}
-pub use Rattle.act_rules.specs.History.{ActorSpec, History, actors_naming, calls_of, cast_of, contains, copies_of, first_answer, has_letter, is_caller, is_dead}
+pub use Rattle.act_rules.specs.History.{ActorSpec, History, actors_naming, calls_of, cast_of, contains, copies_of, has_letter, is_caller, is_dead}
 pub use Rattle.act_rules.specs.History.{is_ended, is_letter, is_retired, kept_of, names, next_item, opening, runs_of}
 pub use Rattle.act_rules.specs.Laws.{history}
 pub use Rattle.act_rules.specs.Plans.{occurrences}
@@ -46,7 +46,6 @@ pub use Rattle.act_rules.specs.Submissions.{calls_to, copies_held, copy_refusal,
 pub use Rattle.act_rules.specs.declared.event.Event.{Event}
 pub use Rattle.act_rules.specs.declared.event.Event.TheVariants.{Deliver, Retire, Tell}
 pub use Rattle.act_rules.specs.declared.history.Letter.{Letter}
-pub use Rattle.act_rules.specs.declared.history.Post.{Post}
 pub use Rattle.act_rules.specs.declared.history.RunItem.{RunItem}
 pub use Rattle.act_rules.specs.declared.history.Submission.{Submission}
 pub use Rattle.act_rules.specs.declared.outcome.Did.{Did}
@@ -73,12 +72,11 @@ pub use Rattle.act_world.specs.declared.slot.Slot.{Slot}
 pub use Rattle.std.proofs.Common.{All, Bool, Contains, Err, IsOk, List, None, Ok, OnOk, Option, Result, Some, [], ap, arith, cond, false, filter, find, get_or}
 pub use Rattle.std.proofs.Common.{if◌then◌else◌, inl, inr, is_none, is_ok, is_some, leb, length, map, nat_lt, not, option_map, refl, replicate, slice_get}
 pub use Rattle.std.proofs.Common.{slice_set, subst, suc, sym, take, true, zero, ℕ, ◌&&◌, ◌++◌, ◌+◌, ◌-◌, ◌<◌, ◌==◌, ◌||◌, ◌∙◌, ◌∷◌, ◌≡◌, ◌≢◌, ◌≤◌, ◌⊎◌}
-pub use Rattle.std.proofs.lemmas.Bool.{and_from, and_parts, cases_lt, eq-eqb, eqb-true, leb-false, leb-true, ltb-true, or_cases, or_left}
+pub use Rattle.std.proofs.lemmas.Bool.{and_from, and_parts, cases_lt, eq-eqb, eqb-true, leb-false, leb-true, or_cases, or_left}
 pub use Rattle.std.proofs.lemmas.Bool.Decides.{nat_tests}
 pub use Rattle.std.proofs.lemmas.List.{get_or-map, length-map, take_all, take_more}
 pub use Rattle.std.proofs.lemmas.List.Elements.{All-append, All-cons, All-nil, All-push, Contains-append_left, Contains-append_right}
 pub use Rattle.std.proofs.lemmas.List.Folds.{find-append, list_any-append}
-pub use Rattle.std.proofs.lemmas.List.FromFn.{length-enumerate_from}
 pub use Rattle.std.proofs.lemmas.Option.{get_or_from_slice_get, slice_get-get_or, slice_get_past, slice_get_within}
 pub use Rattle.std.specs.Global.{Vec}
 pub use Rattle.std.specs.List.{enumerate_from, list_all, list_any, range_with_len}

@@ -29,8 +29,6 @@ named_listed c a (cast ∷ casts) e = go (cast.actor == a) refl (contains c cast
         ap (λ (x : Bool). contains a (listed x)) named ∙ ap (λ (x : Bool). x || contains a (actors_naming c casts)) is ∙ rest e
     go false is false named rest e = ap (λ (x : Bool). contains a (listed x)) named ∙ rest e
 
--- ---- a death that was collected
-
 -- ---- the parts
 
 held_none : (o : Option ℕ) → is_some o ≡ true → nat_lt 0 (copies_held o) ≡ false → o ≡ Some 0

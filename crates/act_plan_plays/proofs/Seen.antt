@@ -2,7 +2,7 @@
 use Rattle.act_plan_plays.proofs.Common.{◌≡◌, ℕ, Bool, true, false, List, [], Option, Some, None, refl, ap, sym, ◌∙◌, ◌==◌, ◌&&◌, not, nat_lt, slice_get}
 use Rattle.act_plan_plays.proofs.Common.{is_some, is_none, option_map, option_map_or, list_any, and_parts, and_from, Step, Submit, Copy, Release, Kill, Await}
 use Rattle.act_plan_plays.proofs.Common.{NoActor, NoHandle, TooManyCopies, SubmitRefusal, Answer, needs, copies_held, handle_refusal, copy_refusal, kept_at}
-use Rattle.act_plan_plays.proofs.Common.{ActorSpec, History, names, cast_of, is_caller, copies_of, is_dead, option_map-none, needs-none, copies_named}
+use Rattle.act_plan_plays.proofs.Common.{ActorSpec, History, names, cast_of, is_caller, copies_of, is_dead, option_map-none, needs-none, copies_named, not_so}
 use Rattle.act_plan_plays.proofs.Common.{copies_in, OwnerView, refusal_to_submit, SlotView, Runs, Died, Ended, Vacant, WorldView, stage_of_slot, is_dead_slot}
 use Rattle.act_plan_plays.proofs.Common.{Refines, IsOwnerOf, IsStage, IsHere, submission_refused, MayTake, not_dead, held, may_take, shows_dead, is_left_out}
 use Rattle.act_rules.specs.declared.outcome.WorldRefusal.TheVariants.{NoCaller, Handle, Submit as SubmitRefused}
@@ -48,10 +48,6 @@ left_out h world c owner (Await k) refines is e = cc
 
 -- ---- a step that is refused
 
-no_both : (b : Bool) → b ≡ true → b ≡ false → ⊥
-no_both true e f = cc
-no_both false e f = cc
-
 submit_refuses : (o : Option SubmitRefusal) → is_none o ≡ false → option_map SubmitRefused o ≡ None → ⊥
 submit_refuses None e f = cc
 submit_refuses (Some refusal) e f = cc
@@ -79,12 +75,12 @@ refuses h c owner (Submit a method args) here refused may =
     submit_refuses (refusal_to_submit owner a args) refused (sym (submission_refused h c a method args owner (refusal_to_submit owner a args) here refl) ∙ may)
 refuses h c owner (Copy a) here refused may =
     let free = option_map-none Handle (copy_refusal (copies_of c a h)) (needs-none (is_caller c h) NoCaller (option_map Handle (copy_refusal (copies_of c a h))) may).1 in
-    no_both (nat_lt 0 (held owner a) && nat_lt (held owner a) 65535)
+    not_so (nat_lt 0 (held owner a) && nat_lt (held owner a) 65535)
     (ap (λ (o : Option ℕ). nat_lt 0 (copies_held o) && nat_lt (copies_held o) 65535) (here.is.copies a) ∙ copy_needs (copies_of c a h) free) refused
-refuses h c owner (Release a) here refused may = no_both (nat_lt 0 (held owner a)) (let_go h c a owner here may) refused
-refuses h c owner (Kill a) here refused may = no_both (nat_lt 0 (held owner a)) (let_go h c a owner here may) refused
+refuses h c owner (Release a) here refused may = not_so (nat_lt 0 (held owner a)) (let_go h c a owner here may) refused
+refuses h c owner (Kill a) here refused may = not_so (nat_lt 0 (held owner a)) (let_go h c a owner here may) refused
 refuses h c owner (Await k) here refused may =
-    no_both (is_some (kept_at owner.kept k)) (ap (λ (kept : List (Option Answer)). is_some (kept_at kept k)) here.is.kept ∙ may) refused
+    not_so (is_some (kept_at owner.kept k)) (ap (λ (kept : List (Option Answer)). is_some (kept_at kept k)) here.is.kept ∙ may) refused
 
 pub none_not : {X : Type 0} (o : Option X) (b : Bool) → is_some o ≡ not b → b ≡ is_none o
 none_not None true e = refl

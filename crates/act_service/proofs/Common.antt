@@ -31,7 +31,7 @@ pub use Rattle.act_service.specs.declared.epochs.EpochFault.{EpochFault}
 pub use Rattle.act_service.specs.declared.epochs.EpochFault.TheVariants.{BadCodes, Run, Service}
 pub use Rattle.act_service.specs.declared.shapes.Shape.{Shape}
 pub use Rattle.act_types.specs.KindState.{KindState}
-pub use Rattle.std.proofs.Common.{All, AllPairs, Err, IfErr, IsErrAnd, List, None, Ok, Option, Result, Some, [], ap, arith, filter_map, find, inl, inr, map}
+pub use Rattle.std.proofs.Common.{All, AllPairs, List, None, Option, Some, [], ap, arith, filter_map, find, inl, inr, map}
 pub use Rattle.std.proofs.Common.{option_map, position, refl, slice_get, subst, suc, sym, take, ℕ, ◌++◌, ◌==◌, ◌∙◌, ◌∷◌, ◌≡◌, ◌≢◌}
 pub use Rattle.std.proofs.lemmas.Bool.{eqb-true}
 pub use Rattle.std.proofs.lemmas.List.{get_or-map, length-map}

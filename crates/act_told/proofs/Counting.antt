@@ -56,8 +56,6 @@ stands {A = A} t (y ∷ xs) r x e = go (t y) refl r (λ m. stands t xs m x) e
     go false fails r rest e =
         let s = rest r e in record { place = suc s.place; at = s.at; passes = s.passes; count = rw fails s.count }
 
--- ---- among the first items
-
 -- ---- the numbers from 1 on
 
 pub two_parts : {A : Type 0} (xs ys : List A) (n : ℕ) (v : A) → slice_get (xs ++ ys) n ≡ Some v →

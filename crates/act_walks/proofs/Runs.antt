@@ -1,6 +1,6 @@
 -- An actor runs the call that it is told to run next, and takes its kill.
 use Rattle.act_early.proofs.Common.{◌≡◌, ℕ, Bool, true, false, List, [], length, Option, Some, None, refl, ap, sym, ◌∙◌, subst, slice_get, option_map, is_some}
-use Rattle.act_early.proofs.Common.{map-slice_get, Event, RunItem, Answer, ActorSpec, History, history, names, cast_of, kept_at, runs_of, is_dead, is_ended, next_item, is_reply}
+use Rattle.act_early.proofs.Common.{map-slice_get, Event, RunItem, Answer, ActorSpec, History, history, names, cast_of, kept_at, runs_of, is_ended, next_item, is_reply}
 use Rattle.act_early.proofs.Common.{refusal_of, add_event, run_needs}
 use Rattle.act_plan_plays.proofs.Common.{IsBehind, WorldView, Refines}
 use Rattle.act_plan_plays.proofs.Common.{after_post, shows_next, did, did_run, Did, option_map_or, length-map}

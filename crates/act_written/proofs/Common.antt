@@ -6,8 +6,8 @@ pub use Rattle.act_orders.specs.declared.told.Run.{Run}
 pub use Rattle.act_orders.specs.declared.told.Told.{Told}
 pub use Rattle.act_written.specs.Texts.{IsAt, IsPast, actor_lines, await_line, call_lines, call_number, of_each, outcome_line, role_line, role_word, run_line}
 pub use Rattle.act_written.specs.Texts.{run_line_of, take_word}
-pub use Rattle.std.proofs.Common.{List, None, Option, Some, [], add-one, ap, append_assoc, arith, drop, get_or, inl, inr, length, refl, slice_index_or}
-pub use Rattle.std.proofs.Common.{string_bytes, subst, suc, sym, take, zero, ℕ, ◌++◌, ◌+◌, ◌-◌, ◌<◌, ◌∙◌, ◌∷◌, ◌≡◌, ◌≢◌, ◌≤◌, ◌⊎◌}
+pub use Rattle.std.proofs.Common.{List, Option, [], add-one, ap, append_assoc, arith, drop, get_or, inl, inr, length, refl, slice_index_or}
+pub use Rattle.std.proofs.Common.{string_bytes, subst, suc, sym, take, zero, ℕ, ◌++◌, ◌+◌, ◌-◌, ◌<◌, ◌∙◌, ◌∷◌, ◌≡◌, ◌≢◌, ◌≤◌}
 pub use Rattle.std.proofs.KnownBytes.{Appends-trans}
 pub use Rattle.std.proofs.Math.Seq.{get_or-append_seam}
 pub use Rattle.std.proofs.lemmas.Bool.{eq-eqb, ne_eqb}

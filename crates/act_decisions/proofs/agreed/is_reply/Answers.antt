@@ -1,4 +1,5 @@
-use Rattle.act_decisions.proofs.Agreeing.{replies, not_so, told_not}
+use Rattle.act_decisions.proofs.Common.{not_so}
+use Rattle.act_decisions.proofs.Agreeing.{replies, told_not}
 use Rattle.act_decisions.proofs.agreed.is_reply.Goals as goal
 
 pub returns-then-not-are_words : goal.returns-then-not-are_words

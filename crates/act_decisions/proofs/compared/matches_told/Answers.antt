@@ -1,4 +1,4 @@
-use Rattle.act_decisions.proofs.Agreeing.{not_so}
+use Rattle.act_decisions.proofs.Common.{not_so}
 use Rattle.act_decisions.proofs.compared.matches_told.Goals as goal
 
 pub returns-then-not-has_all_calls : goal.returns-then-not-has_all_calls

@@ -1,9 +1,8 @@
-use Rattle.act_decisions.proofs.Common.{◌≤◌, ℕ, List, Option, length, map, ap, subst, arith, actor_spec_of}
+use Rattle.act_decisions.proofs.Common.{◌≤◌, ℕ, List, Option, length, map, ap, subst, arith, actor_spec_of, not_so}
 use Rattle.std.specs.Prelude.{IfSome}
 use Rattle.act_rules.specs.declared.event.Event.{Event}
 use Rattle.act_rules.specs.declared.script.Step.{Step}
 use Rattle.act_decisions.specs.Decided.{IsBadIn, Refutes}
-use Rattle.act_decisions.proofs.Agreeing.{not_so}
 use Rattle.act_decisions.proofs.Decided.{bad_step_of, ends_so, few_own, nowhere, own_steps}
 use Rattle.act_decisions.proofs.deciding.decision_of.Goals as goal
 

@@ -1,5 +1,4 @@
-use Rattle.act_decisions.proofs.Common.{IfOk-weaker}
-use Rattle.act_decisions.proofs.Agreeing.{not_so}
+use Rattle.act_decisions.proofs.Common.{IfOk-weaker, not_so}
 use Rattle.act_decisions.proofs.deciding.ends.Goals as goal
 
 pub returns-then-not-walked-clause-exact : goal.returns-then-not-walked-clause-exact

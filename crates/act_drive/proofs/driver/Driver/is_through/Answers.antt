@@ -1,7 +1,7 @@
+use Rattle.act_drive.proofs.Common.{not-true}
 use Rattle.std.proofs.Common.{rules, ◌≡◌, true, false, sym, ◌∙◌, get_or}
 use Rattle.act_drive.proofs.Through.{through_answered}
 use Rattle.act_drive.proofs.driver.Driver.is_through.Goals as goal
-use Rattle.act_drive.proofs.Common.{not-true}
 
 pub returns-then-self-number : goal.returns-then-self-number
 returns-then-self-number c = λ lines calling is.
