@@ -1,6 +1,6 @@
 use Rattle.act_executor.proofs.Common.{rules, ◌≡◌, ◌++◌, List, map, All, ap, sym, ◌∙◌, subst, refl, into_iter_items, MailView, ControlView, OwnerView, Finished}
 use Rattle.act_executor.proofs.Common.{Driven, SitsAtMail, SitsAtControl, LetterTold, KillTold, HasEndpoints, CallerTold}
-use Rattle.act_executor.proofs.Lists.{all_head, all_tail, all_cons, append_over}
+use Rattle.act_executor.proofs.Lists.Agreeing.{all_head, all_tail, all_cons, append_over}
 use Rattle.act_executor.proofs.joined.audit_callers.Goals as goal
 
 pub loop-caller-init : goal.loop-caller-init

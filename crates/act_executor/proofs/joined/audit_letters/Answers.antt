@@ -1,5 +1,5 @@
 use Rattle.act_executor.proofs.Common.{List, map, ap, sym, ◌∙◌, subst, refl, All, Endpoint, Finished, SitsAtMail, LetterTold}
-use Rattle.act_executor.proofs.Lists.{all_head, all_tail, all_cons}
+use Rattle.act_executor.proofs.Lists.Agreeing.{all_head, all_tail, all_cons}
 use Rattle.act_executor.proofs.joined.audit_letters.Goals as goal
 
 pub loop-endpoint-init : goal.loop-endpoint-init

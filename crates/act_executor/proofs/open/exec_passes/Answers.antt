@@ -1,5 +1,5 @@
 use Rattle.act_executor.proofs.Common.{rules, length, map, inl, inr, refl, ap, sym, ◌∙◌, arith, into_iter_items, Endpoint, ExecPasses, items_of_vec}
-use Rattle.act_executor.proofs.Pairs.{one_done, all_done, used_up, placed}
+use Rattle.act_executor.proofs.Lists.Pairs.{one_done, all_done, used_up, placed}
 use Rattle.act_executor.proofs.open.exec_passes.Goals as goal
 
 pub loop-letters-preserved : goal.loop-letters-preserved

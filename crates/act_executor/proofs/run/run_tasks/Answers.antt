@@ -4,8 +4,8 @@ use denote.Param.Send.{IsSend, sendable}
 use Rattle.std.proofs.Crossing.{crosses}
 use Rattle.act_owner.proofs.Sent.{owner_sent}
 use Rattle.act_executor.proofs.Common.{◌≡◌, List, sym, subst, Each, Finished, Driven, IsServedBy, IsDrivenTo, RunFault, IsThreadFault, fault_of}
-use Rattle.act_executor.proofs.Faults.{err_only, refused}
-use Rattle.act_executor.proofs.Tasks.{each_first}
+use Rattle.act_executor.proofs.Opened.Faults.{err_only, refused}
+use Rattle.act_executor.proofs.Opened.Tasks.{each_first}
 use Rattle.act_executor.proofs.run.run_tasks.Goals as goal
 
 pub run_both-requires-send-C : goal.run_both-requires-send-C

@@ -2,7 +2,7 @@ use Rattle.act_executor.proofs.Common.{rules, ◌≡◌, ◌≢◌, suc, ◌<◌
 use Rattle.act_executor.proofs.Common.{subst, refl, arith, into_iter_items, first_bad, Endpoint, CallerPasses, CallersDiffer, Each, CallerSetup, HasLimits}
 use Rattle.act_executor.proofs.Common.{IsCaller, driving_start, setup_start}
 use Rattle.std.proofs.lemmas.List.{append-nil}
-use Rattle.act_executor.proofs.Lists.{all_head, all_tail, each_pop, append_over, nothing_zips}
+use Rattle.act_executor.proofs.Lists.Agreeing.{all_head, all_tail, each_pop, append_over, nothing_zips}
 use Rattle.act_executor.proofs.work.drivings.Goals as goal
 
 pub loop-setup-init : goal.loop-setup-init

@@ -1,7 +1,7 @@
 use Rattle.act_executor.proofs.Common.{rules, ◌≡◌, ◌<◌, ◌++◌, ◌∷◌, List, length, map, zip, All, ◌⊎◌, inl, inr, ap, sym, ◌∙◌, subst, into_iter_items, Endpoint}
 use Rattle.act_executor.proofs.Common.{ExecPasses, Cast, CallersDiffer, Each, IsExec, serving_start, cast_start}
 use Rattle.std.proofs.lemmas.List.{append-nil}
-use Rattle.act_executor.proofs.Lists.{all_head, all_tail, each_pop, append_over, nothing_zips}
+use Rattle.act_executor.proofs.Lists.Agreeing.{all_head, all_tail, each_pop, append_over, nothing_zips}
 use Rattle.act_executor.proofs.work.servings.Goals as goal
 
 pub loop-cast-init : goal.loop-cast-init

@@ -1,0 +1,9 @@
+pub mod Ends
+pub mod Example
+pub mod ExampleKilled
+pub mod Consistency
+pub mod Found
+pub mod Given
+pub mod Joint
+pub mod ByCode
+pub mod Joining

@@ -1,0 +1,13 @@
+pub mod Endpoints
+pub mod Gathered
+pub mod Dealt
+pub mod Matched
+pub mod Owners
+pub mod Starters
+pub mod Settled
+pub mod Tasks
+pub mod Actors
+pub mod Callers
+pub mod Prepared
+pub mod Faults
+pub mod SpecsFit

@@ -1,0 +1,388 @@
+-- What a caller's thread did by its plan, the caller does by its plan in the play.
+use Rattle.act_executor.proofs.Common.{◌≡◌, ℕ, ◌==◌, Bool, true, false, cond, List, [], ◌∷◌, ◌++◌, Option, Some, None, inl, inr, refl, ap, sym, ◌∙◌, subst, All}
+use Rattle.act_executor.proofs.Common.{append_assoc, append-nil, filter_map, is_some, AllByRecursion, AllZip, cons_option, eqb-true}
+use Rattle.act_executor.proofs.Common.{All-from_recursion, recursion_from_All, filter_map-append, Answered, Death, Event, Step, history}
+use Rattle.act_executor.proofs.Common.{Answer, ActorSpec, History, kept_at, OwnerView, is_known_dead, Change, Copied, Released, Submitted, Sent, Noticed}
+use Rattle.act_executor.proofs.Common.{after_changes, after_all-append, Deed, Changed, AskedKill, TookCall, TookNote, Ran, TookKill, ToldDeath}
+use Rattle.act_executor.proofs.Common.{change_of, changes_by, owner_by, owner_after, IsEventOf, CallerStep, ChangeMade, KillAsked, change_made, changes_made}
+use Rattle.act_executor.proofs.Common.{owner_after_steps, KeepsAnswers, EachFront, step_of, DoesStepIn, DoesPlanIn, DoesPlan, death_listed}
+use Rattle.act_rules.specs.declared.script.Step.TheVariants.{Submit as SubmitStep, Copy as CopyStep, Release as ReleaseStep, Kill as KillStep, Await as AwaitStep}
+use Rattle.act_causes.specs.Deeds.{Retired}
+use Rattle.act_drive.specs.PlanTraces.{IsMeanwhile as IsMeanwhileStep}
+use Rattle.act_executor.proofs.Played.Threads.{deed_of_caller}
+use Rattle.act_executor.specs.PlanPlays.{IsMeanwhile}
+use Rattle.act_executor.proofs.Planned.Own.{own_step}
+
+-- ---- cuts of what a filter keeps
+
+record IsCutIn {A B : Type 0} (f : A → Option B) (xs : List A) (ys zs : List B) : Type 0 where
+  first : List A
+  later : List A
+  whole : xs ≡ first ++ later
+  first_is : filter_map f first ≡ ys
+  later_is : filter_map f later ≡ zs
+
+record IsCutBy {A B : Type 0} (f : A → Option B) (xs : List A) (ys : List B) (y : B) (zs : List B) : Type 0 where
+  first : List A
+  one : A
+  later : List A
+  whole : xs ≡ first ++ one ∷ later
+  first_is : filter_map f first ≡ ys
+  one_is : f one ≡ Some y
+  later_is : filter_map f later ≡ zs
+
+module _ {A B : Type 0} (f : A → Option B) where
+  more_in : (o : Option B) (x : A) (xs : List A) (ys zs : List B) → f x ≡ o → IsCutIn f xs ys zs → IsCutIn f (x ∷ xs) (cons_option o ys) zs
+  more_in o x xs ys zs is cut = record {
+    first = x ∷ cut.first;
+    later = cut.later;
+    whole = ap (λ (l : List A). x ∷ l) cut.whole;
+    first_is = ap (λ (p : Option B). cons_option p (filter_map f cut.first)) is ∙ ap (cons_option o) cut.first_is;
+    later_is = cut.later_is;
+  }
+
+  more_by : (o : Option B) (x : A) (xs : List A) (ys : List B) (y : B) (zs : List B) → f x ≡ o → IsCutBy f xs ys y zs → IsCutBy f (x ∷ xs) (cons_option o ys) y zs
+  more_by o x xs ys y zs is cut = record {
+    first = x ∷ cut.first;
+    one = cut.one;
+    later = cut.later;
+    whole = ap (λ (l : List A). x ∷ l) cut.whole;
+    first_is = ap (λ (p : Option B). cons_option p (filter_map f cut.first)) is ∙ ap (cons_option o) cut.first_is;
+    one_is = cut.one_is;
+    later_is = cut.later_is;
+  }
+
+  cut_in : (xs : List A) (ys zs : List B) → filter_map f xs ≡ ys ++ zs → IsCutIn f xs ys zs
+  cut_in xs [] zs e = record { first = []; later = xs; whole = refl; first_is = refl; later_is = e }
+  cut_in [] (y ∷ ys) zs e = let bad : [] ≡ y ∷ (ys ++ zs) = e in cc
+  cut_in (x ∷ xs) (y ∷ ys) zs e = go (f x) refl e (cut_in xs (y ∷ ys) zs) (cut_in xs ys zs)
+    where
+      go : (o : Option B) → f x ≡ o → cons_option o (filter_map f xs) ≡ y ∷ (ys ++ zs)
+          → (filter_map f xs ≡ y ∷ (ys ++ zs) → IsCutIn f xs (y ∷ ys) zs) → (filter_map f xs ≡ ys ++ zs → IsCutIn f xs ys zs) → IsCutIn f (x ∷ xs) (y ∷ ys) zs
+      go None is e same less = more_in None x xs (y ∷ ys) zs is (same e)
+      go (Some b) is e same less =
+          let head : b ≡ y = cc in
+          let tail : filter_map f xs ≡ ys ++ zs = cc in
+          subst (λ (z : B). IsCutIn f (x ∷ xs) (z ∷ ys) zs) head (more_in (Some b) x xs ys zs is (less tail))
+
+  cut_by : (xs : List A) (ys : List B) (y : B) (zs : List B) → filter_map f xs ≡ ys ++ y ∷ zs → IsCutBy f xs ys y zs
+  cut_by [] [] y zs e = let bad : [] ≡ y ∷ zs = e in cc
+  cut_by [] (z ∷ ys) y zs e = let bad : [] ≡ z ∷ (ys ++ y ∷ zs) = e in cc
+  cut_by (x ∷ xs) [] y zs e = go (f x) refl e (cut_by xs [] y zs)
+    where
+      go : (o : Option B) → f x ≡ o → cons_option o (filter_map f xs) ≡ y ∷ zs → (filter_map f xs ≡ y ∷ zs → IsCutBy f xs [] y zs) → IsCutBy f (x ∷ xs) [] y zs
+      go None is e same = more_by None x xs [] y zs is (same e)
+      go (Some b) is e same =
+          let head : b ≡ y = cc in
+          let tail : filter_map f xs ≡ zs = cc in
+          record { first = []; one = x; later = xs; whole = refl; first_is = refl; one_is = is ∙ ap (λ (z : B). Some z) head; later_is = tail }
+  cut_by (x ∷ xs) (w ∷ ys) y zs e = go (f x) refl e (cut_by xs (w ∷ ys) y zs) (cut_by xs ys y zs)
+    where
+      go : (o : Option B) → f x ≡ o → cons_option o (filter_map f xs) ≡ w ∷ (ys ++ y ∷ zs)
+          → (filter_map f xs ≡ w ∷ (ys ++ y ∷ zs) → IsCutBy f xs (w ∷ ys) y zs) → (filter_map f xs ≡ ys ++ y ∷ zs → IsCutBy f xs ys y zs) → IsCutBy f (x ∷ xs) (w ∷ ys) y zs
+      go None is e same less = more_by None x xs (w ∷ ys) y zs is (same e)
+      go (Some b) is e same less =
+          let head : b ≡ w = cc in
+          let tail : filter_map f xs ≡ ys ++ y ∷ zs = cc in
+          subst (λ (z : B). IsCutBy f (x ∷ xs) (z ∷ ys) y zs) head (more_by (Some b) x xs ys y zs is (less tail))
+
+-- ---- a deed of the caller's is its event
+
+own_is : (c : ℕ) (deed : Deed) (step : CallerStep) → own_step c deed ≡ Some step → deed ≡ deed_of_caller c step
+own_is c (Changed d change) step e = go (d == c) refl e
+  where
+    go : (b : Bool) → (d == c) ≡ b → cond b (Some (ChangeMade change)) None ≡ Some step → Changed d change ≡ deed_of_caller c step
+    go true is e = let same : ChangeMade change ≡ step = cc in ap (λ (n : ℕ). Changed n change) (eqb-true d c is) ∙ ap (deed_of_caller c) same
+    go false is e = cc
+own_is c (AskedKill d a) step e = go (d == c) refl e
+  where
+    go : (b : Bool) → (d == c) ≡ b → cond b (Some (KillAsked a)) None ≡ Some step → AskedKill d a ≡ deed_of_caller c step
+    go true is e = let same : KillAsked a ≡ step = cc in ap (λ (n : ℕ). AskedKill n a) (eqb-true d c is) ∙ ap (deed_of_caller c) same
+    go false is e = cc
+own_is c (TookCall a packet) step e = cc
+own_is c (TookNote a note) step e = cc
+own_is c (Ran a item) step e = cc
+own_is c (TookKill a) step e = cc
+own_is c (ToldDeath a d) step e = cc
+own_is c (Retired a) step e = cc
+
+-- whether the caller only sends or collects
+abbrev IsQuiet : Option CallerStep → Type 0
+IsQuiet None = Unit {0}
+IsQuiet (Some step) = IsMeanwhileStep step
+
+quiet_event : (c : ℕ) (h : History) (deed : Deed) (event : Event) → IsEventOf h deed event → IsQuiet (own_step c deed) → step_of c event ≡ None
+quiet_event c h (Changed d (Copied a)) event is quiet = ap (step_of c) is ∙ go (d == c) quiet
+  where
+    go : (b : Bool) → IsQuiet (cond b (Some (ChangeMade (Copied a))) None) → cond b (Some (CopyStep a)) None ≡ None
+    go true quiet = absurd quiet
+    go false quiet = refl
+quiet_event c h (Changed d (Released a)) event is quiet = ap (step_of c) is ∙ go (d == c) quiet
+  where
+    go : (b : Bool) → IsQuiet (cond b (Some (ChangeMade (Released a))) None) → cond b (Some (ReleaseStep a)) None ≡ None
+    go true quiet = absurd quiet
+    go false quiet = refl
+quiet_event c h (Changed d (Submitted a method args)) event is quiet = ap (step_of c) is ∙ go (d == c) quiet
+  where
+    go : (b : Bool) → IsQuiet (cond b (Some (ChangeMade (Submitted a method args))) None) → cond b (Some (SubmitStep a method args)) None ≡ None
+    go true quiet = absurd quiet
+    go false quiet = refl
+quiet_event c h (Changed d (Sent k)) event is quiet = ap (step_of c) is
+quiet_event c h (Changed d (Noticed (Answered reply))) event is quiet = ap (step_of c) is.1
+quiet_event c h (Changed d (Noticed (Death a))) event is quiet = ap (step_of c) is.1
+quiet_event c h (AskedKill d a) event is quiet = ap (step_of c) is ∙ go (d == c) quiet
+  where
+    go : (b : Bool) → IsQuiet (cond b (Some (KillAsked a)) None) → cond b (Some (KillStep a)) None ≡ None
+    go true quiet = absurd quiet
+    go false quiet = refl
+quiet_event c h (TookCall a packet) event is quiet = ap (step_of c) is.1
+quiet_event c h (TookNote a note) event is quiet = ap (step_of c) is.1
+quiet_event c h (Ran a item) event is quiet = ap (step_of c) is
+quiet_event c h (TookKill a) event is quiet = ap (step_of c) is
+quiet_event c h (ToldDeath a d) event is quiet = ap (step_of c) is
+quiet_event c h (Retired a) event is quiet = ap (step_of c) is
+
+-- ---- what the caller's own steps leave of it
+
+made_is : (c : ℕ) (deed : Deed) → cons_option (change_of c deed) [] ≡ filter_map change_made (cons_option (own_step c deed) [])
+made_is c (Changed d change) = go (d == c)
+  where
+    go : (b : Bool) → cons_option (cond b (Some change) None) [] ≡ filter_map change_made (cons_option (cond b (Some (ChangeMade change)) None) [])
+    go true = refl
+    go false = refl
+made_is c (AskedKill d a) = go (d == c)
+  where
+    go : (b : Bool) → [] ≡ filter_map change_made (cons_option (cond b (Some (KillAsked a)) None) [])
+    go true = refl
+    go false = refl
+made_is c (TookCall a packet) = refl
+made_is c (TookNote a note) = refl
+made_is c (Ran a item) = refl
+made_is c (TookKill a) = refl
+made_is c (ToldDeath a d) = refl
+made_is c (Retired a) = refl
+
+changes_are : (c : ℕ) (deeds : List Deed) → changes_by c deeds ≡ changes_made (filter_map (own_step c) deeds)
+changes_are c [] = refl
+changes_are c (deed ∷ deeds) =
+    filter_map-append (change_of c) (deed ∷ []) deeds
+    ∙ ap (λ (l : List Change). l ++ changes_by c deeds) (made_is c deed)
+    ∙ ap (λ (l : List Change). filter_map change_made (cons_option (own_step c deed) []) ++ l) (changes_are c deeds)
+    ∙ sym (filter_map-append change_made (cons_option (own_step c deed) []) (filter_map (own_step c) deeds))
+    ∙ ap (filter_map change_made) (sym (filter_map-append (own_step c) (deed ∷ []) deeds))
+
+owner_on : (casts : List ActorSpec) (c : ℕ) (before deeds : List Deed) → owner_by casts c (before ++ deeds) ≡ owner_after_steps (owner_by casts c before) (filter_map (own_step c) deeds)
+owner_on casts c before deeds =
+    ap (owner_after casts c) (filter_map-append (change_of c) before deeds)
+    ∙ after_all-append (owner_after casts c []) (changes_by c before) (changes_by c deeds)
+    ∙ ap (after_changes (owner_by casts c before)) (changes_are c deeds)
+
+-- ---- cuts of the deeds and their events
+
+record IsCutAt (casts : List ActorSpec) (h : History) (before : List Deed) (first : List Event) (deeds later : List Deed) (events : List Event) : Type 0 where
+  done : List Event
+  rest : List Event
+  whole : events ≡ done ++ rest
+  steps : AllZip (IsEventOf h) deeds done
+  rest_steps : AllZip (IsEventOf h) later rest
+  fronts : EachFront casts (before ++ deeds) (first ++ done) later rest
+
+cut_at : (casts : List ActorSpec) (h : History) (before : List Deed) (first : List Event) (deeds later : List Deed) (events : List Event)
+    → AllZip (IsEventOf h) (deeds ++ later) events → EachFront casts before first (deeds ++ later) events → IsCutAt casts h before first deeds later events
+cut_at casts h before first [] later events steps fronts = record {
+  done = [];
+  rest = events;
+  whole = refl;
+  steps = tt;
+  rest_steps = steps;
+  fronts = subst (λ (l : List Deed). EachFront casts l (first ++ []) later events) (sym (append-nil before)) (subst (λ (l : List Event). EachFront casts before l later events) (sym (append-nil first)) fronts);
+}
+cut_at casts h before first (deed ∷ deeds) later [] steps fronts = absurd steps
+cut_at casts h before first (deed ∷ deeds) later (event ∷ events) steps fronts =
+    let cut = cut_at casts h (before ++ deed ∷ []) (first ++ event ∷ []) deeds later events steps.1 fronts.1 in
+    record {
+      done = event ∷ cut.done;
+      rest = cut.rest;
+      whole = ap (λ (l : List Event). event ∷ l) cut.whole;
+      steps = (steps.0, cut.steps);
+      rest_steps = cut.rest_steps;
+      fronts = subst (λ (l : List Deed). EachFront casts l (first ++ event ∷ cut.done) later cut.rest) (append_assoc before (deed ∷ []) deeds)
+          (subst (λ (l : List Event). EachFront casts ((before ++ deed ∷ []) ++ deeds) l later cut.rest) (append_assoc first (event ∷ []) cut.done) cut.fronts);
+    }
+
+keeps_here : (casts : List ActorSpec) (before : List Deed) (first : List Event) (deeds : List Deed) (events : List Event) → EachFront casts before first deeds events → KeepsAnswers casts before first
+keeps_here casts before first [] [] fronts = fronts
+keeps_here casts before first [] (event ∷ events) fronts = absurd fronts
+keeps_here casts before first (deed ∷ deeds) [] fronts = absurd fronts
+keeps_here casts before first (deed ∷ deeds) (event ∷ events) fronts = fronts.0
+
+quiet_all : (c : ℕ) (h : History) (deeds : List Deed) (events : List Event) → AllZip (IsEventOf h) deeds events → AllByRecursion IsMeanwhileStep (filter_map (own_step c) deeds) → AllByRecursion (λ event. step_of c event ≡ None) events
+quiet_all c h [] [] steps quiet = tt
+quiet_all c h [] (event ∷ events) steps quiet = absurd steps
+quiet_all c h (deed ∷ deeds) [] steps quiet = absurd steps
+quiet_all c h (deed ∷ deeds) (event ∷ events) steps quiet = go (own_step c deed) refl quiet (quiet_all c h deeds events steps.1)
+  where
+    go : (o : Option CallerStep) → own_step c deed ≡ o → AllByRecursion IsMeanwhileStep (cons_option o (filter_map (own_step c) deeds))
+        → (AllByRecursion IsMeanwhileStep (filter_map (own_step c) deeds) → AllByRecursion (λ event. step_of c event ≡ None) events) → AllByRecursion (λ event. step_of c event ≡ None) (event ∷ events)
+    go None is quiet rest = (quiet_event c h deed event steps.0 (subst IsQuiet (sym is) tt), rest quiet)
+    go (Some step) is quiet rest = (quiet_event c h deed event steps.0 (subst IsQuiet (sym is) quiet.0), rest quiet.1)
+
+meanwhile : (c : ℕ) (h : History) (deeds : List Deed) (events : List Event) (steps : List CallerStep) → AllZip (IsEventOf h) deeds events → filter_map (own_step c) deeds ≡ steps → All IsMeanwhileStep steps → IsMeanwhile c events
+meanwhile c h deeds events steps zip is quiet = All-from_recursion (λ event. step_of c event ≡ None) events
+    (quiet_all c h deeds events zip (subst (AllByRecursion IsMeanwhileStep) (sym is) (recursion_from_All IsMeanwhileStep steps quiet)))
+
+-- ---- the plan
+
+module _ (casts : List ActorSpec) (c : ℕ) (h : History) where
+  -- where the play stands: after these deeds, which are these events, the caller has these steps before it
+  pub record Stands (owner : OwnerView) (before : List Deed) (first : List Event) (steps : List CallerStep) (events : List Event) : Type 0 where
+    pub deeds : List Deed
+    pub owner_is : owner_by casts c before ≡ owner
+    pub own : filter_map (own_step c) deeds ≡ steps
+    pub zip : AllZip (IsEventOf h) deeds events
+    pub fronts : EachFront casts before first deeds events
+
+  -- after some steps by which it only sent and collected
+  record Spares (owner : OwnerView) (first : List Event) (skipped later : List CallerStep) (events : List Event) : Type 0 where
+    deeds : List Deed
+    done : List Event
+    rest : List Event
+    whole : events ≡ done ++ rest
+    quiet : IsMeanwhile c done
+    known : KeepsAnswers casts deeds (first ++ done)
+    owner_is : owner_by casts c deeds ≡ owner_after_steps owner skipped
+    next : Stands (owner_after_steps owner skipped) deeds ((first ++ done) ++ []) later rest
+
+  -- and after a step more
+  record Acts (owner : OwnerView) (first : List Event) (skipped : List CallerStep) (step : CallerStep) (later : List CallerStep) (events : List Event) : Type 0 where
+    deeds : List Deed
+    done : List Event
+    one : Event
+    rest : List Event
+    whole : events ≡ done ++ one ∷ rest
+    quiet : IsMeanwhile c done
+    is : IsEventOf h (deed_of_caller c step) one
+    next : Stands (owner_after_steps owner (skipped ++ step ∷ [])) deeds ((first ++ done) ++ one ∷ []) later rest
+
+  spares : (owner : OwnerView) (before : List Deed) (first : List Event) (skipped later : List CallerStep) (events : List Event) → Stands owner before first (skipped ++ later) events → All IsMeanwhileStep skipped → Spares owner first skipped later events
+  spares owner before first skipped later events stands quiet =
+      let by = cut_in (own_step c) stands.deeds skipped later stands.own in
+      let cut = cut_at casts h before first by.first by.later events (subst (λ (l : List Deed). AllZip (IsEventOf h) l events) by.whole stands.zip) (subst (λ (l : List Deed). EachFront casts before first l events) by.whole stands.fronts) in
+      let owner_is : owner_by casts c (before ++ by.first) ≡ owner_after_steps owner skipped = owner_on casts c before by.first ∙ ap (λ (o : OwnerView). owner_after_steps o (filter_map (own_step c) by.first)) stands.owner_is ∙ ap (owner_after_steps owner) by.first_is in
+      record {
+        deeds = before ++ by.first;
+        done = cut.done;
+        rest = cut.rest;
+        whole = cut.whole;
+        quiet = meanwhile c h by.first cut.done skipped cut.steps by.first_is quiet;
+        known = keeps_here casts (before ++ by.first) (first ++ cut.done) by.later cut.rest cut.fronts;
+        owner_is = owner_is;
+        next = record {
+          deeds = by.later;
+          owner_is = owner_is;
+          own = by.later_is;
+          zip = cut.rest_steps;
+          fronts = subst (λ (l : List Event). EachFront casts (before ++ by.first) l by.later cut.rest) (sym (append-nil (first ++ cut.done))) cut.fronts;
+        };
+      }
+
+  acts : (owner : OwnerView) (before : List Deed) (first : List Event) (skipped : List CallerStep) (step : CallerStep) (later : List CallerStep) (events : List Event) → Stands owner before first ((skipped ++ step ∷ []) ++ later) events → All IsMeanwhileStep skipped → Acts owner first skipped step later events
+  acts owner before first skipped step later events stands quiet = go cut.rest refl
+    where
+      by : IsCutBy (own_step c) stands.deeds skipped step later
+      by = cut_by (own_step c) stands.deeds skipped step later (stands.own ∙ append_assoc skipped (step ∷ []) later)
+
+      cut : IsCutAt casts h before first by.first (by.one ∷ by.later) events
+      cut = cut_at casts h before first by.first (by.one ∷ by.later) events (subst (λ (l : List Deed). AllZip (IsEventOf h) l events) by.whole stands.zip) (subst (λ (l : List Deed). EachFront casts before first l events) by.whole stands.fronts)
+
+      steps_are : filter_map (own_step c) (by.first ++ by.one ∷ []) ≡ skipped ++ step ∷ []
+      steps_are = filter_map-append (own_step c) by.first (by.one ∷ [])
+          ∙ ap (λ (l : List CallerStep). l ++ cons_option (own_step c by.one) []) by.first_is
+          ∙ ap (λ (o : Option CallerStep). skipped ++ cons_option o []) by.one_is
+
+      owner_is : owner_by casts c ((before ++ by.first) ++ by.one ∷ []) ≡ owner_after_steps owner (skipped ++ step ∷ [])
+      owner_is = ap (owner_by casts c) (append_assoc before by.first (by.one ∷ []))
+          ∙ owner_on casts c before (by.first ++ by.one ∷ [])
+          ∙ ap (λ (o : OwnerView). owner_after_steps o (filter_map (own_step c) (by.first ++ by.one ∷ []))) stands.owner_is
+          ∙ ap (owner_after_steps owner) steps_are
+
+      go : (rest : List Event) → cut.rest ≡ rest → Acts owner first skipped step later events
+      go [] is = absurd (subst (AllZip (IsEventOf h) (by.one ∷ by.later)) is cut.rest_steps)
+      go (event ∷ rest) is =
+          let zip : AllZip (IsEventOf h) (by.one ∷ by.later) (event ∷ rest) = subst (AllZip (IsEventOf h) (by.one ∷ by.later)) is cut.rest_steps in
+          let fronts : EachFront casts (before ++ by.first) (first ++ cut.done) (by.one ∷ by.later) (event ∷ rest) = subst (EachFront casts (before ++ by.first) (first ++ cut.done) (by.one ∷ by.later)) is cut.fronts in
+          record {
+            deeds = (before ++ by.first) ++ by.one ∷ [];
+            done = cut.done;
+            one = event;
+            rest = rest;
+            whole = cut.whole ∙ ap (λ (l : List Event). cut.done ++ l) is;
+            quiet = meanwhile c h by.first cut.done skipped cut.steps by.first_is quiet;
+            is = subst (λ (deed : Deed). IsEventOf h deed event) (own_is c by.one step by.one_is) zip.0;
+            next = record {
+              deeds = by.later;
+              owner_is = owner_is;
+              own = by.later_is;
+              zip = zip.1;
+              fronts = fronts.1;
+            };
+          }
+
+  -- where the steps are cut so
+  cut_so : (owner : OwnerView) (before : List Deed) (first : List Event) (steps done skipped later : List CallerStep) (events : List Event) → Stands owner before first steps events → steps ≡ done ++ later → done ≡ skipped → Stands owner before first (skipped ++ later) events
+  cut_so owner before first steps done skipped later events stands whole is = subst (λ (l : List CallerStep). Stands owner before first l events) (whole ∙ ap (λ (l : List CallerStep). l ++ later) is) stands
+
+  -- the later steps, from where they stand
+  abbrev GoesOn : List Step → OwnerView → List CallerStep → Type 0
+  GoesOn plan owner later = (deeds : List Deed) (first rest : List Event) → Stands owner deeds first later rest → DoesPlanIn casts c plan first rest
+
+  -- a step is done
+  acted : (step : Step) (plan : List Step) (owner : OwnerView) (before : List Deed) (first : List Event) (skipped : List CallerStep) (own : CallerStep) (later : List CallerStep) (events : List Event)
+      → ((done : List Event) (event : Event) → IsEventOf h (deed_of_caller c own) event → DoesStepIn casts c step done (event ∷ []))
+      → Stands owner before first ((skipped ++ own ∷ []) ++ later) events → All IsMeanwhileStep skipped → GoesOn plan (owner_after_steps owner (skipped ++ own ∷ [])) later → DoesPlanIn casts c (step ∷ plan) first events
+  acted step plan owner before first skipped own later events does stands quiet more =
+      let a = acts owner before first skipped own later events stands quiet in
+      (a.done, a.one ∷ [], a.rest, a.whole ∙ sym (append_assoc a.done (a.one ∷ []) a.rest), a.quiet, does (first ++ a.done) a.one a.is, more a.deeds ((first ++ a.done) ++ a.one ∷ []) a.rest a.next)
+
+  -- nothing is done for a step
+  spared : (step : Step) (plan : List Step) (owner : OwnerView) (before : List Deed) (first : List Event) (skipped later : List CallerStep) (events : List Event)
+      → ((deeds : List Deed) (done : List Event) → KeepsAnswers casts deeds done → owner_by casts c deeds ≡ owner_after_steps owner skipped → DoesStepIn casts c step done [])
+      → Stands owner before first (skipped ++ later) events → All IsMeanwhileStep skipped → GoesOn plan (owner_after_steps owner skipped) later → DoesPlanIn casts c (step ∷ plan) first events
+  spared step plan owner before first skipped later events does stands quiet more =
+      let s = spares owner before first skipped later events stands quiet in
+      (s.done, [], s.rest, s.whole ∙ sym (append_assoc s.done [] s.rest), s.quiet, does s.deeds (first ++ s.done) s.known s.owner_is, more s.deeds ((first ++ s.done) ++ []) s.rest s.next)
+
+  pub does_plan : (plan : List Step) (owner : OwnerView) (before : List Deed) (first : List Event) (steps : List CallerStep) (events : List Event) → Stands owner before first steps events → DoesPlan owner plan steps → DoesPlanIn casts c plan first events
+  does_plan [] owner before first steps events stands does = meanwhile c h stands.deeds events steps stands.zip stands.own does
+  does_plan (SubmitStep a method args ∷ plan) owner before first steps events stands (skipped, done, later, quiet, does, whole, more) =
+      acted (SubmitStep a method args) plan owner before first skipped (ChangeMade (Submitted a method args)) later events
+      (λ first event is. ap (λ (e : Event). e ∷ []) is) (cut_so owner before first steps done (skipped ++ ChangeMade (Submitted a method args) ∷ []) later events stands whole does) quiet
+      (λ deeds first rest stands. does_plan plan _ deeds first later rest stands (subst (λ (l : List CallerStep). DoesPlan (owner_after_steps owner l) plan later) does more))
+  does_plan (CopyStep a ∷ plan) owner before first steps events stands (skipped, done, later, quiet, does, whole, more) =
+      acted (CopyStep a) plan owner before first skipped (ChangeMade (Copied a)) later events
+      (λ first event is. ap (λ (e : Event). e ∷ []) is) (cut_so owner before first steps done (skipped ++ ChangeMade (Copied a) ∷ []) later events stands whole does) quiet
+      (λ deeds first rest stands. does_plan plan _ deeds first later rest stands (subst (λ (l : List CallerStep). DoesPlan (owner_after_steps owner l) plan later) does more))
+  does_plan (ReleaseStep a ∷ plan) owner before first steps events stands (skipped, done, later, quiet, does, whole, more) =
+      acted (ReleaseStep a) plan owner before first skipped (ChangeMade (Released a)) later events
+      (λ first event is. ap (λ (e : Event). e ∷ []) is) (cut_so owner before first steps done (skipped ++ ChangeMade (Released a) ∷ []) later events stands whole does) quiet
+      (λ deeds first rest stands. does_plan plan _ deeds first later rest stands (subst (λ (l : List CallerStep). DoesPlan (owner_after_steps owner l) plan later) does more))
+  does_plan (KillStep a ∷ plan) owner before first steps events stands (skipped, done, later, quiet, does, whole, more) = elim does [
+    | inl unasked ↦ spared (KillStep a) plan owner before first skipped later events
+        (λ deeds first known is. inr (refl, death_listed c a (history casts first).collected (known.deaths c a (ap (λ (o : OwnerView). is_known_dead o a) is ∙ unasked.1))))
+        (cut_so owner before first steps done skipped later events stands whole unasked.0) quiet
+        (λ deeds first rest stands. does_plan plan _ deeds first later rest stands (subst (λ (l : List CallerStep). DoesPlan (owner_after_steps owner l) plan later) unasked.0 more))
+    | inr asked ↦ acted (KillStep a) plan owner before first skipped (KillAsked a) later events
+        (λ first event is. inl (ap (λ (e : Event). e ∷ []) is)) (cut_so owner before first steps done (skipped ++ KillAsked a ∷ []) later events stands whole asked) quiet
+        (λ deeds first rest stands. does_plan plan _ deeds first later rest stands (subst (λ (l : List CallerStep). DoesPlan (owner_after_steps owner l) plan later) asked more))
+  ]
+  does_plan (AwaitStep k ∷ plan) owner before first steps events stands (skipped, done, later, quiet, does, whole, more) =
+      spared (AwaitStep k) plan owner before first skipped later events
+      (λ deeds first known is. (refl, ap (λ (l : List (Option Answer)). is_some (kept_at l k)) (known.kept c ∙ ap (λ (o : OwnerView). o.kept) is) ∙ does.1))
+      (cut_so owner before first steps done skipped later events stands whole does.0) quiet
+      (λ deeds first rest stands. does_plan plan _ deeds first later rest stands (subst (λ (l : List CallerStep). DoesPlan (owner_after_steps owner l) plan later) does.0 more))
+
+-- a caller whose deeds in the list are the steps by which its thread did a plan does the plan in the play
+pub plan_in_play : (casts : List ActorSpec) (c : ℕ) (h : History) (deeds : List Deed) (events : List Event) (steps : List CallerStep) (plan : List Step)
+    → AllZip (IsEventOf h) deeds events → EachFront casts [] [] deeds events → filter_map (own_step c) deeds ≡ steps → DoesPlan (owner_after casts c []) plan steps → DoesPlanIn casts c plan [] events
+plan_in_play casts c h deeds events steps plan zip fronts own does =
+    does_plan casts c h plan (owner_after casts c []) [] [] steps events (record { deeds = deeds; owner_is = refl; own = own; zip = zip; fronts = fronts }) does

@@ -1,0 +1,230 @@
+-- No letter that an actor takes of a caller comes twice, and so it is of the letters that are delivered.
+use Rattle.act_executor.proofs.Common.{◌≡◌, ◌≢◌, ℕ, suc, ◌+◌, ◌==◌, Bool, true, false, cond, List, [], ◌∷◌, ◌++◌, Option, Some, None, refl, ap, sym, ◌∙◌, subst}
+use Rattle.act_executor.proofs.Common.{arith, All, AllPairs, ◌&&◌, map, filter, filter_map, slice_get, option_map, AllByRecursion, cons_option, eqb-true}
+use Rattle.act_executor.proofs.Common.{eq-eqb, ne_eqb, map-append, recursion_from_All, Packet, ReleaseNote, Submission, number_of, same_place, OwnerView}
+use Rattle.act_executor.proofs.Common.{packet_for, Letter, Call, Note, Deed, Changed, AskedKill, TookCall, TookNote, Ran, TookKill, ToldDeath, IsSent, AreTwo}
+use Rattle.act_executor.proofs.Common.{letter_of, IsPrefix, contains, items_from, caller_of, steps_in, found_in, ActorStep, LetterTaken, CallRun, KillTaken}
+use Rattle.act_executor.proofs.Common.{DeathTold, Retirement, letter_taken, deeds_of, IsMergeOf, CallerThreads, ActorThreads}
+use Rattle.act_rules.specs.declared.history.Letter.{Letter as SentLetter}
+use Rattle.act_rules.specs.declared.history.Letter.TheVariants.{Call as CallLetter, Note as NoteLetter}
+use Rattle.act_causes.specs.Deeds.{Retired}
+use Rattle.act_executor.proofs.Planned.Once.{Differ, differ_pairs, front_differs, HasEnds, both_same, all_differ}
+use Rattle.act_executor.proofs.Played.Threads.{actor_key, key_of, deed_of_actor, all_threads, deeds_of_actor}
+use Rattle.act_executor.proofs.Played.Projections.{deeds_in_order, IsKeyed, seen_under, seen_in_steps}
+use Rattle.act_executor.proofs.Played.ActorWork.{is_of_these}
+use Rattle.act_executor.proofs.Played.FoundSteps.{found_is as found_alone}
+use Rattle.act_executor.proofs.Lists.Kept.{keep_stamped, kept_steps, kept_found}
+
+-- ---- what a caller put at an endpoint
+
+abbrev pub sent_letter : ℕ → Letter → SentLetter
+sent_letter a (Call packet) = CallLetter packet.caller a packet.number
+sent_letter a (Note note) = NoteLetter note.caller a note.after
+
+-- the packet of a call tells its place among the calls
+record IsPacketOf (owner : OwnerView) (a : ℕ) (packet : Packet) : Type 0 where
+  call : Submission
+  at : slice_get owner.calls packet.future ≡ Some call
+  to : call.actor ≡ a
+  number : packet.number ≡ number_of a packet.future owner.calls
+
+packet_is : (owner : OwnerView) (a : ℕ) (packet : Packet) → IsSent owner a (Call packet) → IsPacketOf owner a packet
+packet_is owner a packet sent = go (slice_get owner.calls packet.future) refl sent.0
+  where
+    go : (o : Option Submission) → slice_get owner.calls packet.future ≡ o → option_map (packet_for owner packet.future) o ≡ Some packet → IsPacketOf owner a packet
+    go None at e = cc
+    go (Some call) at e =
+        let same : packet_for owner packet.future call ≡ packet = cc in
+        let actor : call.actor ≡ a = ap (λ (p : Packet). p.actor) same ∙ sent.2 in
+        record { call = call; at = at; to = actor; number = sym (ap (λ (p : Packet). p.number) same) ∙ ap (λ (b : ℕ). number_of b packet.future owner.calls) actor }
+
+one_future : (owner : OwnerView) (a : ℕ) (p q : Packet) → IsSent owner a (Call p) → IsSent owner a (Call q) → p.number ≡ q.number → p.future ≡ q.future
+one_future owner a p q sent other same =
+    let x = packet_is owner a p sent in
+    let y = packet_is owner a q other in
+    same_place (λ (call : Submission). call.actor == a) owner.calls p.future q.future x.call y.call x.at (eq-eqb x.call.actor a x.to) y.at (eq-eqb y.call.actor a y.to) (sym x.number ∙ same ∙ y.number)
+
+-- each letter is another one than those behind it
+abbrev pub Apart : List Letter → Type 0
+Apart [] = Unit {0}
+Apart (letter ∷ put) = AllByRecursion (AreTwo letter) put × Apart put
+
+are_apart : (put : List Letter) → AllPairs AreTwo put → Apart put
+are_apart [] pairs = tt
+are_apart (letter ∷ put) pairs = (
+  recursion_from_All (AreTwo letter) put (λ k d below. pairs 0 (suc k) d (omega arith) (omega (arith, below))),
+  are_apart put (λ i j d below within. pairs (suc i) (suc j) d (omega (arith, below)) (omega (arith, within))),
+)
+
+module _ (owner : OwnerView) (a : ℕ) where
+  two_differ : (one other : Letter) → IsSent owner a one → IsSent owner a other → AreTwo one other → sent_letter a one ≢ sent_letter a other
+  two_differ (Call p) (Call q) sent there two e = two (one_future owner a p q sent there (let same : p.number ≡ q.number = cc in same))
+  two_differ (Call p) (Note note) sent there two e = cc
+  two_differ (Note note) (Call p) sent there two e = cc
+  two_differ (Note one) (Note other) sent there two e = two (ap (λ (r : ReleaseNote). r.actor) (sent.0 ∙ sym there.0))
+
+  one_differs : (letter : Letter) (put : List Letter) → IsSent owner a letter → AllByRecursion (IsSent owner a) put → AllByRecursion (AreTwo letter) put → AllByRecursion (λ other. sent_letter a letter ≢ other) (map (sent_letter a) put)
+  one_differs letter [] sent all two = tt
+  one_differs letter (other ∷ put) sent all two = (two_differ letter other sent all.0 two.0, one_differs letter put sent all.1 two.1)
+
+  put_differ : (put : List Letter) → AllByRecursion (IsSent owner a) put → Apart put → Differ (map (sent_letter a) put)
+  put_differ [] all apart = tt
+  put_differ (letter ∷ put) all apart = (one_differs letter put all.0 all.1 apart.0, put_differ put all.1 apart.1)
+
+-- ---- what is delivered
+
+-- whether the letter went from the caller to the actor
+abbrev pub is_sent_between : ℕ → ℕ → SentLetter → Bool
+is_sent_between c a (CallLetter d b n) = (d == c) && (b == a)
+is_sent_between c a (NoteLetter d b n) = (d == c) && (b == a)
+
+sent_ends : (letter : SentLetter) → HasEnds is_sent_between letter
+sent_ends (CallLetter c a n) = record { caller = c; actor = a; goes = both_same c a }
+sent_ends (NoteLetter c a n) = record { caller = c; actor = a; goes = both_same c a }
+
+pub delivered_once : (arrived : List SentLetter) → ((c a : ℕ) → Differ (filter (is_sent_between c a) arrived)) → AllPairs (λ one other. one ≢ other) arrived
+delivered_once arrived each = differ_pairs arrived (all_differ is_sent_between sent_ends arrived each)
+
+-- the letter of the caller's that the actor takes in the deed
+abbrev pub letter_by : ℕ → ℕ → Deed → Option SentLetter
+letter_by c a (Changed d change) = None
+letter_by c a (AskedKill d b) = None
+letter_by c a (TookCall b packet) = cond ((packet.caller == c) && (b == a)) (Some (CallLetter packet.caller b packet.number)) None
+letter_by c a (TookNote b note) = cond ((note.caller == c) && (b == a)) (Some (NoteLetter note.caller b note.after)) None
+letter_by c a (Ran b item) = None
+letter_by c a (TookKill b) = None
+letter_by c a (ToldDeath b d) = None
+letter_by c a (Retired b) = None
+
+one_letter : (b : Bool) (letter : SentLetter) (letters rest : List SentLetter) → letters ≡ rest → cond b (letter ∷ letters) letters ≡ cons_option (cond b (Some letter) None) rest
+one_letter true letter letters rest same = ap (λ (l : List SentLetter). letter ∷ l) same
+one_letter false letter letters rest same = same
+
+pub delivered_part : (c a : ℕ) (deeds : List Deed) → filter (is_sent_between c a) (filter_map letter_of deeds) ≡ filter_map (letter_by c a) deeds
+delivered_part c a [] = refl
+delivered_part c a (Changed d change ∷ deeds) = delivered_part c a deeds
+delivered_part c a (AskedKill d b ∷ deeds) = delivered_part c a deeds
+delivered_part c a (TookCall b packet ∷ deeds) =
+    one_letter ((packet.caller == c) && (b == a)) (CallLetter packet.caller b packet.number) (filter (is_sent_between c a) (filter_map letter_of deeds)) (filter_map (letter_by c a) deeds) (delivered_part c a deeds)
+delivered_part c a (TookNote b note ∷ deeds) =
+    one_letter ((note.caller == c) && (b == a)) (NoteLetter note.caller b note.after) (filter (is_sent_between c a) (filter_map letter_of deeds)) (filter_map (letter_by c a) deeds) (delivered_part c a deeds)
+delivered_part c a (Ran b item ∷ deeds) = delivered_part c a deeds
+delivered_part c a (TookKill b ∷ deeds) = delivered_part c a deeds
+delivered_part c a (ToldDeath b d ∷ deeds) = delivered_part c a deeds
+delivered_part c a (Retired b ∷ deeds) = delivered_part c a deeds
+
+-- a letter of the caller's, and one that an actor takes in a step
+abbrev pub letter_from : ℕ → ℕ → Letter → Option SentLetter
+letter_from c a letter = cond (caller_of letter == c) (Some (sent_letter a letter)) None
+
+-- the letter of the caller's that the actor takes in the step, if it takes one
+abbrev pub letter_in_step : ℕ → ℕ → ActorStep → Option SentLetter
+letter_in_step c a (LetterTaken letter) = letter_from c a letter
+letter_in_step c a (CallRun item) = None
+letter_in_step c a (KillTaken kill) = None
+letter_in_step c a (DeathTold d) = None
+letter_in_step c a Retirement = None
+
+unkeyed : (a b : ℕ) → (actor_key b == actor_key a) ≡ false → (b == a) ≡ false
+unkeyed a b e = ne_eqb b a (λ same. let bad : true ≡ false = sym (eq-eqb (actor_key b) (actor_key a) (ap actor_key same)) ∙ e in cc)
+
+elsewhere : (x y : Bool) (letter : SentLetter) → y ≡ false → cond (x && y) (Some letter) None ≡ None
+elsewhere true y letter e = ap (λ (b : Bool). cond b (Some letter) None) e
+elsewhere false y letter e = refl
+
+none_taken : (c a : ℕ) (deed : Deed) → (key_of deed == actor_key a) ≡ false → letter_by c a deed ≡ None
+none_taken c a (Changed d change) e = refl
+none_taken c a (AskedKill d b) e = refl
+none_taken c a (TookCall b packet) e = elsewhere (packet.caller == c) (b == a) (CallLetter packet.caller b packet.number) (unkeyed a b e)
+none_taken c a (TookNote b note) e = elsewhere (note.caller == c) (b == a) (NoteLetter note.caller b note.after) (unkeyed a b e)
+none_taken c a (Ran b item) e = refl
+none_taken c a (TookKill b) e = refl
+none_taken c a (ToldDeath b d) e = refl
+none_taken c a (Retired b) e = refl
+
+here : (x y : Bool) (letter : SentLetter) → y ≡ true → cond (x && y) (Some letter) None ≡ cond x (Some letter) None
+here true y letter e = ap (λ (b : Bool). cond b (Some letter) None) e
+here false y letter e = refl
+
+same_taken : (c a : ℕ) (step : ActorStep) → letter_by c a (deed_of_actor a step) ≡ letter_in_step c a step
+same_taken c a (LetterTaken (Call packet)) = here (packet.caller == c) (a == a) (CallLetter packet.caller a packet.number) (eq-eqb a a refl)
+same_taken c a (LetterTaken (Note note)) = here (note.caller == c) (a == a) (NoteLetter note.caller a note.after) (eq-eqb a a refl)
+same_taken c a (CallRun item) = refl
+same_taken c a (KillTaken kill) = refl
+same_taken c a (DeathTold d) = refl
+same_taken c a Retirement = refl
+
+pub taken_part : (callers : CallerThreads) (actors : ActorThreads) (merged : List (ℕ × (ℕ × Deed))) (c a : ℕ) → IsMergeOf (all_threads callers actors) merged → IsKeyed merged
+    → filter_map (letter_by c a) (deeds_in_order merged) ≡ filter_map (letter_in_step c a) (steps_in (deeds_of a actors))
+taken_part callers actors merged c a merge keyed =
+    seen_under (actor_key a) (letter_by c a) (none_taken c a) merged keyed
+    ∙ ap (λ (l : List (ℕ × Deed)). filter_map (letter_by c a) (map (λ (d : ℕ × Deed). d.1) l)) (merge.each (actor_key a) ∙ deeds_of_actor callers actors a)
+    ∙ seen_in_steps (letter_by c a) (letter_in_step c a) (deed_of_actor a) (same_taken c a) (deeds_of a actors)
+
+-- ---- the steps of an actor's thread
+
+module _ (c a : ℕ) where
+  by_letters : (steps : List ActorStep) → filter_map (letter_in_step c a) steps ≡ filter_map (letter_from c a) (filter_map letter_taken steps)
+  by_letters [] = refl
+  by_letters (LetterTaken letter ∷ steps) = ap (cons_option (letter_from c a letter)) (by_letters steps)
+  by_letters (CallRun item ∷ steps) = by_letters steps
+  by_letters (KillTaken kill ∷ steps) = by_letters steps
+  by_letters (DeathTold d ∷ steps) = by_letters steps
+  by_letters (Retirement ∷ steps) = by_letters steps
+
+  stranger_letter : (callers : List ℕ) (letter : Letter) → contains c callers ≡ true → contains (caller_of letter) callers ≡ false → letter_from c a letter ≡ None
+  stranger_letter callers letter listed lost = go (caller_of letter == c) refl
+    where
+      go : (b : Bool) → (caller_of letter == c) ≡ b → cond b (Some (sent_letter a letter)) None ≡ None
+      go true is = let bad : true ≡ false = sym listed ∙ ap (λ (n : ℕ). contains n callers) (sym (eqb-true (caller_of letter) c is)) ∙ lost in cc
+      go false is = refl
+
+  lost_letter : (callers : List ℕ) → contains c callers ≡ true → (step : ActorStep) → is_of_these callers step ≡ false → letter_in_step c a step ≡ None
+  lost_letter callers listed (LetterTaken letter) lost = stranger_letter callers letter listed lost
+  lost_letter callers listed (CallRun item) lost = refl
+  lost_letter callers listed (KillTaken kill) lost = refl
+  lost_letter callers listed (DeathTold d) lost = refl
+  lost_letter callers listed Retirement lost = refl
+
+  -- the letters that are taken of a listed caller
+  pub letters_kept : (callers : List ℕ) → contains c callers ≡ true → (t : List (ℕ × ActorStep)) (taken : List Letter) → map (λ x. x.1) (found_in letter_taken t) ≡ taken
+      → filter_map (letter_in_step c a) (steps_in (filter (keep_stamped (is_of_these callers)) t)) ≡ filter_map (letter_from c a) taken
+  letters_kept callers listed t taken is =
+      ap (filter_map (letter_in_step c a)) (kept_steps (is_of_these callers) t)
+      ∙ kept_found (is_of_these callers) (letter_in_step c a) (lost_letter callers listed) (steps_in t)
+      ∙ by_letters (steps_in t)
+      ∙ ap (filter_map (letter_from c a)) (sym (found_alone letter_taken t) ∙ is)
+
+  none_listed : (callers : List ℕ) → contains c callers ≡ false → (steps : List ActorStep) → filter_map (letter_in_step c a) (filter (is_of_these callers) steps) ≡ []
+  none_listed callers none [] = refl
+  none_listed callers none (LetterTaken letter ∷ steps) = go (contains (caller_of letter) callers) refl (caller_of letter == c) refl (none_listed callers none steps)
+    where
+      go : (b : Bool) → contains (caller_of letter) callers ≡ b → (x : Bool) → (caller_of letter == c) ≡ x → filter_map (letter_in_step c a) (filter (is_of_these callers) steps) ≡ []
+          → filter_map (letter_in_step c a) (cond b (LetterTaken letter ∷ filter (is_of_these callers) steps) (filter (is_of_these callers) steps)) ≡ []
+      go true is true same rest = let bad : true ≡ false = sym is ∙ ap (λ (n : ℕ). contains n callers) (eqb-true (caller_of letter) c same) ∙ none in cc
+      go true is false same rest = ap (λ (b : Bool). cons_option (cond b (Some (sent_letter a letter)) None) (filter_map (letter_in_step c a) (filter (is_of_these callers) steps))) same ∙ rest
+      go false is x same rest = rest
+  none_listed callers none (CallRun item ∷ steps) = none_listed callers none steps
+  none_listed callers none (KillTaken kill ∷ steps) = none_listed callers none steps
+  none_listed callers none (DeathTold d ∷ steps) = none_listed callers none steps
+  none_listed callers none (Retirement ∷ steps) = none_listed callers none steps
+
+  pub letters_lost : (callers : List ℕ) → contains c callers ≡ false → (t : List (ℕ × ActorStep)) → filter_map (letter_in_step c a) (steps_in (filter (keep_stamped (is_of_these callers)) t)) ≡ []
+  letters_lost callers none t = ap (filter_map (letter_in_step c a)) (kept_steps (is_of_these callers) t) ∙ none_listed callers none (steps_in t)
+
+  -- ---- what was taken was put
+
+  of_caller : (letters : List Letter) → filter_map (letter_from c a) letters ≡ map (sent_letter a) (items_from caller_of c letters)
+  of_caller [] = refl
+  of_caller (letter ∷ letters) = go (caller_of letter == c) (of_caller letters)
+    where
+      go : (b : Bool) → filter_map (letter_from c a) letters ≡ map (sent_letter a) (items_from caller_of c letters)
+          → cons_option (cond b (Some (sent_letter a letter)) None) (filter_map (letter_from c a) letters) ≡ map (sent_letter a) (cond b (letter ∷ items_from caller_of c letters) (items_from caller_of c letters))
+      go true rest = ap (λ (l : List SentLetter). sent_letter a letter ∷ l) rest
+      go false rest = rest
+
+  pub taken_differ : (owner : OwnerView) (taken put : List Letter) → IsPrefix (items_from caller_of c taken) put → All (IsSent owner a) put → AllPairs AreTwo put → Differ (filter_map (letter_from c a) taken)
+  taken_differ owner taken put front sent apart =
+      let all : Differ (map (sent_letter a) put) = put_differ owner a put (recursion_from_All (IsSent owner a) put sent) (are_apart put apart) in
+      let cut : Differ (map (sent_letter a) (items_from caller_of c taken) ++ map (sent_letter a) front.0) = subst (λ (l : List SentLetter). Differ l) (ap (map (sent_letter a)) (sym front.1) ∙ map-append (sent_letter a) (items_from caller_of c taken) front.0) all in
+      subst (λ (l : List SentLetter). Differ l) (sym (of_caller taken)) (front_differs (map (sent_letter a) (items_from caller_of c taken)) (map (sent_letter a) front.0) cut)

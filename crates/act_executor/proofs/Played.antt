@@ -1,0 +1,16 @@
+pub mod Threads
+pub mod Seen
+pub mod FoundSteps
+pub mod Projections
+pub mod Traced
+pub mod MayDo
+pub mod CallerCauses
+pub mod ActorCauses
+pub mod AsPlay
+pub mod HaveTraces
+pub mod MadeThreads
+pub mod ActorWork
+pub mod CallerWork
+pub mod TracedActors
+pub mod TracedCallers
+pub mod JoinedTraces
