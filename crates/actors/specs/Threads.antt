@@ -9,7 +9,7 @@ pub use Rattle.act_executor.specs.Runs.{IsFault}
 -- what every run leaves
 pub use Rattle.act_executor.specs.Joined.{IsJoined, RanAll, CallsThatDiedNeverRan}
 -- how an actor ended
-pub use Rattle.act_serve.specs.Served.{EndView, Killed, Retired, Starved, end_view, IfRetired, end_id}
+pub use Rattle.act_serve.specs.Served.{EndView, Killed, Retired, Starved, end_view, IfRetired, end_id, end_log}
 -- callers and actors of what is left, by their numbers: their calls, answers and logs
 pub use Rattle.act_executor.specs.Joined.{owner_of, end_of, calls_in, kept_in, log_in, killed_in}
 pub use Rattle.act_executor.specs.Joined.{calls_of_owner, kept_of_owner, log_of_end, is_killed_end}
