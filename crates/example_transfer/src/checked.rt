@@ -29,21 +29,11 @@ pub enum Verdict {
     Changed(Vec<Event>),
 }
 
-/// The actor that ended.
-fn id_of(ended: &Ended<Purse>) -> ActorId
-    ensures { result ≡ end_id (end_view purse_at ended.now) }
-{
-    match ended {
-        Ended::Killed(dead) | Ended::Starved(dead) => dead.id(),
-        Ended::Retired(retired) => retired.id(),
-    }
-}
-
 /// What an actor left.
 fn find_actor(actors: &[Finished<Purse>], a: ActorId) -> Option<&Finished<Purse>>
     ensures { option_copied result ≡ find (λ actor. end_id (end_view purse_at actor.ended) == a) actors.now }
 {
-    actors.iter().find(|actor| id_of(&actor.ended) == a)
+    actors.iter().find(|actor| actor.ended.id() == a)
 }
 
 /// The purse with which an actor retired.
