@@ -404,7 +404,7 @@ pub enum Ended<K = Boxed, L: RunLog = Vec<RunItem>> {
     Starved(Dead<L>),
 }
 
-impl<K: Actor> Ended<K> {
+impl<K: Actor, L: RunLog> Ended<K, L> {
     /// The actor that ended.
     pub fn id(&self) -> ActorId
         ensures { result ≡ end_id (end_view K.state self.now) }
@@ -415,6 +415,18 @@ impl<K: Actor> Ended<K> {
         }
     }
 
+    /// What is kept of the calls that it ran, however it ended.
+    pub fn run_log(&self) -> &L
+        ensures { L.items result.now ≡ end_log (end_view K.state self.now) }
+    {
+        match self {
+            Ended::Killed(dead) | Ended::Starved(dead) => dead.run_log(),
+            Ended::Retired(retired) => retired.run_log(),
+        }
+    }
+}
+
+impl<K: Actor> Ended<K> {
     /// What it ran, however it ended.
     pub fn log(&self) -> &[RunItem]
         ensures { result.now ≡ end_log (end_view K.state self.now) }
