@@ -1,6 +1,6 @@
 pub mod Common
 pub mod Lists
-pub mod Opened
-pub mod Ended
-pub mod Played
-pub mod Planned
+pub mod OpenLines
+pub mod EndsOfRuns
+pub mod PlaysOfThreads
+pub mod PlaysOfPlans

@@ -3,7 +3,7 @@ use Rattle.act_explore.proofs.Common.{◌≡◌, ℕ, zero, suc, ◌+◌, ◌<�
 use Rattle.act_explore.proofs.Common.{arith, All, Contains, inl, inr, ◌⊎◌, flat_map, append_assoc, ne_eqb, cases_lt, All-contains, All-nil, All-cons, All-head}
 use Rattle.act_explore.proofs.Common.{All-tail, one_to, in_one_to, Choice, Run, Take, runs_in, takes_in, letter_of, part_of, HasNumber}
 use Rattle.act_explore.specs.Paths.{key_of}
-use Rattle.act_executor.proofs.Opened.SpecsFit.{within as in_limit}
+use Rattle.act_executor.proofs.OpenLines.SpecsFit.{within as in_limit}
 
 -- the actor's choices are the same on both
 pub record AreSame (p q : List Choice) (a : ℕ) : Type 0 where

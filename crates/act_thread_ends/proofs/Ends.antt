@@ -29,7 +29,7 @@ use Rattle.act_plans.specs.Runs.{plan_of}
 use Rattle.act_executor.specs.Joined.{IsJoined, calls_of_owner, kept_of_owner, log_of_end, calls_in, kept_in, log_in}
 use Rattle.act_executor.specs.Plays.{IsOwnerIn, HasEndedIn, IsEndIn}
 use Rattle.act_executor.specs.PlanPlays.{DoesPlanIn, IsPlayOfPlans, IsPlayedAsPlanned}
-use Rattle.act_executor.proofs.Played.AsPlay.{casts_stay}
+use Rattle.act_executor.proofs.PlaysOfThreads.AsPlay.{casts_stay}
 use Rattle.act_executor.proofs.Lists.Elements.{all_in}
 use Rattle.act_thread_ends.specs.ThreadEnds.{AreOfARun, CanEnd, CanBeEndIn, EndsAsThreads}
 use Rattle.act_thread_ends.proofs.Plans.{steps_by, is_named, strangers, no_plan}

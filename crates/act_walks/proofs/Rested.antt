@@ -37,7 +37,7 @@ use Rattle.act_walks.specs.Fits.{callers_of, Fits, FitsCasts}
 use Rattle.act_walks.specs.Rested.{is_restful, OnlyRests, RestsOn, IsToldRetired, SaysRetired, CannotHappen, HoldNone, IsSettled, AreSettled}
 use Rattle.act_walks.proofs.AtRest as at_rest
 use Rattle.act_walks.proofs.Onward.{behind_here}
-use Rattle.act_executor.proofs.Played.AsPlay.{casts_stay}
+use Rattle.act_executor.proofs.PlaysOfThreads.AsPlay.{casts_stay}
 
 -- ---- nothing else happened
 

@@ -11,7 +11,7 @@ pub use Rattle.act_rules.proofs.Steps.{after_all-append, outcomes-append}
 -- one epoch more: it follows those before it, and its runs come last
 pub use Rattle.act_epochs.proofs.Growing.{are_more, left_more, runs_more, goes_on}
 -- what a plan's faults and its numbers are
-pub use Rattle.act_executor.proofs.Opened.Faults.{err_only}
+pub use Rattle.act_executor.proofs.OpenLines.Faults.{err_only}
 pub use Rattle.act_plans.proofs.Keys.{pairs_of_map}
 pub use Rattle.act_plans.proofs.Matching.{numbers_differ}
 -- lists
@@ -19,4 +19,4 @@ pub use Rattle.act_rules.proofs.Lists.{All_at, All_more, slice_get-enumerate_fro
 pub use Rattle.act_rules.proofs.AsSubmitted.{filter-slice_get}
 pub use Rattle.act_rules.proofs.Unique.{map-slice_get}
 pub use Rattle.act_executor.proofs.Lists.Elements.{all_in, found_is, finds, is_contained}
-pub use Rattle.act_executor.proofs.Ended.Found.{one_of}
+pub use Rattle.act_executor.proofs.EndsOfRuns.Found.{one_of}

@@ -1,6 +1,6 @@
 use Rattle.act_executor.proofs.Common.{◌≡◌, ℕ, map, sym, subst, actor_spec, RunFault, code_of, does_code, plan_view, IsFault, IsThreadFault}
-use Rattle.act_executor.proofs.Opened.Faults.{err_only, of_threads}
-use Rattle.act_executor.proofs.Ended.Joining.{is_joined_by, is_played_by, is_played_of_steps}
+use Rattle.act_executor.proofs.OpenLines.Faults.{err_only, of_threads}
+use Rattle.act_executor.proofs.EndsOfRuns.Joining.{is_joined_by, is_played_by, is_played_of_steps}
 use Rattle.act_executor.proofs.keeping.run_callers_keeping.Goals as goal
 
 pub returns-in_err-prepared-clause-fault : goal.returns-in_err-prepared-clause-fault

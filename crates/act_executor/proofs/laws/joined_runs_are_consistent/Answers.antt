@@ -1,4 +1,4 @@
-use Rattle.act_executor.proofs.Ended.Ends.{joined}
+use Rattle.act_executor.proofs.EndsOfRuns.Ends.{joined}
 use Rattle.act_executor.proofs.laws.joined_runs_are_consistent.Goals as goal
 
 pub returns : goal.returns

@@ -1,4 +1,4 @@
-use Rattle.act_executor.proofs.Played.Traced.{traced_play}
+use Rattle.act_executor.proofs.PlaysOfThreads.Traced.{traced_play}
 use Rattle.act_executor.proofs.laws.traced_runs_are_played.Goals as goal
 
 pub returns : goal.returns

@@ -1,5 +1,5 @@
 use Rattle.act_executor.proofs.Common.{[], get_or, ℕ, get_or_default, items_of_vec, group_of}
-use Rattle.act_executor.proofs.Opened.Endpoints.{one_more, next_taken}
+use Rattle.act_executor.proofs.OpenLines.Endpoints.{one_more, next_taken}
 use Rattle.act_executor.proofs.open.empty_hands.Goals as goal
 
 pub loop-preserved : goal.loop-preserved

@@ -1,7 +1,7 @@
 use Rattle.act_executor.proofs.Common.{◌≡◌, List, map, slice_get, sym, ap, ◌∙◌, filter_map, actor_spec, CallerSetup, bad_of_setup, bad_view, RunFault}
 use Rattle.act_executor.proofs.Common.{plan_view, IsFault}
 use Rattle.act_executor.specs.declared.run.RunFault.TheVariants as fault
-use Rattle.act_executor.proofs.Opened.Faults.{err_only, want_of_memory, none_left, all_good}
+use Rattle.act_executor.proofs.OpenLines.Faults.{err_only, want_of_memory, none_left, all_good}
 use Rattle.act_executor.proofs.run.prepare_good.Goals as goal
 
 pub returns-in_err-prepared-clause-fault : goal.returns-in_err-prepared-clause-fault

@@ -1,5 +1,5 @@
 use Rattle.std.proofs.Common.{ℕ}
-use Rattle.act_executor.proofs.Opened.Prepared.{exec_places_below, caller_places_below, mail_lines, control_lines, reply_lines, actors_sit, callers_sit, starters_sit}
+use Rattle.act_executor.proofs.OpenLines.Prepared.{exec_places_below, caller_places_below, mail_lines, control_lines, reply_lines, actors_sit, callers_sit, starters_sit}
 use Rattle.act_executor.proofs.run.run_opened.Goals as goal
 
 pub run_threads-requires-clause-exec_places : goal.run_threads-requires-clause-exec_places

@@ -1,6 +1,6 @@
 use Rattle.act_executor.proofs.Common.{◌≡◌, map, sym, subst, actor_spec, RunFault, does_plan, plan_view, IsFault, IsThreadFault}
-use Rattle.act_executor.proofs.Opened.Faults.{err_only, of_threads}
-use Rattle.act_executor.proofs.Ended.Joining.{is_joined, is_played, is_played_as_planned}
+use Rattle.act_executor.proofs.OpenLines.Faults.{err_only, of_threads}
+use Rattle.act_executor.proofs.EndsOfRuns.Joining.{is_joined, is_played, is_played_as_planned}
 use Rattle.act_executor.proofs.run.run_plans_noting.Goals as goal
 
 pub returns-in_err-prepared-clause-fault : goal.returns-in_err-prepared-clause-fault

@@ -1,4 +1,4 @@
-use Rattle.act_executor.proofs.Opened.Prepared.{opened_for}
+use Rattle.act_executor.proofs.OpenLines.Prepared.{opened_for}
 use Rattle.act_executor.proofs.run.run_prepared.Goals as goal
 
 pub run_opened-ran-requires-clause-opening : goal.run_opened-ran-requires-clause-opening

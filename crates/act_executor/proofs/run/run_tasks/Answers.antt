@@ -7,8 +7,8 @@ use Rattle.act_owner.proofs.Sent.{owner_sent}
 use Rattle.act_drive.proofs.driver.CallerLines.TheSendSync as lines
 use Rattle.act_drive.proofs.driver.CallerPasses.TheSendSync as passes
 use Rattle.act_executor.proofs.Common.{◌≡◌, List, sym, subst, Each, Finished, Driven, IsServedBy, IsDrivenTo, RunFault, IsThreadFault, fault_of}
-use Rattle.act_executor.proofs.Opened.Faults.{err_only, refused}
-use Rattle.act_executor.proofs.Opened.Tasks.{each_first}
+use Rattle.act_executor.proofs.OpenLines.Faults.{err_only, refused}
+use Rattle.act_executor.proofs.OpenLines.Tasks.{each_first}
 use Rattle.act_executor.proofs.run.run_tasks.Goals as goal
 
 pub run_both-requires-send-C : goal.run_both-requires-send-C

@@ -1,6 +1,6 @@
 use Rattle.act_executor.proofs.Common.{ℕ, List, map, sym, ap, ◌∙◌, subst, IfOk-weaker, Asked, PutterView, new_putter, ControlView, starter, Endpoint}
 use Rattle.act_executor.proofs.Common.{AreStarters}
-use Rattle.act_executor.proofs.Opened.Tasks.{all_served, all_driven}
+use Rattle.act_executor.proofs.OpenLines.Tasks.{all_served, all_driven}
 use Rattle.act_executor.proofs.run.run_threads.Goals as goal
 
 pub returns-clause-actors : goal.returns-clause-actors

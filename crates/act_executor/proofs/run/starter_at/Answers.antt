@@ -1,7 +1,7 @@
 use Rattle.act_executor.proofs.Common.{rules, ◌≡◌, [], ℕ, refl, sym, ◌∙◌, into_iter_items, nil_from_length, Asked, PutterView, Endpoint, AreStarters}
 use Rattle.act_executor.proofs.Lists.Pairs.{one_done, all_done, placed}
-use Rattle.act_executor.proofs.Opened.Prepared.{starters_sit}
-use Rattle.act_executor.proofs.Opened.Starters.{are_starters}
+use Rattle.act_executor.proofs.OpenLines.Prepared.{starters_sit}
+use Rattle.act_executor.proofs.OpenLines.Starters.{are_starters}
 use Rattle.act_executor.proofs.run.starter_at.Goals as goal
 
 pub loop-pass-preserved : goal.loop-pass-preserved

@@ -1,5 +1,5 @@
 use Rattle.act_executor.proofs.Common.{[], ◌∷◌, ◌++◌, map, All, ap, sym, ◌∙◌, subst, All-push, CanDrive, driving_start}
-use Rattle.act_executor.proofs.Opened.Endpoints.{next_pushed}
+use Rattle.act_executor.proofs.OpenLines.Endpoints.{next_pushed}
 use Rattle.act_executor.proofs.work.add_driving.Goals as goal
 
 pub returns : goal.returns

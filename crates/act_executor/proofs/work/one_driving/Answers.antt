@@ -1,6 +1,6 @@
 use Rattle.act_executor.proofs.Common.{rules, ◌≡◌, ◌≢◌, ℕ, List, AllPairs, Option, get_or, ap, sym, ◌∙◌, subst, MailView, ControlView, RepliesView}
 use Rattle.act_executor.proofs.Common.{IsUnusedCaller, opened_with}
-use Rattle.act_executor.proofs.Opened.Owners.{can_drive, opened_for_setup, limits_differ}
+use Rattle.act_executor.proofs.OpenLines.Owners.{can_drive, opened_for_setup, limits_differ}
 use Rattle.act_executor.proofs.work.one_driving.Goals as goal
 
 pub returns-clause-ready : goal.returns-clause-ready

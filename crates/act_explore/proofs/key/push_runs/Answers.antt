@@ -3,7 +3,7 @@ use Rattle.act_explore.specs.Paths.{runs_in, letter_of, run_at}
 use Rattle.act_explore.proofs.Paths.{runs_step, letters_more}
 use Rattle.act_explore.proofs.key.push_runs.Goals as goal
 use Rattle.act_explore.proofs.key.push_runs.Goals.{in-Some+in_ok-push_caller, in_default}
-use Rattle.act_executor.proofs.Opened.Faults.{none_left}
+use Rattle.act_executor.proofs.OpenLines.Faults.{none_left}
 
 pub loop-choice-preserved : goal.loop-choice-preserved
 loop-choice-preserved c =

@@ -3,7 +3,7 @@ use Rattle.act_explore.proofs.Common.{CallerSetup, bad_of_setup, plan_of, first_
 use Rattle.act_explore.proofs.Common.{AreSuited}
 use Rattle.act_explore.proofs.Holding.{holding, suited, fits}
 use Rattle.act_explore.proofs.setups.setups_of.Goals as goal
-use Rattle.act_executor.proofs.Opened.Faults.{none_left}
+use Rattle.act_executor.proofs.OpenLines.Faults.{none_left}
 
 pub returns-then-not-plans_fit-clause-fault : goal.returns-then-not-plans_fit-clause-fault
 returns-then-not-plans_fit-clause-fault g c = λ suit.

@@ -2,7 +2,7 @@ use Rattle.act_service.proofs.Common.{◌≡◌, List, map, Some, inl, inr, ap, 
 use Rattle.act_service.proofs.Common.{LeadsOn, IsUnderWay, IsFaultAt, IsOfService}
 use Rattle.act_service.specs.declared.epochs.EpochFault.TheVariants as fault
 use Rattle.act_executor.specs.declared.run.RunFault.TheVariants as run
-use Rattle.act_executor.proofs.Opened.Faults.{err_only}
+use Rattle.act_executor.proofs.OpenLines.Faults.{err_only}
 use Rattle.act_service.proofs.Leading.{carried, epoch, is_epoch, leads, left_is}
 use Rattle.act_service.proofs.Fits.{left_fits}
 use Rattle.act_service.proofs.Faults.{without_plans, want_of_memory, of_run, of_service}

@@ -2,7 +2,7 @@ use Rattle.act_service.proofs.Common.{◌≡◌, List, Some, map, sym, subst, Ca
 use Rattle.act_service.proofs.Faults.{of_codes, of_epoch}
 use Rattle.act_service.proofs.Leading.{carried}
 use Rattle.act_service.proofs.epochs.run_epochs.Goals as goal
-use Rattle.act_executor.proofs.Opened.Faults.{err_only}
+use Rattle.act_executor.proofs.OpenLines.Faults.{err_only}
 
 pub returns-in_err-next_codes-clause-fault : goal.returns-in_err-next_codes-clause-fault
 returns-in_err-next_codes-clause-fault g c =

@@ -2,7 +2,7 @@ use Rattle.std.proofs.Common.{rules, ◌≡◌, List, [], ◌∷◌, sym, subst}
 use Rattle.act_actor.specs.declared.cast.Cast.{Cast}
 use Rattle.act_plans.specs.declared.rising.CallerSetup.{CallerSetup}
 use Rattle.act_plans.specs.Setups.{AreMatched}
-use Rattle.act_executor.proofs.Opened.Matched.{IsCast, IsPart, are_matched}
+use Rattle.act_executor.proofs.OpenLines.Matched.{IsCast, IsPart, are_matched}
 use Rattle.tests_of_threads.proofs.opened_lines.matched.Goals as goal
 
 pub returns : goal.returns

@@ -3,8 +3,8 @@ use Rattle.act_executor.proofs.Common.{◌≡◌, ℕ, ◌<◌, List, [], ◌∷
 use Rattle.act_executor.proofs.Common.{steps_in, IsPrefix, under, Deed, changes_by, log_by, is_dead_by, is_retired_by, deeds_of, IsCutAt, ActorStep}
 use Rattle.act_executor.proofs.Common.{is_retirement, log_of_steps, has_died_in, CallerStep, changes_made, CallerThreads, ActorThreads, contains_map}
 use Rattle.act_executor.proofs.Lists.Cuts.{contains_under, IsCutOf, cut_of, AreFrom, later_from}
-use Rattle.act_executor.proofs.Played.Threads.{caller_key, actor_key, deed_of_caller, deed_of_actor, as_deeds, all_threads, deeds_of_caller, deeds_of_actor}
-use Rattle.act_executor.proofs.Played.Projections.{deeds_in_order, IsKeyed, changes_are, log_is, death_is, retirement_is}
+use Rattle.act_executor.proofs.PlaysOfThreads.Threads.{caller_key, actor_key, deed_of_caller, deed_of_actor, as_deeds, all_threads, deeds_of_caller, deeds_of_actor}
+use Rattle.act_executor.proofs.PlaysOfThreads.Projections.{deeds_in_order, IsKeyed, changes_are, log_is, death_is, retirement_is}
 
 -- the deeds before have this front of the caller's steps
 pub record IsCallerFront (callers : CallerThreads) (before : List Deed) (c : ℕ) (front later : List (ℕ × CallerStep)) : Type 0 where

@@ -6,7 +6,7 @@ use Rattle.act_executor.proofs.Common.{item_of_deed, log_by, is_kill_taken, is_e
 use Rattle.act_executor.proofs.Common.{DeathTold, Retirement, call_run, is_kill_step, is_retirement, log_of_steps, has_died_in, CallerStep, ChangeMade}
 use Rattle.act_executor.proofs.Common.{KillAsked, change_made, changes_made, under_here, under_other}
 use Rattle.act_causes.specs.Deeds.{Retired}
-use Rattle.act_executor.proofs.Played.Threads.{caller_key, actor_key, key_of, deed_of_caller, deed_of_actor, as_deeds}
+use Rattle.act_executor.proofs.PlaysOfThreads.Threads.{caller_key, actor_key, key_of, deed_of_caller, deed_of_actor, as_deeds}
 
 -- all deeds in their order
 abbrev pub deeds_in_order : List (ℕ × (ℕ × Deed)) → List Deed

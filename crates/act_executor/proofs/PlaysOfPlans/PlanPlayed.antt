@@ -9,17 +9,17 @@ use Rattle.act_executor.proofs.Common.{kept_in, log_in, is_between, DoesPlanIn, 
 use Rattle.act_rules.specs.declared.history.Post.TheVariants.{Reply as ReplyPost, Death as DeathPost}
 use Rattle.act_rules.specs.declared.history.Letter.{Letter as SentLetter}
 use Rattle.act_executor.proofs.Lists.Elements.{IsIn, in_from_contains, all_in, all_by_places, finds, found_is, contains_is}
-use Rattle.act_executor.proofs.Ended.Found.{naming, same_cast, served_cast, one_of}
-use Rattle.act_executor.proofs.Ended.Joint.{driven_of, served_of, Thread, thread, driver, audit_of, given_to}
-use Rattle.act_executor.proofs.Played.AsPlay.{casts_stay}
-use Rattle.act_executor.proofs.Played.HaveTraces.{HaveTraces}
-use Rattle.act_executor.proofs.Played.JoinedTraces.{callers, actors, are_traced, caller_found, caller_none, actor_none, actor_found, is_play_of, kept_left, log_is_left, log_found, callers_differ}
-use Rattle.act_executor.proofs.Planned.TracedPlans.{IsPlayOfSteps, play_of_steps}
-use Rattle.act_executor.proofs.Planned.Heard.{post_from, of_listed, of_stranger, given_posts}
-use Rattle.act_executor.proofs.Planned.Ran.{died_unrun}
-use Rattle.act_executor.proofs.Planned.Once.{Differ, collected_once}
-use Rattle.act_executor.proofs.Planned.Letters.{letter_from, letter_in_step, taken_differ, delivered_once}
-use Rattle.act_executor.proofs.Ended.Found.{driven_named}
+use Rattle.act_executor.proofs.EndsOfRuns.Found.{naming, same_cast, served_cast, one_of}
+use Rattle.act_executor.proofs.EndsOfRuns.Joint.{driven_of, served_of, Thread, thread, driver, audit_of, given_to}
+use Rattle.act_executor.proofs.PlaysOfThreads.AsPlay.{casts_stay}
+use Rattle.act_executor.proofs.PlaysOfThreads.HaveTraces.{HaveTraces}
+use Rattle.act_executor.proofs.PlaysOfThreads.JoinedTraces.{callers, actors, are_traced, caller_found, caller_none, actor_none, actor_found, is_play_of, kept_left, log_is_left, log_found, callers_differ}
+use Rattle.act_executor.proofs.PlaysOfPlans.TracedPlans.{IsPlayOfSteps, play_of_steps}
+use Rattle.act_executor.proofs.PlaysOfPlans.Heard.{post_from, of_listed, of_stranger, given_posts}
+use Rattle.act_executor.proofs.PlaysOfPlans.Ran.{died_unrun}
+use Rattle.act_executor.proofs.PlaysOfPlans.Once.{Differ, collected_once}
+use Rattle.act_executor.proofs.PlaysOfPlans.Letters.{letter_from, letter_in_step, taken_differ, delivered_once}
+use Rattle.act_executor.proofs.EndsOfRuns.Found.{driven_named}
 
 module _ {mails : List MailView} {controls : List ControlView} {replies : List RepliesView} {casts : List ActorSpec} {plans : List (ℕ × List Step)} {driven : List Driven} {served : List ServedView} (j : AreJoined mails controls replies casts plans driven served) (have : HaveTraces controls replies casts plans driven served) where
   abbrev owner_in : Driven → OwnerView

@@ -4,8 +4,8 @@ use Rattle.act_executor.proofs.Common.{filter_map, eq-eqb, ne_eqb, steps_in, Dee
 use Rattle.act_executor.proofs.Common.{TookKill, ToldDeath, deeds_of, IsMergeOf, CallerStep, ChangeMade, KillAsked, CallerThreads}
 use Rattle.act_executor.proofs.Common.{ActorThreads}
 use Rattle.act_causes.specs.Deeds.{Retired}
-use Rattle.act_executor.proofs.Played.Threads.{caller_key, key_of, deed_of_caller, all_threads, deeds_of_caller}
-use Rattle.act_executor.proofs.Played.Projections.{deeds_in_order, IsKeyed, seen_under, seen_in_steps}
+use Rattle.act_executor.proofs.PlaysOfThreads.Threads.{caller_key, key_of, deed_of_caller, all_threads, deeds_of_caller}
+use Rattle.act_executor.proofs.PlaysOfThreads.Projections.{deeds_in_order, IsKeyed, seen_under, seen_in_steps}
 
 -- the step that the deed is, where the caller does it
 abbrev pub own_step : ℕ → Deed → Option CallerStep

@@ -6,10 +6,10 @@ use Rattle.act_executor.proofs.Common.{copy_refusal, answer_at-front, whole_fron
 use Rattle.act_executor.proofs.Common.{ActorStep, DeathTold, call_run, log_of_steps, CallerStep, ChangeMade, KillAsked, owner_after_steps, MayChange}
 use Rattle.act_executor.proofs.Common.{CallerMayDo, CallerMayDoAll, CallerThreads, ActorThreads, opened_by, log_left, IsReplyGivenBy, AreTraced}
 use Rattle.act_executor.proofs.Lists.Cuts.{contains_mid, AreFrom, place_in_front}
-use Rattle.act_executor.proofs.Played.FoundSteps.{found_append, found_from, found_is}
-use Rattle.act_executor.proofs.Played.Threads.{deed_of_caller}
-use Rattle.act_executor.proofs.Played.MayDo.{caller_named, caller_may, caller_may_at}
-use Rattle.act_executor.proofs.Played.Seen.{IsCallerFront, IsSeen}
+use Rattle.act_executor.proofs.PlaysOfThreads.FoundSteps.{found_append, found_from, found_is}
+use Rattle.act_executor.proofs.PlaysOfThreads.Threads.{deed_of_caller}
+use Rattle.act_executor.proofs.PlaysOfThreads.MayDo.{caller_named, caller_may, caller_may_at}
+use Rattle.act_executor.proofs.PlaysOfThreads.Seen.{IsCallerFront, IsSeen}
 
 -- ---- what an actor ran
 

@@ -8,7 +8,7 @@ use denote.RawPtr.{Ptr}
 use Rattle.act_types.specs.declared.call.Method.TheVariants as method
 use Rattle.act_rules.specs.declared.script.Step.TheVariants as step
 use Rattle.act_mailbox.specs.Lines.{items_from as items_put}
-use Rattle.act_executor.proofs.Ended.Example.{one_at, pairs_one, only, casts, casts_are, mails, controls, replies, letter_endpoint, kill_endpoint, notice_endpoint, call, item}
+use Rattle.act_executor.proofs.EndsOfRuns.Example.{one_at, pairs_one, only, casts, casts_are, mails, controls, replies, letter_endpoint, kill_endpoint, notice_endpoint, call, item}
 use Rattle.act_causes.proofs.Example.{all_one}
 
 abbrev letters : List Letter

@@ -5,9 +5,9 @@ use Rattle.act_executor.proofs.Common.{ExecPasses, Finished, CallerPasses, Drive
 use Rattle.act_executor.proofs.Common.{SitsAtControl, HasEndpoints, IsUnusedStarter, AreServed, AreDriven, AreStarters, element}
 use Rattle.act_executor.proofs.Lists.Places.{as_long, all_at}
 use Rattle.act_executor.proofs.Lists.Elements.{all_by_places, range_at}
-use Rattle.act_executor.proofs.Opened.Tasks.{each_at}
-use Rattle.act_executor.proofs.Opened.Actors.{sits, same_letters_line, same_kills_line}
-use Rattle.act_executor.proofs.Opened.Callers.{has_endpoints, same_replies_line}
+use Rattle.act_executor.proofs.OpenLines.Tasks.{each_at}
+use Rattle.act_executor.proofs.OpenLines.Actors.{sits, same_letters_line, same_kills_line}
+use Rattle.act_executor.proofs.OpenLines.Callers.{has_endpoints, same_replies_line}
 
 -- lists whose elements agree at each place
 pub maps_agree : {X Y Z : Type 0} (f : X → Z) (g : Y → Z) (xs : List X) (ys : List Y) → length xs ≡ length ys → ((i : ℕ) (x : X) (y : Y) → slice_get xs i ≡ Some x → slice_get ys i ≡ Some y → f x ≡ g y) → map f xs ≡ map g ys

@@ -3,7 +3,7 @@ use Rattle.act_executor.proofs.Common.{ℕ, Bool, List, [], ◌∷◌, ◌++◌,
 use Rattle.act_executor.proofs.Common.{Submit, Copy, Release, Kill, Await, kept_at, OwnerView, is_known_dead, Copied, Released, Submitted, after_change}
 use Rattle.act_executor.proofs.Common.{CallerStep, ChangeMade, KillAsked, owner_after_steps, CallerMayDoAll, IsMeanwhile, DoesStep, DoesPlan}
 use Rattle.act_executor.proofs.Lists.Kept.{kept_more}
-use Rattle.act_executor.proofs.Played.CallerWork.{is_by_these, may_front, HoldsThese, change_holds, IsStill, still}
+use Rattle.act_executor.proofs.PlaysOfThreads.CallerWork.{is_by_these, may_front, HoldsThese, change_holds, IsStill, still}
 
 may_later : (owner : OwnerView) (before later : List CallerStep) → CallerMayDoAll owner (before ++ later) → CallerMayDoAll (owner_after_steps owner before) later
 may_later owner [] later may = may

@@ -9,9 +9,9 @@ use Rattle.act_executor.proofs.Common.{owner_after_steps, KeepsAnswers, EachFron
 use Rattle.act_rules.specs.declared.script.Step.TheVariants.{Submit as SubmitStep, Copy as CopyStep, Release as ReleaseStep, Kill as KillStep, Await as AwaitStep}
 use Rattle.act_causes.specs.Deeds.{Retired}
 use Rattle.act_drive.specs.PlanTraces.{IsMeanwhile as IsMeanwhileStep}
-use Rattle.act_executor.proofs.Played.Threads.{deed_of_caller}
+use Rattle.act_executor.proofs.PlaysOfThreads.Threads.{deed_of_caller}
 use Rattle.act_executor.specs.PlanPlays.{IsMeanwhile}
-use Rattle.act_executor.proofs.Planned.Own.{own_step}
+use Rattle.act_executor.proofs.PlaysOfPlans.Own.{own_step}
 
 -- ---- cuts of what a filter keeps
 

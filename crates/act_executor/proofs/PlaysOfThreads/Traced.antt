@@ -4,11 +4,11 @@ use Rattle.act_executor.proofs.Common.{Change, Event, ActorSpec, under, Deed, Is
 use Rattle.act_executor.proofs.Common.{IsPlayOfDeeds, merge_of, IsStepwisePlay, play_of, CallerThreads, ActorThreads, left_by, AreTraced, IsPlayOfThreads}
 use Rattle.act_executor.proofs.Common.{TracedRunsArePlayed}
 use Rattle.act_executor.proofs.Lists.Cuts.{IsCutOf, cut_of, all_from_under}
-use Rattle.act_executor.proofs.Played.Threads.{caller_key, actor_key, key_is, key_of, deed_of_caller, deed_of_actor, as_deeds, all_threads, deeds_of_caller, deeds_of_actor, all_apart, all_rise, all_keyed}
-use Rattle.act_executor.proofs.Played.Projections.{deeds_in_order, IsKeyed, changes_are, log_is, death_is, retirement_is}
-use Rattle.act_executor.proofs.Played.Seen.{caller_front, actor_front, IsSeen, seen_at}
-use Rattle.act_executor.proofs.Played.CallerCauses.{caller_caused}
-use Rattle.act_executor.proofs.Played.ActorCauses.{actor_caused}
+use Rattle.act_executor.proofs.PlaysOfThreads.Threads.{caller_key, actor_key, key_is, key_of, deed_of_caller, deed_of_actor, as_deeds, all_threads, deeds_of_caller, deeds_of_actor, all_apart, all_rise, all_keyed}
+use Rattle.act_executor.proofs.PlaysOfThreads.Projections.{deeds_in_order, IsKeyed, changes_are, log_is, death_is, retirement_is}
+use Rattle.act_executor.proofs.PlaysOfThreads.Seen.{caller_front, actor_front, IsSeen, seen_at}
+use Rattle.act_executor.proofs.PlaysOfThreads.CallerCauses.{caller_caused}
+use Rattle.act_executor.proofs.PlaysOfThreads.ActorCauses.{actor_caused}
 
 -- a step of a thread, with what the thread did before it
 record IsStep {S : Type 0} (f : S → Deed) (steps : List (ℕ × S)) (seen : List (ℕ × Deed)) (m : ℕ) (y : Deed) : Type 0 where

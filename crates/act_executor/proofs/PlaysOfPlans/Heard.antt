@@ -7,7 +7,7 @@ use Rattle.act_executor.proofs.Common.{CallerStep, ChangeMade, KillAsked, notice
 use Rattle.act_rules.specs.declared.history.Post.TheVariants.{Reply as ReplyPost, Death as DeathPost}
 use Rattle.act_causes.specs.Deeds.{Retired}
 use Rattle.act_serve.specs.Served.{EndView, Killed, Retired as RetiredEnd, Starved, replies_to, deaths, places_of, place_of, IsReplyOf}
-use Rattle.act_executor.proofs.Planned.Own.{own_step}
+use Rattle.act_executor.proofs.PlaysOfPlans.Own.{own_step}
 
 -- a notice to this caller, as the rules name it
 abbrev pub post_from : ℕ → Notice → Post

@@ -10,9 +10,9 @@ use Rattle.act_executor.proofs.Common.{log_in, killed_in, ServedView, IsServed, 
 use Rattle.act_owner.specs.Owner.{OwnerView, packet_for as packet_of_call, is_known_call, is_to, is_death}
 use Rattle.act_mailbox.specs.Lines.{items_from as items_put}
 use Rattle.act_executor.proofs.Lists.Elements.{IsIn, in_from_contains, all_in, in_filter, in_front, found_is, contains_is, is_contained}
-use Rattle.act_executor.proofs.Ended.Found.{naming, IsCast, same_cast, planned_known, driven_named, served_cast, cast_served}
-use Rattle.act_executor.proofs.Ended.Given.{reply_given, death_given}
-use Rattle.act_executor.proofs.Ended.Consistency.{IsSentItem, IsRunAnswer, IsFit}
+use Rattle.act_executor.proofs.EndsOfRuns.Found.{naming, IsCast, same_cast, planned_known, driven_named, served_cast, cast_served}
+use Rattle.act_executor.proofs.EndsOfRuns.Given.{reply_given, death_given}
+use Rattle.act_executor.proofs.EndsOfRuns.Consistency.{IsSentItem, IsRunAnswer, IsFit}
 
 -- ---- threads by number
 

@@ -6,7 +6,7 @@ use Rattle.act_executor.proofs.Common.{Cast, PutterView, new_putter, MailView, C
 use Rattle.act_executor.proofs.Common.{Asked, Endpoint, ExecPasses, caller_at, endpoint_callers, IsAtItsEndpoint, EndpointsDiffer, CallerPasses}
 use Rattle.act_executor.proofs.Common.{IsFreshEndpoint, AreDistinct, IsKillEndpoint, AreKillEndpoints, CallerSetup, AreMatched, Opened, group_of}
 use Rattle.act_executor.proofs.Common.{endpoints_from, IsExec, IsCaller, ArePaired, AreLines, AreAtLines, AreOpened, both_ways, contains_map}
-use Rattle.act_executor.proofs.Opened.Endpoints.{each_of, has_of, rising_of}
+use Rattle.act_executor.proofs.OpenLines.Endpoints.{each_of, has_of, rising_of}
 use Rattle.act_executor.proofs.Lists.Places.{at_both, at_other, as_long, each_at, all_at, map_apart, pairs_weaker, apart_at, has_contains, contains_name, all_names, only_cast}
 
 abbrev line_of_mail : MailView → TableId

@@ -7,7 +7,7 @@ use Rattle.act_executor.proofs.Common.{actors_of_casts, pairs_of_map, numbers_di
 use Rattle.act_executor.proofs.Common.{is_killed_end, calls_in, kept_in, log_in, killed_in, IsOwnerIn, HasEndedIn, IsEndIn, IsPlayOf}
 use Rattle.std.specs.Option.{option_map}
 use Rattle.act_executor.proofs.Lists.Elements.{all_in, all_by_places, found_is, finds, any_is}
-use Rattle.act_executor.proofs.Ended.Found.{one_of}
+use Rattle.act_executor.proofs.EndsOfRuns.Found.{one_of}
 
 -- whether an actor retired
 abbrev pub has_retired : EndView → Bool

@@ -10,17 +10,17 @@ use Rattle.act_executor.proofs.Common.{plans_are, actors_are, limits_are, actors
 use Rattle.act_executor.proofs.Common.{IsDriven, AreAudited, AreCasts, AreJoined, code_of, opened_of, IsDrivenBy, AreJoinedBy, IsJoinedBy, IsPlayedBy, IsPlayed}
 use Rattle.act_executor.proofs.Common.{IsPlayedAsPlanned, SpecsFit, Joined, KillTold, CallerTold, NoticeTold, ActorLeft, left_of, IsUnusedStarter, Doing}
 use Rattle.act_executor.proofs.Common.{does_code, CodesFit, HasRunPlans, IsPrepared, plan_view}
-use Rattle.act_executor.proofs.Played.HaveTraces.{HaveTraces, traced_moved}
+use Rattle.act_executor.proofs.PlaysOfThreads.HaveTraces.{HaveTraces, traced_moved}
 use Rattle.act_executor.proofs.Lists.Places.{as_long, at_other, all_at}
 use Rattle.act_executor.proofs.Lists.Elements.{all_by_places, range_at}
-use Rattle.act_executor.proofs.Ended.Ends.{joined as joined_is}
-use Rattle.act_executor.proofs.Ended.ByCode.{steps as steps_by, are_joined as joined_by, are_traced as traced_by, is_joined_by as joined_by_is}
-use Rattle.act_executor.proofs.Opened.SpecsFit.{specs_fit}
-use Rattle.act_executor.proofs.Planned.PlanPlayed.{never_ran, as_planned}
-use Rattle.act_executor.proofs.Opened.Settled.{seen_through}
-use Rattle.act_executor.proofs.Opened.Actors.{served_view, is_served, notices_audited, same_id}
-use Rattle.act_executor.proofs.Opened.Callers.{caller_is, is_driven, letters_audited, kills_audited}
-use Rattle.act_executor.proofs.Opened.Prepared.{maps_agree, ActorAt, actor_at, CallerAt, caller_at as caller_there}
+use Rattle.act_executor.proofs.EndsOfRuns.Ends.{joined as joined_is}
+use Rattle.act_executor.proofs.EndsOfRuns.ByCode.{steps as steps_by, are_joined as joined_by, are_traced as traced_by, is_joined_by as joined_by_is}
+use Rattle.act_executor.proofs.OpenLines.SpecsFit.{specs_fit}
+use Rattle.act_executor.proofs.PlaysOfPlans.PlanPlayed.{never_ran, as_planned}
+use Rattle.act_executor.proofs.OpenLines.Settled.{seen_through}
+use Rattle.act_executor.proofs.OpenLines.Actors.{served_view, is_served, notices_audited, same_id}
+use Rattle.act_executor.proofs.OpenLines.Callers.{caller_is, is_driven, letters_audited, kills_audited}
+use Rattle.act_executor.proofs.OpenLines.Prepared.{maps_agree, ActorAt, actor_at, CallerAt, caller_at as caller_there}
 
 front_none : {X : Type 0} (xs : List X) → IsPrefix xs [] → xs ≡ []
 front_none [] front = refl

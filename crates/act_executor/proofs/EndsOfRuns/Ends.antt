@@ -11,9 +11,9 @@ use Rattle.act_executor.proofs.Common.{kept_of_owner, log_of_end, is_killed_end,
 use Rattle.act_executor.proofs.Common.{ServedView, AreJoined}
 use Rattle.act_mailbox.specs.Lines.{items_from as items_put}
 use Rattle.act_executor.proofs.Lists.Elements.{IsIn, in_from_contains, all_in, in_filter, in_front, all_by_places, is_contained, empty_by_places, whole_by_length, enumerated, in_none, in_first, some_long}
-use Rattle.act_executor.proofs.Ended.Found.{naming, same_cast, planned_known, planned_none, driven_named}
-use Rattle.act_executor.proofs.Ended.Consistency.{order_of, fits}
-use Rattle.act_executor.proofs.Ended.Joint.{driven_of, served_of, owner_is, end_is, Thread, thread, thread_in, driver, audit_of, letter_sent, listed_named, item_sent, all_fit}
+use Rattle.act_executor.proofs.EndsOfRuns.Found.{naming, same_cast, planned_known, planned_none, driven_named}
+use Rattle.act_executor.proofs.EndsOfRuns.Consistency.{order_of, fits}
+use Rattle.act_executor.proofs.EndsOfRuns.Joint.{driven_of, served_of, owner_is, end_is, Thread, thread, thread_in, driver, audit_of, letter_sent, listed_named, item_sent, all_fit}
 
 -- ---- notes and kills
 

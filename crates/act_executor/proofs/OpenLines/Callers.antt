@@ -6,8 +6,8 @@ use Rattle.act_executor.proofs.Common.{HasAsked, IsFreshEndpoint, IsKillEndpoint
 use Rattle.act_executor.proofs.Common.{KillsAudited, SitsAtMail, SitsAtControl, HasEndpoints, LetterTold, KillTold, Doing, IsDrivenAt, KindState}
 use Rattle.act_executor.proofs.Lists.Places.{at_other, all_at}
 use Rattle.act_executor.proofs.Lists.Elements.{IsIn, in_from_contains, contains_from_in, all_in, all_by_places}
-use Rattle.act_executor.proofs.Opened.Owners.{own_actors}
-use Rattle.act_executor.proofs.Opened.Actors.{served_view}
+use Rattle.act_executor.proofs.OpenLines.Owners.{own_actors}
+use Rattle.act_executor.proofs.OpenLines.Actors.{served_view}
 
 abbrev LetterEndpoint : Type 0
 LetterEndpoint = Endpoint (PutterView Letter Unit)

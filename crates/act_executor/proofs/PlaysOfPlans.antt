@@ -3,7 +3,7 @@ pub mod Own
 pub mod Once
 pub mod Heard
 pub mod Letters
-pub mod ByPlan
+pub mod Planned
 pub mod Ran
 pub mod TracedPlans
 pub mod PlanPlayed

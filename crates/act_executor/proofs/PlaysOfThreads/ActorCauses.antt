@@ -9,9 +9,9 @@ use Rattle.act_executor.proofs.Common.{has_died_in, has_ended_in, ActorMayDo, Ac
 use Rattle.act_executor.proofs.Common.{packet_of_item, note_after_calls, CallerThreads, ActorThreads, opened_by, IsCallPosted, IsNotePosted, AreTraced}
 use Rattle.act_executor.proofs.Common.{contains_map}
 use Rattle.act_executor.proofs.Lists.Cuts.{contains_mid, contains_filter_map, contained_in_front, shorter_front}
-use Rattle.act_executor.proofs.Played.Threads.{deed_of_actor}
-use Rattle.act_executor.proofs.Played.MayDo.{caller_may, unrefused_all, changes_split, ActorMay, actor_may, actor_may_at}
-use Rattle.act_executor.proofs.Played.Seen.{IsActorFront, IsSeen}
+use Rattle.act_executor.proofs.PlaysOfThreads.Threads.{deed_of_actor}
+use Rattle.act_executor.proofs.PlaysOfThreads.MayDo.{caller_may, unrefused_all, changes_split, ActorMay, actor_may, actor_may_at}
+use Rattle.act_executor.proofs.PlaysOfThreads.Seen.{IsActorFront, IsSeen}
 
 -- a call that was sent in a front has its packet from then on
 packet_then : (owner : OwnerView) (front later : List Change) (k : ℕ) (packet : Packet) → length owner.kept ≡ length owner.calls → AreUnrefused owner front → Contains front (Sent k)

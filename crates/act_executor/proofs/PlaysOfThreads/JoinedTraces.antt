@@ -12,18 +12,18 @@ use Rattle.act_executor.proofs.Common.{ActorThreads, opened_by, left_by, log_lef
 use Rattle.act_executor.proofs.Common.{is_starved, calls_of_owner, kept_of_owner, log_of_end, is_killed_end, calls_in, kept_in, log_in, killed_in, opened_of}
 use Rattle.act_executor.proofs.Common.{HasDonePlan, plan_of, ServedView, NoticesAudited, AreJoined}
 use Rattle.act_mailbox.specs.Lines.{items_from as items_put}
-use Rattle.act_executor.proofs.Ended.Ends.{owners_are, ends_are, fed as ends_fed}
-use Rattle.act_executor.proofs.Played.AsPlay.{is_retired_end, retired_in, LeavesAll, is_play}
-use Rattle.act_executor.proofs.Played.HaveTraces.{HaveTraces}
+use Rattle.act_executor.proofs.EndsOfRuns.Ends.{owners_are, ends_are, fed as ends_fed}
+use Rattle.act_executor.proofs.PlaysOfThreads.AsPlay.{is_retired_end, retired_in, LeavesAll, is_play}
+use Rattle.act_executor.proofs.PlaysOfThreads.HaveTraces.{HaveTraces}
 use Rattle.act_executor.proofs.Lists.Elements.{IsIn, in_from_contains, all_in, all_by_places, in_filter, in_none, in_first}
-use Rattle.act_executor.proofs.Ended.Found.{naming, same_cast, driven_named, served_cast}
-use Rattle.act_executor.proofs.Ended.Given.{reply_given}
-use Rattle.act_executor.proofs.Ended.Joint.{driven_of, served_of, owner_is, end_is, Thread, thread_in, thread, driver, audit_of, letter_sent, given_in}
-use Rattle.act_executor.proofs.Played.FoundSteps.{found_is as found_alone}
+use Rattle.act_executor.proofs.EndsOfRuns.Found.{naming, same_cast, driven_named, served_cast}
+use Rattle.act_executor.proofs.EndsOfRuns.Given.{reply_given}
+use Rattle.act_executor.proofs.EndsOfRuns.Joint.{driven_of, served_of, owner_is, end_is, Thread, thread_in, thread, driver, audit_of, letter_sent, given_in}
+use Rattle.act_executor.proofs.PlaysOfThreads.FoundSteps.{found_is as found_alone}
 use Rattle.act_executor.proofs.Lists.Stamped.{IsTakenFrom, put_with}
-use Rattle.act_executor.proofs.Played.MadeThreads.{HasWork, made_of, made_apart, work_found, work_none, all_made, works}
-use Rattle.act_executor.proofs.Played.TracedActors.{IsActorWork, actor_works}
-use Rattle.act_executor.proofs.Played.TracedCallers.{IsCallerWork, caller_works}
+use Rattle.act_executor.proofs.PlaysOfThreads.MadeThreads.{HasWork, made_of, made_apart, work_found, work_none, all_made, works}
+use Rattle.act_executor.proofs.PlaysOfThreads.TracedActors.{IsActorWork, actor_works}
+use Rattle.act_executor.proofs.PlaysOfThreads.TracedCallers.{IsCallerWork, caller_works}
 
 -- ---- what was taken was put after its cause
 

@@ -5,9 +5,9 @@ use Rattle.act_executor.proofs.Common.{eq-eqb, slice_get_within, get_or_from_sli
 use Rattle.act_executor.proofs.Common.{ControlView, RepliesView, Driven, SessionView, HasConcluded, plan_of, steps_of_plan, EndView, CallsThatDiedNeverRan}
 use Rattle.act_executor.proofs.Common.{kept_in, log_in, ServedView, IsDriven, AreJoined, code_of, opened_of, HasTold, IsDrivenBy, AreJoinedBy, IsJoinedBy}
 use Rattle.act_executor.proofs.Lists.Elements.{all_in, all_by_places, found_is, finds, any_is, contains_is}
-use Rattle.act_executor.proofs.Ended.Found.{driven_named, one_of}
-use Rattle.act_executor.proofs.Ended.Joint.{driven_of, owner_is}
-use Rattle.act_executor.proofs.Ended.Ends.{joined as joined_is}
+use Rattle.act_executor.proofs.EndsOfRuns.Found.{driven_named, one_of}
+use Rattle.act_executor.proofs.EndsOfRuns.Joint.{driven_of, owner_is}
+use Rattle.act_executor.proofs.EndsOfRuns.Ends.{joined as joined_is}
 
 -- what each caller did, as a plan of its number
 record Did (P : Driven → List Step → Type 0) (d : Driven) : Type 0 where

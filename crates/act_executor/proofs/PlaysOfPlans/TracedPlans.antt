@@ -3,12 +3,12 @@ use Rattle.act_executor.proofs.Common.{◌≡◌, ℕ, List, [], ap, ◌∙◌, 
 use Rattle.act_executor.proofs.Common.{deeds_of, SpecsFit, CallerStep, notice_collected, DoesPlan, CallerThreads, ActorThreads, opened_by, AreTraced}
 use Rattle.act_executor.proofs.Common.{IsPlayOfThreads, DoesPlanIn, is_between}
 use Rattle.act_rules.specs.declared.history.Letter.{Letter}
-use Rattle.act_executor.proofs.Played.Projections.{deeds_in_order}
-use Rattle.act_executor.proofs.Played.Traced.{IsMergedPlay, merged_play}
-use Rattle.act_executor.proofs.Planned.Own.{own_steps}
-use Rattle.act_executor.proofs.Planned.ByPlan.{plan_in_play}
-use Rattle.act_executor.proofs.Planned.Heard.{post_from, collected_part}
-use Rattle.act_executor.proofs.Planned.Letters.{is_sent_between, letter_in_step, delivered_part, taken_part}
+use Rattle.act_executor.proofs.PlaysOfThreads.Projections.{deeds_in_order}
+use Rattle.act_executor.proofs.PlaysOfThreads.Traced.{IsMergedPlay, merged_play}
+use Rattle.act_executor.proofs.PlaysOfPlans.Own.{own_steps}
+use Rattle.act_executor.proofs.PlaysOfPlans.Planned.{plan_in_play}
+use Rattle.act_executor.proofs.PlaysOfPlans.Heard.{post_from, collected_part}
+use Rattle.act_executor.proofs.PlaysOfPlans.Letters.{is_sent_between, letter_in_step, delivered_part, taken_part}
 
 -- the events are a play of the threads, and in it: a caller whose thread did a plan does the plan, each caller collects
 -- what its thread took, and each actor what its thread took

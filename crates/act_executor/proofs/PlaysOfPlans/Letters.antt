@@ -8,11 +8,11 @@ use Rattle.act_executor.proofs.Common.{DeathTold, Retirement, letter_taken, deed
 use Rattle.act_rules.specs.declared.history.Letter.{Letter as SentLetter}
 use Rattle.act_rules.specs.declared.history.Letter.TheVariants.{Call as CallLetter, Note as NoteLetter}
 use Rattle.act_causes.specs.Deeds.{Retired}
-use Rattle.act_executor.proofs.Planned.Once.{Differ, differ_pairs, front_differs, HasEnds, both_same, all_differ}
-use Rattle.act_executor.proofs.Played.Threads.{actor_key, key_of, deed_of_actor, all_threads, deeds_of_actor}
-use Rattle.act_executor.proofs.Played.Projections.{deeds_in_order, IsKeyed, seen_under, seen_in_steps}
-use Rattle.act_executor.proofs.Played.ActorWork.{is_of_these}
-use Rattle.act_executor.proofs.Played.FoundSteps.{found_is as found_alone}
+use Rattle.act_executor.proofs.PlaysOfPlans.Once.{Differ, differ_pairs, front_differs, HasEnds, both_same, all_differ}
+use Rattle.act_executor.proofs.PlaysOfThreads.Threads.{actor_key, key_of, deed_of_actor, all_threads, deeds_of_actor}
+use Rattle.act_executor.proofs.PlaysOfThreads.Projections.{deeds_in_order, IsKeyed, seen_under, seen_in_steps}
+use Rattle.act_executor.proofs.PlaysOfThreads.ActorWork.{is_of_these}
+use Rattle.act_executor.proofs.PlaysOfThreads.FoundSteps.{found_is as found_alone}
 use Rattle.act_executor.proofs.Lists.Kept.{keep_stamped, kept_steps, kept_found}
 
 -- ---- what a caller put at an endpoint
