@@ -17,6 +17,11 @@ run_both-requires-send-C g c κs within =
     let notes : IsSend (param 4 g.row.N) = search rules parts 8 in
     search (owner_sent, step.the_send, lines.the_send, passes.the_send, crosses, sendable) depth 60 fits 20000
 
+pub run_both-requires-send-C-Output : goal.run_both-requires-send-C-Output
+run_both-requires-send-C-Output g c κs within =
+    let notes : IsSend (param 4 g.row.N) = search rules parts 8 in
+    search (owner_sent, passes.the_send, crosses, sendable) depth 60 fits 20000
+
 pub returns-clause-actors : goal.returns-clause-actors
 returns-clause-actors g c = subst (λ (l : List (Finished _ _)). Each (IsServedBy g.K.Actor.state) c.args.servings.items l) (sym c.in_ok-actors.ensures) (each_first (IsServedBy g.K.Actor.state) c.args.servings.items c.in_ok-served.served.items c.in_ok-served.ensures.first)
 
