@@ -1,4 +1,5 @@
 pub mod Common
+pub mod Crossing
 pub mod Lists
 pub mod OpenLines
 pub mod EndsOfRuns

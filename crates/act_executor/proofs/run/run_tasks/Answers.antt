@@ -1,11 +1,6 @@
-use borrow.Author.Rules.{rules}
-use denote.Param.{param}
-use denote.Param.Send.{IsSend, sendable}
-use Rattle.std.proofs.Crossing.{crosses}
-use Rattle.act_rules.proofs.script.Step.TheSendSync as step
-use Rattle.act_owner.proofs.Sent.{owner_sent}
-use Rattle.act_drive.proofs.driver.CallerLines.TheSendSync as lines
-use Rattle.act_drive.proofs.driver.CallerPasses.TheSendSync as passes
+use denote.Exit as exit
+use denote.Param.Send.{param_send, arg_send}
+use Rattle.act_executor.proofs.Crossing.{driving_sent, driven_sent, pair_sent}
 use Rattle.act_executor.proofs.Common.{◌≡◌, List, sym, subst, Each, Finished, Driven, IsServedBy, IsDrivenTo, RunFault, IsThreadFault, fault_of}
 use Rattle.act_executor.proofs.OpenLines.Faults.{err_only, refused}
 use Rattle.act_executor.proofs.OpenLines.Tasks.{each_first}
@@ -13,14 +8,11 @@ use Rattle.act_executor.proofs.run.run_tasks.Goals as goal
 
 pub run_both-requires-send-C : goal.run_both-requires-send-C
 run_both-requires-send-C g c κs within =
-    let conduct : IsSend (param 2 g.row.D) = search rules parts 8 in
-    let notes : IsSend (param 4 g.row.N) = search rules parts 8 in
-    search (owner_sent, step.the_send, lines.the_send, passes.the_send, crosses, sendable) depth 60 fits 20000
+    param_send _ _ (arg_send _ exit.no _ (driving_sent _ _ _ c.type_bounds.send-D c.type_bounds.send-N))
 
 pub run_both-requires-send-C-Output : goal.run_both-requires-send-C-Output
 run_both-requires-send-C-Output g c κs within =
-    let notes : IsSend (param 4 g.row.N) = search rules parts 8 in
-    search (owner_sent, passes.the_send, crosses, sendable) depth 60 fits 20000
+    param_send _ _ (arg_send _ exit.no _ (pair_sent _ _ _ driven_sent c.type_bounds.send-N))
 
 pub returns-clause-actors : goal.returns-clause-actors
 returns-clause-actors g c = subst (λ (l : List (Finished _ _)). Each (IsServedBy g.K.Actor.state) c.args.servings.items l) (sym c.in_ok-actors.ensures) (each_first (IsServedBy g.K.Actor.state) c.args.servings.items c.in_ok-served.served.items c.in_ok-served.ensures.first)
