@@ -94,8 +94,8 @@ refused l false false fault = record { count = refl; most = refl; fits = λ fits
 
 acquired : (l : Limiter) (reset b : Bool) → nat_lt l.granted l.most ≡ b
     → Counts l true reset
-      (if b then Ok (record l { granted = l.granted + 1 }, Int (pos (l.most - (l.granted + 1))))
-      else Err (Own (codes "RateLimited")))
+    (if b then Ok (record l { granted = l.granted + 1 }, Int (pos (l.most - (l.granted + 1))))
+    else Err (Own (codes "RateLimited")))
 acquired l reset true e =
     let less : l.granted < l.most = ltb-true l.granted l.most e in
     record { count = refl; most = refl; fits = λ fits. omega (arith, less) }
@@ -135,6 +135,6 @@ rate_is_kept most told l ask h =
 pub never_above_its_rate : (most : ℕ) (items : List RunItem) → NeverAbove most (told_in (limiter_at most) items)
 never_above_its_rate most items =
     let left : Left limiter_step limiter_text (IsWithin most) (limiter_at most) items =
-      holds_in_each_run limiter_step limiter_text (IsWithin most) (rate_is_kept most) (limiter_of most)
-      (record { within = omega arith; known = refl; rate = refl }) items in
+    holds_in_each_run limiter_step limiter_text (IsWithin most) (rate_is_kept most) (limiter_of most)
+    (record { within = omega arith; known = refl; rate = refl }) items in
     never_above most (told_in (limiter_at most) items) left.kept.within
