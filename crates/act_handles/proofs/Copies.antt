@@ -37,6 +37,7 @@ release_count : (listed : Bool) (c r r2 : ℕ) → r2 ≡ r + 1 → option_map (
 release_count true c r r2 more = ap Some (omega (arith, more))
 release_count false c r r2 more = refl
 
+-- where the copies are as a plan's steps say, they are so after a copy that nothing refuses
 pub copy_copies : (handles : List Handle) (a b : ℕ) (actors : List ℕ) (p : Progress) → ((c : ℕ) → copies_in c handles ≡ holds c actors p) → copy_refusal (holds a actors p) ≡ None → copies_in b (with_copy a handles) ≡ holds b actors (do_step p (Copy a))
 copy_copies handles a b actors p same fine =
     elim (eqb_tells a b) [
@@ -45,6 +46,7 @@ copy_copies handles a b actors p same fine =
       | inr f ↦ copies-with_copy-other a b handles f.1 ∙ same b ∙ ap (λ (n : ℕ). if list_any (λ c. c == b) actors then Some ((1 + n) - occurrences b p.released) else None) (sym (occurs_other a b p.copied f.1))
     ]
 
+-- where the copies are as a plan's steps say, they are so after a release
 pub release_copies : (handles : List Handle) (a b : ℕ) (actors : List ℕ) (p : Progress) → ((c : ℕ) → copies_in c handles ≡ holds c actors p) → copies_in b (without_copy a handles) ≡ holds b actors (do_step p (Release a))
 release_copies handles a b actors p same =
     elim (eqb_tells a b) [

@@ -35,15 +35,18 @@ copies-with_copy a handles =
     rw (find-changed-same a (λ (handle : Handle). record handle { copies = handle.copies + 1 }) (λ _. refl) handles)
     (elim (find (is_of a) handles) as (λ found. option_map (λ (handle : Handle). handle.copies) (option_map (λ (handle : Handle). record handle { copies = handle.copies + 1 }) found) ≡ option_map (λ copies. copies + 1) (option_map (λ (handle : Handle). handle.copies) found)) [ None ↦ refl | Some handle ↦ refl ])
 
+-- a release takes one of the copies that are held, where there is one
 pub copies-without_copy : (a : ℕ) (handles : List Handle) → copies_in a (without_copy a handles) ≡ option_map (λ copies. copies - 1) (copies_in a handles)
 copies-without_copy a handles =
     rw (find-changed-same a (λ (handle : Handle). record handle { copies = handle.copies - 1 }) (λ _. refl) handles)
     (elim (find (is_of a) handles) as (λ found. option_map (λ (handle : Handle). handle.copies) (option_map (λ (handle : Handle). record handle { copies = handle.copies - 1 }) found) ≡ option_map (λ copies. copies - 1) (option_map (λ (handle : Handle). handle.copies) found)) [ None ↦ refl | Some handle ↦ refl ])
 
+-- a copy of one actor's handle leaves the copies of every other actor's
 pub copies-with_copy-other : (a b : ℕ) (handles : List Handle) → a ≢ b → copies_in b (with_copy a handles) ≡ copies_in b handles
 copies-with_copy-other a b handles apart =
     ap (option_map (λ (handle : Handle). handle.copies)) (find-changed-other a b (λ (handle : Handle). record handle { copies = handle.copies + 1 }) apart (λ _. refl) handles)
 
+-- a release of one actor's handle leaves the copies of every other actor's
 pub copies-without_copy-other : (a b : ℕ) (handles : List Handle) → a ≢ b → copies_in b (without_copy a handles) ≡ copies_in b handles
 copies-without_copy-other a b handles apart =
     ap (option_map (λ (handle : Handle). handle.copies)) (find-changed-other a b (λ (handle : Handle). record handle { copies = handle.copies - 1 }) apart (λ _. refl) handles)
@@ -64,6 +67,7 @@ read_same a b change read keeps same (handle ∷ handles) =
       ]
     ]
 
+-- a number that is given to a call leaves all copies
 pub copies-with_number : (a b : ℕ) (handles : List Handle) → copies_in b (with_number a handles) ≡ copies_in b handles
 copies-with_number a b handles = read_same a b (λ (handle : Handle). record handle { given = handle.given + 1 }) (λ handle. handle.copies) (λ _. refl) (λ _. refl) handles
 
@@ -77,17 +81,20 @@ given-with_copy a b handles =
     ∙ ap (λ given. unwrap_or given 0) (read_same a b (λ (handle : Handle). record handle { copies = handle.copies + 1 }) (λ handle. handle.given) (λ _. refl) (λ _. refl) handles)
     ∙ sym (given_by_option b handles)
 
+-- a release leaves how many numbers were given
 pub given-without_copy : (a b : ℕ) (handles : List Handle) → given_in b (without_copy a handles) ≡ given_in b handles
 given-without_copy a b handles =
     given_by_option b (without_copy a handles)
     ∙ ap (λ given. unwrap_or given 0) (read_same a b (λ (handle : Handle). record handle { copies = handle.copies - 1 }) (λ handle. handle.given) (λ _. refl) (λ _. refl) handles)
     ∙ sym (given_by_option b handles)
 
+-- where the actor is in the list, a number that is given to its call makes one more
 pub given-with_number : (a : ℕ) (handles : List Handle) → is_some (copies_in a handles) ≡ true → given_in a (with_number a handles) ≡ given_in a handles + 1
 given-with_number a handles listed =
     rw (find-changed-same a (λ (handle : Handle). record handle { given = handle.given + 1 }) (λ _. refl) handles)
     (elim (find (is_of a) handles) as (λ found. is_some (option_map (λ (handle : Handle). handle.copies) found) ≡ true → option_map_or (λ (handle : Handle). handle.given) (option_map (λ (handle : Handle). record handle { given = handle.given + 1 }) found) 0 ≡ option_map_or (λ (handle : Handle). handle.given) found 0 + 1) [ None ↦ λ none. cc | Some handle ↦ λ some. refl ] listed)
 
+-- every other actor has as many as before
 pub given-with_number-other : (a b : ℕ) (handles : List Handle) → a ≢ b → given_in b (with_number a handles) ≡ given_in b handles
 given-with_number-other a b handles apart =
     ap (λ found. option_map_or (λ (handle : Handle). handle.given) found 0) (find-changed-other a b (λ (handle : Handle). record handle { given = handle.given + 1 }) apart (λ _. refl) handles)
@@ -101,6 +108,7 @@ copies-opened a (actor ∷ actors) =
       | inr f ↦ rw f.0 (copies-opened a actors)
     ]
 
+-- at the opening no numbers were given to calls of any actor
 pub given-opened : (a : ℕ) (actors : List ℕ) → given_in a (map new_handle actors) ≡ 0
 given-opened a [] = refl
 given-opened a (actor ∷ actors) =
@@ -109,6 +117,7 @@ given-opened a (actor ∷ actors) =
       | inr f ↦ rw f.0 (given-opened a actors)
     ]
 
+-- at the opening no numbers were given in all
 pub given_of_all-opened : (actors : List ℕ) → given_of_all (map new_handle actors) ≡ 0
 given_of_all-opened [] = refl
 given_of_all-opened (actor ∷ actors) = given_of_all-opened actors

@@ -19,6 +19,7 @@ is_same place number caller count = (place == caller) && (number == count)
 
 -- a caller's index after a change at one number
 module _ (keys : List (List ℕ)) (place : ℕ) (old new : List ℕ) (within : place < length keys) (reached : old ≡ get_or keys place old) where
+  -- only the key of the caller's call of that number changes
   pub key_of-set : (number : ℕ) (slot : Option ℕ) → ((count : ℕ) → key_in new count ≡ (if number == count then slot else key_in old count)) → (caller count : ℕ) → key_of (set keys place new) caller count ≡ (if is_same place number caller count then slot else key_of keys caller count)
   key_of-set number slot updates caller count = elim (eqb_tells place caller) [
     | inl t ↦
@@ -73,6 +74,7 @@ module _ (packets : Slab Packet) (keys : List (List ℕ)) (held : IsHeld packets
   not_call nowhere key packet reached true is = let at = key_is key packet reached is in absurd (cc)
   not_call nowhere key packet reached false is = refl
 
+  -- a call without a key has no packet that is held
   pub none_held : key_of keys caller number ≡ None → find (is_packet_of caller number) (values packets) ≡ None
   none_held nowhere = find-no_slot (is_packet_of caller number) packets.slots (λ key packet reached. not_call nowhere key packet reached (is_packet_of caller number packet) refl)
 
@@ -119,6 +121,7 @@ module _ (packets after : Slab Packet) (slot : ℕ) (content : Option Packet) (w
   elsewhere None differs = refl
   elsewhere (Some key) differs = written.others key (differs key refl)
 
+  -- what holds of each packet, and of the one that is written, holds of each packet afterwards
   pub all_after : (P : Packet → Type 0) → ((packet : Packet) → content ≡ Some packet → P packet) → All P (values packets) → All P (values after)
   all_after P here all = All-filled P after.slots (λ key packet reached. elim (cases_eq key slot) [
     | inl same ↦ here packet (sym written.changed ∙ ap (get after) (sym same) ∙ reached)

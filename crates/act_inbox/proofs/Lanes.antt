@@ -9,12 +9,14 @@ in_all_bound inbox few counted =
     let most = sum_by-le (λ (lane : Lane). lane.handed) 65536 inbox.lanes counted in
     omega arith
 
+-- where no place of a caller's lane is found, the caller has no lane
 pub no_lane : (inbox : InboxView) (caller : ℕ) → position (is_lane_of caller) inbox.lanes ≡ None → lane_of inbox caller ≡ None
 no_lane inbox caller nowhere = find-None (is_lane_of caller) inbox.lanes nowhere
 
 pub unlisted_handed : (inbox : InboxView) (caller : ℕ) → lane_of inbox caller ≡ None → 0 ≡ handed_of inbox caller
 unlisted_handed inbox caller none = rw none refl
 
+-- a caller's lane tells how many of the caller's calls were handed out
 pub listed_handed : (inbox : InboxView) (caller : ℕ) (lane : Lane) → lane_of inbox caller ≡ Some lane → lane.handed ≡ handed_of inbox caller
 listed_handed inbox caller lane listed = rw listed refl
 
@@ -23,12 +25,14 @@ abbrev pub one_more : Lane → Lane
 one_more lane = record { caller = lane.caller; handed = lane.handed + 1 }
 
 module _ (inbox : InboxView) (caller place : ℕ) (at : position (is_lane_of caller) inbox.lanes ≡ Some place) where
+  -- the lane at the place that was found is the caller's
   pub lane_is : (lane : Lane) → lane ≡ get_or inbox.lanes place lane → lane_of inbox caller ≡ Some lane
   lane_is lane reached = find-Some (is_lane_of caller) inbox.lanes place lane at ∙ ap Some (sym reached)
 
   pub within : place < length inbox.lanes
   within = (position-Some (is_lane_of caller) inbox.lanes place (lane_at_first 0) at).0
 
+  -- the lane at that place names the caller
   pub caller_at : (d : Lane) → (get_or inbox.lanes place d).caller ≡ caller
   caller_at d = eqb-true _ _ (position-Some (is_lane_of caller) inbox.lanes place d at).1
 

@@ -10,6 +10,7 @@ listed_by : (inbox : InboxView) (caller : ℕ) (place : Option ℕ) → position
 listed_by inbox caller None at = rw (find-None (is_lane_of caller) inbox.lanes at) refl
 listed_by inbox caller (Some place) at = rw (find-Some (is_lane_of caller) inbox.lanes place (lane_at_first 0) at) refl
 
+-- a caller is listed exactly where a place of its lane is found
 pub listed_is : (inbox : InboxView) (caller : ℕ) → is_some (position (is_lane_of caller) inbox.lanes) ≡ is_listed inbox caller
 listed_is inbox caller = listed_by inbox caller (position (is_lane_of caller) inbox.lanes) refl
 

@@ -47,6 +47,7 @@ no_note count caller = elim (leb_tells (suc caller) count) [
 ]
 
 module _ (callers : List ℕ) (inbox : InboxView) (lanes : inbox.lanes ≡ map lane_at_first callers) (held : inbox.held ≡ []) (notes : inbox.notes ≡ no_notes 17) where
+  -- an inbox with these lanes, with no packets and no notes, is as just opened for the callers
   pub opened : IsOpened callers inbox
   opened = record {
     listed = λ caller. rw lanes (listed_at_first callers caller);
@@ -56,6 +57,7 @@ module _ (callers : List ℕ) (inbox : InboxView) (lanes : inbox.lanes ≡ map l
     notes = λ caller. rw notes (no_note 17 caller);
   }
 
+  -- where these callers differ, and are from 1 to 16, what is true of each inbox is true of it
   pub opened_is_inbox : AllPairs (λ one other. one ≢ other) callers → All (λ caller. (1 ≤ caller) × (caller ≤ 16)) callers → IsInbox inbox.lanes inbox.held
   opened_is_inbox pairs valid = record {
     distinct = rw (lanes, callers_at_first callers) pairs;

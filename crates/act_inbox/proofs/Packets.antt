@@ -13,9 +13,11 @@ pub is_call_tells : (caller number : ℕ) (packet : Packet) → is_packet_of cal
 is_call_tells caller number packet e = both_equal packet.caller caller packet.number number e
 
 module _ (inbox : InboxView) (caller : ℕ) where
+  -- a caller that has no lane has no next call
   pub unlisted_next : lane_of inbox caller ≡ None → next_of inbox caller ≡ None
   unlisted_next none = rw none refl
 
+  -- a listed caller's next call is the held one whose number is how many were handed out
   pub listed_next : (lane : Lane) → lane_of inbox caller ≡ Some lane → next_of inbox caller ≡ find (is_packet_of caller lane.handed) inbox.held
   listed_next lane listed = rw (listed, le-ltb lane.handed lane.handed (omega arith)) refl
 

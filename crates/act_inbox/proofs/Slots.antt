@@ -45,6 +45,7 @@ module _ {X : Type 0} where
   slice_get-set_same (y ∷ xs) zero x within = refl
   slice_get-set_same (y ∷ xs) (suc place) x within = slice_get-set_same xs place x (omega arith)
 
+  -- the items at other places stay
   pub slice_get-set_other : (xs : List X) (place other : ℕ) (x : X) → other ≢ place → slice_get (set xs place x) other ≡ slice_get xs other
   slice_get-set_other [] place other x differs = refl
   slice_get-set_other (y ∷ xs) zero zero x differs = absurd (differs refl)

@@ -54,6 +54,7 @@ module _ (old : InboxView) (caller place : ℕ) (lane : Lane) (packet : Packet)
     more : written.handed + 1 ≡ lane.handed + 1
     more = ap (λ (l : Lane). l.handed + 1) (same_lane old caller place at written lane written_stands lane_stands)
 
+    -- what is true of each inbox is true of the one after the call went out
     pub sound_then : IsInbox new.lanes new.held
     sound_then =
         let is_mine = mine in
@@ -96,6 +97,7 @@ module _ (old : InboxView) (caller place : ℕ) (lane : Lane) (packet : Packet)
         let count = handed_is in
         absurd (omega arith)
 
+    -- the caller's next call was handed out, and nothing else changed
     pub next_taken : IsNextTaken caller packet old new
     next_taken = record {
       of_caller = mine.1;

@@ -10,6 +10,7 @@ use Rattle.act_mailbox.specs.Traces.{steps_in, found_in, IsTimed, AreTakenLater}
 
 -- ---- items and their stamps
 
+-- where one relation gives another, two lists paired by the first are paired by the second
 pub all_zip_weaker : {A B : Type 0} (R Q : A → B → Type 0) (xs : List A) (ys : List B) → ((x : A) (y : B) → R x y → Q x y) → AllZip R xs ys → AllZip Q xs ys
 all_zip_weaker R Q [] [] f h = tt
 all_zip_weaker R Q [] (b ∷ ys) f h = absurd h
@@ -29,6 +30,7 @@ module _ {S X : Type 0} (part : S → Option X) where
   found_alone [] = refl
   found_alone (x ∷ trace) = found_next x.0 (part x.1) (found_in part trace) (filter_map part (steps_in trace)) (found_alone trace)
 
+  -- what is found in a trace with more behind: what is found in it, then what in the rest
   pub found_more : (trace more : List (ℕ × S)) → found_in part (trace ++ more) ≡ found_in part trace ++ found_in part more
   found_more trace more = filter_map-append (λ (x : ℕ × S). option_map (λ (found : X). (x.0, found)) (part x.1)) trace more
 
@@ -41,11 +43,13 @@ module _ {S X : Type 0} (part : S → Option X) where
   pub found_none : (trace : List (ℕ × S)) (n : ℕ) (step : S) → part step ≡ None → found_in part (trace ++ (n, step) ∷ []) ≡ found_in part trace
   found_none trace n step e = found_more trace ((n, step) ∷ []) ∙ ap (λ (l : List (ℕ × X)). found_in part trace ++ l) (found_last n step None e) ∙ append-nil (found_in part trace)
 
+-- the steps of a trace with more behind are its own, then those of the rest
 pub steps_more : {S : Type 0} (trace more : List (ℕ × S)) → steps_in (trace ++ more) ≡ steps_in trace ++ steps_in more
 steps_more {S} trace more = map-append (λ (x : ℕ × S). x.1) trace more
 
 -- ---- steps in time
 
+-- a trace that is in time stays so where the clock shows more
 pub timed_later : {S : Type 0} (now later : ℕ) (trace : List (ℕ × S)) → now ≤ later → IsTimed now trace → IsTimed later trace
 timed_later now later trace le h = record { rising = h.rising; past = λ k d lt. let was = h.past k d lt in omega (arith, was, le) }
 
@@ -63,6 +67,7 @@ later_push {X} taken stamps n stamp x lt h = all_zipped_more (λ (y : ℕ × X) 
 -- ---- what was taken, after one step more
 
 module _ {S X : Type 0} (part : S → Option X) (trace : List (ℕ × S)) (n : ℕ) (step : S) where
+  -- where x is found in the step, it comes behind what was found before
   pub part_one : (x : X) (taken more : List X) → part step ≡ Some x → map (λ (y : ℕ × X). y.1) (found_in part trace) ≡ taken → more ≡ taken ++ x ∷ []
       → map (λ (y : ℕ × X). y.1) (found_in part (trace ++ (n, step) ∷ [])) ≡ more
   part_one x taken more e was is =
@@ -71,14 +76,17 @@ module _ {S X : Type 0} (part : S → Option X) (trace : List (ℕ × S)) (n : �
       ∙ ap (λ (l : List X). l ++ x ∷ []) was
       ∙ sym is
 
+  -- where nothing is found in the step, what was found stays
   pub part_none : (taken more : List X) → part step ≡ None → map (λ (y : ℕ × X). y.1) (found_in part trace) ≡ taken → more ≡ taken
       → map (λ (y : ℕ × X). y.1) (found_in part (trace ++ (n, step) ∷ [])) ≡ more
   part_none taken more e was is = ap (map (λ (y : ℕ × X). y.1)) (found_none part trace n step e) ∙ was ∙ sym is
 
+  -- where x is found in the step, at a time above its stamp, all are taken later than they were put
   pub later_one : (x : X) (stamp : ℕ) (stamps more : List ℕ) → part step ≡ Some x → stamp < n → AreTakenLater (found_in part trace) stamps → more ≡ stamps ++ stamp ∷ []
       → AreTakenLater (found_in part (trace ++ (n, step) ∷ [])) more
   later_one x stamp stamps more e lt was is =
       subst (λ (y : List (ℕ × X) × List ℕ). AreTakenLater y.0 y.1) (λ i. (sym (found_one part trace n step x e) i, sym is i)) (later_push (found_in part trace) stamps n stamp x lt was)
 
+  -- where nothing is found in the step, all stay taken later than they were put
   pub later_none : (stamps more : List ℕ) → part step ≡ None → AreTakenLater (found_in part trace) stamps → more ≡ stamps → AreTakenLater (found_in part (trace ++ (n, step) ∷ [])) more
   later_none stamps more e was is = subst (λ (y : List (ℕ × X) × List ℕ). AreTakenLater y.0 y.1) (λ i. (sym (found_none part trace n step e) i, sym is i)) was

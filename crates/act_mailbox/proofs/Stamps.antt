@@ -51,6 +51,7 @@ module _ {T N : Type 0} (putter_of : T → ℕ) where
       let r = pushes held.0 views (subst (λ k. k < n) long room) held.2 at in
       (r.0, (held.0 ++ (x, stamp) ∷ [], map-append (λ (y : T × ℕ). y.0) held.0 ((x, stamp) ∷ []) ∙ ap (λ l. l ++ x ∷ []) held.1, r.1), r.2)
 
+  -- a take that keeps the rule of items with their stamps keeps the rule of the line with stamps
   pub stamped_takes : (note : List N) (port : ℕ) (v : View (T × ℕ) N) → Pops Inner port v (TookItem (putter_of_stamped putter_of) note v) → Pops Outer port v (Took putter_of note v)
   stamped_takes note port v pops x items views held at = first held.0 held.1 held.2
     where
@@ -62,6 +63,7 @@ module _ {T N : Type 0} (putter_of : T → ℕ) where
           let r = pops p stamped views lined at in
           (r.0, (stamped, tail, r.1), subst (λ y. Took putter_of note v y r.0) head ((p.1, r.2.0), r.2.1))
 
+  -- so does a new pass that is made of another
   pub stamped_forks : (port : ℕ) (v left right : View (T × ℕ) N) → Forks Inner port v left right → Forks Outer port v left right
   stamped_forks port v left right forks items views held at = (held.0, held.1, forks held.0 views held.2 at)
 
@@ -81,6 +83,7 @@ module _ {T N : Type 0} (putter_of : T → ℕ) where
       let before : stamps_alone taken ≡ stamps = sym (ap (λ (u : View (T × ℕ) N). stamps_alone (taken_of u)) e) ∙ is in
       (n, one ∙ map-append (λ (y : T × ℕ). y.1) taken ((x, n) ∷ []) ∙ ap (λ l. l ++ n ∷ []) before)
 
+  -- where something was taken, its putter is one that the taker's pass knows
   pub took_known : (note : List N) (result : Option T) (v w : View (T × ℕ) N) (none : Type 0) (putters : List ℕ) → putters_of v ≡ putters → MatchOption result none (λ x. Took putter_of note v x w) → IfSome result (λ x. Contains putters (putter_of x))
   took_known note None v w none putters e took = tt
   took_known note (Some x) v w none putters e took = subst (λ (l : List ℕ). Contains l (putter_of x)) e took.1

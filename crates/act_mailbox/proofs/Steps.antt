@@ -168,6 +168,7 @@ module _ {T N : Type 0} (putter_of : T → ℕ) where
     takes_other endpoint putters got items x j (Saw xs) not_mine k = (longer putter_of xs got x k.0, k.1)
     takes_other endpoint putters got items x j Spent not_mine k = (k.0, k.1)
 
+    -- a take by the taker's pass keeps the rule, and the putter of the item has a pass
     pub takes : (port : ℕ) (v : View T N) → IsTaking v → Pops (Lined putter_of) port v (TookItem note v)
     takes port (Puts v) mine x items views h at = absurd mine
     takes port (Takes v) mine x items views h at =
@@ -285,9 +286,11 @@ module _ {T N : Type 0} (putter_of : T → ℕ) where
 
 -- a pass's view by its parts
 module _ {T N : Type 0} where
+  -- a view with the parts of a putter's pass is that putter's
   pub is_putting : (v : View T N) (c d : ℕ) (put : List T) (note : List N) (seen : List T) → c ≡ d → v ≡ putting c put note seen → IsPutting d v
   is_putting v c d put note seen same e = subst (IsPutting d) (sym e) same
 
+  -- a view with the parts of the taker's pass is the taker's
   pub is_taking : (v : View T N) (putters : List ℕ) (taken : List T) (note : List N) → v ≡ taking putters taken note → IsTaking v
   is_taking v putters taken note e = subst IsTaking (sym e) tt
 

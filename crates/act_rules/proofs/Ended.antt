@@ -8,6 +8,7 @@ use Rattle.act_rules.proofs.Growth.{added_grows}
 use Rattle.act_rules.proofs.Terminated.{nothing_follows-push}
 use Rattle.act_rules.proofs.Steps.{IsKept}
 
+-- a number that is in a list is in it with more behind
 pub contains_more : (a : ℕ) (xs ys : List ℕ) → contains a xs ≡ true → contains a (xs ++ ys) ≡ true
 contains_more a xs ys h = rw (list_any-append (λ m. m == a) xs ys, h)
 
@@ -32,6 +33,7 @@ under-push {A = A} n m pairs x = rw (filter-append (λ (pair : ℕ × A). pair.0
     last true = refl
     last false = refl
 
+-- the actor has ended, and this is its run list
 pub record HasEnded (a : ℕ) (items : List RunItem) (h : History) : Type 0 where
   pub ended : is_ended a h ≡ true
   pub same : runs_of a h ≡ items
@@ -58,6 +60,7 @@ other_run a b h item ended live = under-push a b h.ran item ∙ go (b == a) refl
 abbrev pub ended_by : ℕ → History → List RunItem → Bool
 ended_by a h items = (contains a h.killed || has_terminated items) || contains a h.retired
 
+-- each accepted event leaves an ended actor ended, and its run list as it is
 pub ended_stays : (a : ℕ) (items : List RunItem) → IsKept (HasEnded a items)
 ended_stays a items h (Submit c b method args) held accepted = record { ended = held.ended; same = held.same }
 ended_stays a items h (Copy c b) held accepted = record { ended = held.ended; same = held.same }
@@ -83,6 +86,7 @@ dead_ended : (a b : Bool) → a ≡ true → (a || b) ≡ true
 dead_ended true b e = refl
 dead_ended false b e = cc
 
+-- an accepted event leaves a dead actor dead
 pub dead_stays : (a : ℕ) (h : History) (event : Event) → refusal_of h event ≡ None → is_dead a h ≡ true → is_dead a (add_event h event) ≡ true
 dead_stays a h event accepted dead =
     let grows = added_grows h event in
@@ -93,6 +97,7 @@ dead_stays a h event accepted dead =
 
 -- ---- nothing follows a `terminate`
 
+-- in each actor's run list an item that ends the actor is the last one
 abbrev pub NothingFollows : History → Type 0
 NothingFollows h = (a : ℕ) → NothingFollowsAnEnd (runs_of a h)
 
@@ -112,6 +117,7 @@ follows_run h b c item last live a = rw (under-push a b h.ran item) (go (b == a)
     go true e = nothing_follows-push (runs_of a h) item (last a) (not_terminated a h (subst (λ (x : ℕ). is_ended x h ≡ false) (eqb-true b a e) live))
     go false e = rw (append-nil (runs_of a h)) (last a)
 
+-- each accepted event keeps it that nothing follows an end in a run list
 pub nothing_follows_step : IsKept NothingFollows
 nothing_follows_step h (Submit c b method args) last accepted = last
 nothing_follows_step h (Copy c b) last accepted = last

@@ -4,6 +4,7 @@ use Rattle.act_rules.proofs.Common.{AskKill, TakeKill, Tell, Retire, Submission,
 use Rattle.act_rules.proofs.Common.{after_run, IsPrefix}
 use Rattle.act_rules.proofs.Lists.{whole_front, more_front, IsPrefix-filter, IsPrefix-map, IsPrefix-enumerate}
 
+-- the second history has the casts of the first, and each of these lists begins with the first's
 pub record Grows (h g : History) : Type 0 where
   pub casts : g.casts ≡ h.casts
   pub submitted : IsPrefix h.submitted g.submitted
@@ -19,10 +20,12 @@ and_also_front : {A : Type 0} (xs : List A) (x : Option A) → IsPrefix xs (and_
 and_also_front xs None = whole_front xs
 and_also_front xs (Some x) = more_front xs (x ∷ [])
 
+-- a history grows by a run, be there an item to run or none
 pub after_run_grows : (a c : ℕ) (h : History) (o : Option RunItem) → Grows h (after_run a c h o)
 after_run_grows a c h None = record { casts = refl; submitted = whole_front h.submitted; released = whole_front h.released; mail = whole_front h.mail; arrived = whole_front h.arrived; ran = whole_front h.ran; posts = whole_front h.posts; collected = whole_front h.collected; killed = whole_front h.killed }
 after_run_grows a c h (Some item) = record { casts = refl; submitted = whole_front h.submitted; released = whole_front h.released; mail = whole_front h.mail; arrived = whole_front h.arrived; ran = more_front h.ran _; posts = more_front h.posts _; collected = whole_front h.collected; killed = whole_front h.killed }
 
+-- a history grows by each event that is added to it
 pub added_grows : (h : History) (event : Event) → Grows h (add_event h event)
 added_grows h (Submit c a method args) = record { casts = refl; submitted = more_front h.submitted _; released = whole_front h.released; mail = whole_front h.mail; arrived = whole_front h.arrived; ran = whole_front h.ran; posts = whole_front h.posts; collected = whole_front h.collected; killed = whole_front h.killed }
 added_grows h (Copy c a) = record { casts = refl; submitted = whole_front h.submitted; released = whole_front h.released; mail = whole_front h.mail; arrived = whole_front h.arrived; ran = whole_front h.ran; posts = whole_front h.posts; collected = whole_front h.collected; killed = whole_front h.killed }
@@ -39,11 +42,14 @@ added_grows h (Retire a) = record { casts = refl; submitted = whole_front h.subm
 pub under_grow : {A : Type 0} (n : ℕ) (xs ys : List (ℕ × A)) → IsPrefix xs ys → IsPrefix (under n xs) (under n ys)
 under_grow {A = A} n xs ys f = IsPrefix-map (λ (pair : ℕ × A). pair.1) _ _ (IsPrefix-filter (λ (pair : ℕ × A). pair.0 == n) xs ys f)
 
+-- where a history grows, each actor's run list begins as it was
 pub runs_grow : (a : ℕ) (h g : History) → Grows h g → IsPrefix (runs_of a h) (runs_of a g)
 runs_grow a h g grows = under_grow a h.ran g.ran grows.ran
 
+-- where a history grows, each caller's calls begin as they were
 pub calls_grow : (c : ℕ) (h g : History) → Grows h g → IsPrefix (calls_of c h) (calls_of c g)
 calls_grow c h g grows = under_grow c h.submitted g.submitted grows.submitted
 
+-- where calls come behind others, the calls to an actor begin as they were
 pub calls_to_grow : (a : ℕ) (xs ys : List Submission) → IsPrefix xs ys → IsPrefix (calls_to a xs) (calls_to a ys)
 calls_to_grow a xs ys f = IsPrefix-filter (λ (call : ℕ × Submission). call.1.actor == a) _ _ (IsPrefix-enumerate xs ys f)

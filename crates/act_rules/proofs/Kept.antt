@@ -11,6 +11,7 @@ use Rattle.act_rules.proofs.Posts.{IsSoundPost, PostsAreSound, posts_step}
 
 -- ---- the answers of a longer run list
 
+-- a run list in two parts: the answers of the first, then of the second from the state after the first
 pub answers_from-append : (state : KindState) (xs ys : List RunItem) → answers_from state (xs ++ ys) ≡ answers_from state xs ++ answers_from (state_after state xs) ys
 answers_from-append state [] ys = refl
 answers_from-append state (x ∷ xs) ys = ap (λ l. (after_item state x).1 ∷ l) (answers_from-append (after_item state x).0 xs ys)
@@ -21,10 +22,12 @@ slice_get-append_within (x ∷ xs) [] ys k y e at = absurd (omega arith)
 slice_get-append_within (x ∷ xs) (z ∷ zs) ys zero y e at = refl
 slice_get-append_within (x ∷ xs) (z ∷ zs) ys (suc k) y e at = slice_get-append_within xs zs ys k y (omega arith) at
 
+-- a run list has as many answers as items
 pub length-answers_from : (state : KindState) (xs : List RunItem) → length (answers_from state xs) ≡ length xs
 length-answers_from state [] = refl
 length-answers_from state (x ∷ xs) = ap suc (length-answers_from (after_item state x).0 xs)
 
+-- where a run list gets longer, the answer of an item that was in it stays
 pub answer_at-front : (state : KindState) (xs ys : List RunItem) (place : ℕ) (item : RunItem) → IsPrefix xs ys → slice_get xs place ≡ Some item → answer_at state ys place ≡ answer_at state xs place
 answer_at-front state xs ys place item f at =
     rw (← f.1, answers_from-append) (slice_get-append_within xs (answers_from state xs) (answers_from (state_after state xs) f.0) place item (length-answers_from state xs) at)
@@ -44,6 +47,7 @@ answer_of_stays h g a place item grows at = ap (answered (runs_of a g)) opening_
     go None = refl
     go (Some state) = answer_at-front state (runs_of a h) (runs_of a g) place item (runs_grow a h g grows) at
 
+-- what a sound post answers to a call stays as the history grows
 pub answer_in_stays : (h g : History) (c k b : ℕ) → Grows h g → (post : Post) → IsSoundPost h post → answer_in g c k b post ≡ answer_in h c k b post
 answer_in_stays h g c k b grows (ReplyPost d a place) s =
     let there : slice_get (runs_of a g) place ≡ slice_get (runs_of a h) place = slice_get_front (runs_of a h) (runs_of a g) place s.0 (runs_grow a h g grows) s.1 ∙ sym s.1 in
@@ -58,6 +62,7 @@ abbrev pub kept_by : History → ℕ → ℕ → Option Submission → Option An
 kept_by h c k None = None
 kept_by h c k (Some call) = first_answer h c (k, call)
 
+-- what is kept for a future is the first answer of its call, where that call stands
 pub kept_at_is : (h : History) (c k : ℕ) → kept_at (kept_of c h) k ≡ kept_by h c k (slice_get (calls_of c h) k)
 kept_at_is h c k = rw (slice_get-map (first_answer h c) (enumerate_from 0 (calls_of c h)) k, slice_get-enumerate_from 0 (calls_of c h) k) (go (slice_get (calls_of c h) k))
   where
@@ -75,6 +80,7 @@ first_answer_stays h g c call answer grows s e =
     let same : filter_map f' h.collected ≡ filter_map f h.collected = filter_map-same f' f h.collected (All_weaker (IsSoundPost h) (λ post. f' post ≡ f post) h.collected (answer_in_stays h g c call.0 call.1.actor grows) s.collected) in
     rw (← grows.collected.1, filter_map-append f' h.collected grows.collected.0, same) (slice_get_more (filter_map f h.collected) (filter_map f' grows.collected.0) 0 answer e)
 
+-- an answer that is kept stays as the history grows, where the posts are sound
 pub kept_stays : (h g : History) (c k : ℕ) (answer : Answer) → Grows h g → PostsAreSound h → kept_at (kept_of c h) k ≡ Some answer → kept_at (kept_of c g) k ≡ Some answer
 kept_stays h g c k answer grows s e = rw (kept_at_is g c k) (go (slice_get (calls_of c h) k) refl (sym (kept_at_is h c k) ∙ e))
   where
@@ -82,10 +88,12 @@ kept_stays h g c k answer grows s e = rw (kept_at_is g c k) (go (slice_get (call
     go None at e = cc
     go (Some call) at e = rw (slice_get_front (calls_of c h) (calls_of c g) k call (calls_grow c h g grows) at) (first_answer_stays h g c (k, call) answer grows s e)
 
+-- this answer is kept for the caller's future k, and the posts are sound
 pub record KeepsAnswer (c k : ℕ) (answer : Answer) (h : History) : Type 0 where
   pub sound : PostsAreSound h
   pub kept : kept_at (kept_of c h) k ≡ Some answer
 
+-- each accepted event leaves a kept answer as it is, and the posts sound
 pub kept_step : (c k : ℕ) (answer : Answer) → IsKept (KeepsAnswer c k answer)
 kept_step c k answer h event held accepted = record {
   sound = posts_step h event held.sound accepted;

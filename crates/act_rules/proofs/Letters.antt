@@ -13,14 +13,17 @@ use Rattle.act_rules.proofs.Posts.{PostsAreSound}
 use Rattle.act_rules.proofs.Kept.{kept_stays}
 use Rattle.act_rules.proofs.Settling.{Extends, arguments_stay}
 
+-- the call that a letter names stands, and its arguments are known; of a note nothing is asked
 abbrev pub IsSoundLetter : History → Letter → Type 0
 IsSoundLetter h (CallLetter c a n) = (call : ℕ × Submission) × (slice_get (calls_to a (calls_of c h)) n ≡ Some call) × (list_all (is_known (kept_of c h)) call.1.args ≡ true)
 IsSoundLetter h (NoteLetter c a n) = Unit {0}
 
+-- each letter is sound, in the mail and among those that arrived
 pub record LettersAreSound (h : History) : Type 0 where
   pub mail : AllByRecursion (IsSoundLetter h) h.mail
   pub arrived : AllByRecursion (IsSoundLetter h) h.arrived
 
+-- as a history with sound posts grows, each answer that a caller has stays
 pub kept_extends : (c : ℕ) (h g : History) → Grows h g → PostsAreSound h → Extends (kept_of c h) (kept_of c g)
 kept_extends c h g grows s j answer e = kept_stays h g c j answer grows s e
 
@@ -107,6 +110,7 @@ letters_step h (Retire a) s l accepted = letters_stay h _ (added_grows h (Retire
 
 -- ---- what stands behind a letter that has arrived
 
+-- two letters that the test takes for one are equal
 pub letter_is : (x y : Letter) → is_letter x y ≡ true → x ≡ y
 letter_is (CallLetter c a n) (CallLetter d b m) e =
     let first = and_parts ((c == d) && (a == b)) (n == m) e in
@@ -125,6 +129,7 @@ letter_is (NoteLetter c a n) (NoteLetter d b m) e =
 letter_is (CallLetter c a n) (NoteLetter d b m) e = cc
 letter_is (NoteLetter c a n) (CallLetter d b m) e = cc
 
+-- what holds of each letter of a list holds of a letter that is found there
 pub has_letter-sound : (P : Letter → Type 0) (letter : Letter) (letters : List Letter) → AllByRecursion P letters → has_letter letter letters ≡ true → P letter
 has_letter-sound P letter [] all e = cc
 has_letter-sound P letter (x ∷ letters) all e = go (is_letter letter x) refl (has_letter-sound P letter letters all.1) e

@@ -40,6 +40,7 @@ pending_after h g c a grows sound = fewer (kept_of c h) (kept_of c g) (calls_to 
 abbrev pub AreWithin : History → Type 0
 AreWithin h = (c a limit : ℕ) → limit_of c a h ≡ Some limit → unanswered c a h ≤ limit
 
+-- where the casts are the same, so is the limit of a caller at an actor
 pub limit_of-same : (h g : History) (c a : ℕ) → g.casts ≡ h.casts → limit_of c a g ≡ limit_of c a h
 limit_of-same h g c a casts = ap (λ (l : List ActorSpec). limit_of c a (opening l)) casts
 

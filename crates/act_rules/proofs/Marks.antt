@@ -32,6 +32,7 @@ closed_last : (bs : List ℕ) (mark n : ℕ) → length bs ≡ n + 1 → slice_i
 unfolding closed_at
 closed_last bs mark n len last = let less : length bs - 1 ≡ n = omega arith in rw less (grind (arith, nat_tests))
 
+-- a word with the mark put behind it is read as that word
 pub closed_some : (front : List ℕ) (mark : ℕ) → closed_at (front ++ mark ∷ []) mark ≡ Ok front
 closed_some front mark =
     closed_last (front ++ mark ∷ []) mark (length front) (length_push front mark) (get_or-append_seam front mark [] 0) ∙ ap Ok (take-append_seam front (mark ∷ []))

@@ -8,6 +8,7 @@ use Rattle.act_rules.specs.Words.{number_at, int_at}
 digits_test : IsDigitsTest (λ ds. list_all is_ascii_digit ds ≡ true)
 digits_test = search rules
 
+-- these words for digits and their value fit the general laws of decimal texts
 pub own : IsNumeralModel (λ ds. list_all is_ascii_digit ds ≡ true) (digits_value 10)
 own = numerals_by_value _ digits_test
 
@@ -16,6 +17,7 @@ numeral_cases : (d : ℕ) (ds : List ℕ) → is_numeral (d ∷ ds) ≡ true →
 numeral_cases d [] h = grind (arith, nat_tests)
 numeral_cases d (e ∷ ds) h = grind (arith, nat_tests)
 
+-- a numeral has nothing but digits, and at least one
 pub numeral_is_digits : (word : List ℕ) → is_numeral word ≡ true → (list_all is_ascii_digit word ≡ true) × (0 < length word)
 numeral_is_digits [] h = cc
 numeral_is_digits (d ∷ ds) h = (numeral_cases d ds h, omega arith)
@@ -34,6 +36,7 @@ printed ds h lt =
     let d = numeral_is_digits ds h in
     sym (decimal-digits_value own ds d.0 d.1 (leading ds h) lt)
 
+-- a word that is read as a number is what is printed of that number
 pub number_is_printed : (word : List ℕ) (n : ℕ) → number_at word ≡ Ok n → word ≡ decimal n
 unfolding number_at
 number_is_printed word n h =
@@ -93,6 +96,7 @@ spelled_int (b ∷ ds) h f = elim (eqb_tells b 45) [
       printed (b ∷ ds) t.0 t.1 ∙ ap signed_decimal (sym t.2)
 ]
 
+-- a word that is read as a number with a sign is what is printed of it
 pub int_is_printed : (word : List ℕ) (n : ℤ) → int_at word ≡ Ok n → word ≡ signed_decimal n
 unfolding int_at
 int_is_printed word n h =

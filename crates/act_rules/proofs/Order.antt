@@ -18,6 +18,7 @@ pub record IsNext (a c : ℕ) (h : History) (item : RunItem) : Type 0 where
   pub at : slice_get (calls_to a (calls_of c h)) (ran_count c a h) ≡ Some call
   pub is : run_item c (ran_count c a h) (kept_of c h) call ≡ item
 
+-- the item that runs next is of the caller's next call, and the letter of that call has arrived
 pub next_item_is : (a c : ℕ) (h : History) (item : RunItem) → next_item a c h ≡ Some item → IsNext a c h item
 next_item_is a c h item e = go (has_letter (CallLetter c a (ran_count c a h)) h.arrived) (slice_get (calls_to a (calls_of c h)) (ran_count c a h)) refl refl e
   where
@@ -28,6 +29,7 @@ next_item_is a c h item e = go (has_letter (CallLetter c a (ran_count c a h)) h.
 
 -- ---- the order
 
+-- the number and the future of an item's call
 abbrev pub numbered : RunItem → ℕ × ℕ
 numbered item = (item.number, item.future)
 
@@ -35,6 +37,7 @@ numbered item = (item.number, item.future)
 abbrev pub numbers : ℕ → List Submission → List (ℕ × ℕ)
 numbers a calls = enumerate_from 0 (map (λ call. call.0) (calls_to a calls))
 
+-- what each actor ran of a caller's calls are the first of the caller's calls to it, in their order
 abbrev pub InOrder : History → Type 0
 InOrder h = (a c : ℕ) → IsPrefix (map numbered (items_of c (runs_of a h))) (numbers a (calls_of c h))
 

@@ -76,6 +76,7 @@ module _ {S : Type 0} (step : StepOf S) (written : S → List ℕ) where
         ∙ ap (λ (done : KindState × Answer). told ++ (with_answer (ask_of item.method (values_of item.args)) done.1 ++ told_in done.0 items)) (sym (item_any state item)))
         rest
 
+  -- what each step keeps, and the state at the start has, holds after every run list
   pub holds_in_each_run : (holds : List (Ask × Answer) → S → Type 0) → HoldsInEachRun step written holds
   holds_in_each_run holds kept start at_first items = record {
     state = own_state_after step start items;

@@ -423,6 +423,7 @@ planned_is_taken casts c plan differ free =
     ∙ ap (λ events. (moved_all c (actors_naming c casts) nothing_done events).submitted) (sym (all_through (opening casts) (events_of c plan) free))
     ∙ taken c casts (events_of c plan) differ
 
+-- the actors whose roles name a caller are those whose casts, made of the roles, name it
 pub actors_of-actor_spec : (c : ℕ) (roles : List Role) → actors_of_roles c roles ≡ actors_naming c (map actor_spec_of roles)
 actors_of-actor_spec c [] = refl
 actors_of-actor_spec c (role ∷ roles) = go (contains c role.callers) (actors_of-actor_spec c roles)

@@ -15,6 +15,7 @@ abbrev pub IsSoundPost : History → Post → Type 0
 IsSoundPost h (ReplyPost c a place) = (item : RunItem) × (slice_get (runs_of a h) place ≡ Some item) × (item.caller ≡ c)
 IsSoundPost h (DeathPost c a) = is_dead a h ≡ true
 
+-- each post is sound, and each that was collected
 pub record PostsAreSound (h : History) : Type 0 where
   pub posts : AllByRecursion (IsSoundPost h) h.posts
   pub collected : AllByRecursion (IsSoundPost h) h.collected
@@ -53,6 +54,7 @@ posts_stay h event accepted s posts collected = record {
   collected = rw collected (all_stay h event h.collected accepted s.collected);
 }
 
+-- each accepted event keeps the posts sound
 pub posts_step : IsKept PostsAreSound
 posts_step h (Submit c a method args) s accepted = posts_stay h (Submit c a method args) accepted s refl refl
 posts_step h (Copy c a) s accepted = posts_stay h (Copy c a) accepted s refl refl

@@ -20,12 +20,15 @@ use Rattle.act_rules.proofs.Retired.{IsSoundNote, NotesAreSound, notes_step, sub
 
 -- ---- each call goes to an actor whose cast names its caller
 
+-- the cast of the call's actor names the call's caller
 abbrev pub IsNamed : History → ℕ × Submission → Type 0
 IsNamed h call = names call.0 (cast_of call.1.actor h) ≡ true
 
+-- each call that was submitted went to an actor whose cast names the caller
 abbrev pub AllNamed : History → Type 0
 AllNamed h = AllByRecursion (IsNamed h) h.submitted
 
+-- where a caller has a count of copies of an actor's handle, the actor's cast names the caller
 pub copies_named : (c a : ℕ) (h : History) → is_some (copies_of c a h) ≡ true → names c (cast_of a h) ≡ true
 copies_named c a h e = go (names c (cast_of a h)) ((1 + count_pairs c a h.copied) - count_pairs c a h.released) e
   where
@@ -116,11 +119,13 @@ retired_step h (Retire b) s accepted a retired =
 
 -- ---- all of them
 
+-- notes are sound, casts name the callers of their actors' calls, and each retired actor is drained
 pub record Retires (h : History) : Type 0 where
   pub notes : NotesAreSound h
   pub named : AllNamed h
   pub drained : RetiredDrained h
 
+-- each accepted event keeps these three facts
 pub retires_step : IsKept Retires
 retires_step h event s accepted = record {
   notes = notes_step h event s.notes accepted;
@@ -128,6 +133,7 @@ retires_step h event s accepted = record {
   drained = retired_step h event s.drained accepted;
 }
 
+-- they hold after any events from an opening
 pub world_retires : (casts : List ActorSpec) (events : List Event) → Retires (after_all (opening casts) events)
 world_retires casts events = after_all_keeps Retires retires_step (opening casts) events (record {
   notes = record { mail = tt; arrived = tt };
@@ -182,6 +188,7 @@ map-numbered : (items : List RunItem) → map (λ (p : ℕ × ℕ). p.1) (map nu
 map-numbered [] = refl
 map-numbered (item ∷ items) = ap (λ (l : List ℕ). item.future ∷ l) (map-numbered items)
 
+-- a retired actor ran every call of a caller to it, in the caller's order
 pub ran_all : (h : History) (a c : ℕ) → IsSound h → Retires h → is_retired a h ≡ true → map (λ (item : RunItem). item.future) (items_of c (runs_of a h)) ≡ map (λ (call : ℕ × Submission). call.0) (calls_to a (calls_of c h))
 ran_all h a c s r retired =
     sym (map-numbered (items_of c (runs_of a h)))

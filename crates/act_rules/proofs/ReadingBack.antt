@@ -19,6 +19,7 @@ kind_reads_back kind.Table h = refl
 kind_reads_back kind.Account h = refl
 kind_reads_back kind.ListKind h = refl
 
+-- a method that a script can write is read back from its text
 pub method_reads_back : ReadsBack is_sayable_method method_text method_at
 unfolding method_at
 method_reads_back method.Add h = refl
@@ -127,6 +128,7 @@ unit_reads_back : value_at (codes "unit") ≡ Ok value.Unit
 unfolding value_at
 unit_reads_back = refl
 
+-- a value that a script can write is read back from its text
 pub value_reads_back : ReadsBack is_sayable value_text value_at
 value_reads_back value.Unit h = unit_reads_back
 value_reads_back (value.Text text) h = text_value_back text h

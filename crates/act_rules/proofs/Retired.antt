@@ -42,6 +42,7 @@ IsGone c a h = copies_held (copies_of c a h) ≡ 0
 not_holder : (n : ℕ) → n ≡ 0 → nat_lt 0 n ≡ true → ⊥
 not_holder n zero_copies holds = let bad : nat_lt 0 0 ≡ true = rw zero_copies at holds in cc
 
+-- how often a pair stands in a list with one pair more at its end
 pub times-push : (c a d b : ℕ) (pairs : List (ℕ × ℕ)) → count_pairs c a (pairs ++ (d, b) ∷ []) ≡ count_pairs c a pairs + cond ((d == c) && (b == a)) 1 0
 times-push c a d b pairs =
     rw (filter-append (λ (pair : ℕ × ℕ). (pair.0 == c) && (pair.1 == a)) pairs ((d, b) ∷ []), length-append) (go ((d == c) && (b == a)))
@@ -50,6 +51,7 @@ times-push c a d b pairs =
     go true = refl
     go false = refl
 
+-- one call more: it is the last of the calls to an actor, where it goes to that actor
 pub calls_to-push : (a : ℕ) (calls : List Submission) (call : Submission) → calls_to a (calls ++ call ∷ []) ≡ calls_to a calls ++ cond (call.actor == a) ((0 + length calls, call) ∷ []) []
 calls_to-push a calls call = rw (enumerate_from-append 0 calls (call ∷ []), filter-append) refl
 
@@ -86,6 +88,7 @@ gone_copy c a d b h gone holds = rw (times-push c a d b h.copied) (go ((d == c) 
         absurd (not_holder (copies_held (copies_of d b h)) gone' holds)
     go false e = let z : count_pairs c a h.copied + 0 ≡ count_pairs c a h.copied = omega arith in rw z gone
 
+-- an accepted event gives no copy to a caller without one, and leaves its calls to the actor as they were
 pub gone_step : (c a : ℕ) (h : History) (event : Event) → IsGone c a h → refusal_of h event ≡ None → StaysGone c a h (add_event h event)
 gone_step c a h (Submit d b method args) gone accepted = record {
   gone = gone;
@@ -111,6 +114,7 @@ gone_step c a h (Retire b) gone accepted = record { gone = gone; calls = refl }
 
 -- ---- a note says how many calls there are, for good
 
+-- of a note: its caller holds no copy, and it tells the number of the caller's calls to the actor
 abbrev pub IsSoundNote : History → Letter → Type 0
 IsSoundNote h (CallLetter c a n) = Unit {0}
 IsSoundNote h (NoteLetter c a n) = IsGone c a h × (n ≡ length (calls_to a (calls_of c h)))

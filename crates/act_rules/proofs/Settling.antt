@@ -14,6 +14,7 @@ argument_stays before after more (Fut j) known = go (kept_at before j) refl know
     go None e h = cc
     go (Some answer) e h = let there : kept_at after j ≡ Some answer = more j answer e in (rw there refl, rw (there, e) refl)
 
+-- where more answers are kept, arguments that were known are known, and settle as they did
 pub arguments_stay : (before after : List (Option Answer)) → Extends before after → (args : List Arg) → list_all (is_known before) args ≡ true → (list_all (is_known after) args ≡ true) × (map (settle after) args ≡ map (settle before) args)
 arguments_stay before after more [] known = (refl, refl)
 arguments_stay before after more (arg ∷ args) known =

@@ -22,6 +22,7 @@ pub record IsSound (h : History) : Type 0 where
   pub order : InOrder h
   pub submitted : AreSubmitted h
 
+-- each accepted event keeps a history sound
 pub sound_step : IsKept IsSound
 sound_step h event s accepted = record {
   posts = posts_step h event s.posts accepted;
@@ -30,6 +31,7 @@ sound_step h event s accepted = record {
   submitted = submitted_step h event s.posts s.letters s.submitted;
 }
 
+-- a history is sound after any events from an opening
 pub world_sound : (casts : List ActorSpec) (events : List Event) → IsSound (after_all (opening casts) events)
 world_sound casts events = after_all_keeps IsSound sound_step (opening casts) events (record {
   posts = record { posts = tt; collected = tt };
@@ -60,6 +62,7 @@ pub record IsKeptFrom (h : History) (c k : ℕ) (answer : Answer) : Type 0 where
   pub at : slice_get (calls_of c h) k ≡ Some call
   pub from : IsFrom h c k call.actor answer
 
+-- where the posts are sound, each kept answer has such a call and such a post
 pub kept_from : (h : History) (c k : ℕ) (answer : Answer) → PostsAreSound h → kept_at (kept_of c h) k ≡ Some answer → IsKeptFrom h c k answer
 kept_from h c k answer s e = go (slice_get (calls_of c h) k) refl (sym (kept_at_is h c k) ∙ e)
   where
@@ -99,6 +102,7 @@ reply_alive h c k b d a place answer e = go (opening_of a h) (cond_some ((d == c
     go None e = cc
     go (Some state) e = answer_alive state (runs_of a h) place answer e
 
+-- in a sound history a kept answer other than a death is that of the one run of its call
 pub answers_are : (h : History) (c k : ℕ) (answer : Answer) → IsSound h → kept_at (kept_of c h) k ≡ Some answer → answer ≢ Err ActorDied → IsAnswerOfRun (λ x. opening_of x h) (λ x. runs_of x h) c k answer
 answers_are h c k answer s e alive = let kept = kept_from h c k answer s.posts e in go kept.call.actor kept.from.post kept.from.sound kept.from.gives
   where
@@ -108,6 +112,7 @@ answers_are h c k answer s e alive = let kept = kept_from h c k answer s.posts e
         let died : Some (Err ActorDied) ≡ Some answer = (cond_some ((d == c) && (a == b)) (Some (Err ActorDied)) answer gives).1 in
         absurd (alive (let same : Err ActorDied ≡ answer = cc in sym same))
 
+-- in a sound history a death is kept only for a call to a dead actor
 pub deaths_are : (h : History) (c k : ℕ) → IsSound h → kept_at (kept_of c h) k ≡ Some (Err ActorDied) → IsCallToDead (λ x. calls_of x h) (λ x. is_dead x h) c k
 deaths_are h c k s e = let kept = kept_from h c k (Err ActorDied) s.posts e in record { call = kept.call; at = kept.at; dead = go kept.call.actor kept.from.post kept.from.sound kept.from.gives }
   where
@@ -126,6 +131,7 @@ under-all P a (run ∷ ran) all = go (run.0 == a) (under-all P a ran all.1)
     go true rest = (all.0, rest)
     go false rest = rest
 
+-- a sound history is consistent
 pub consistent : (h : History) → IsSound h → Consistent (λ a. opening_of a h) (λ c. calls_of c h) (λ a. runs_of a h) (λ c. kept_of c h) (λ a. is_dead a h)
 consistent h s = record {
   in_order = s.order;

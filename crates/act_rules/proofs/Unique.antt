@@ -88,6 +88,7 @@ held_submission h a c k place item order at caller future =
     let call = calls_to-at a (calls_of c h) (rank c place (runs_of a h)) found.0 found.1 in
     (found.0.1, subst (λ (j : ℕ). slice_get (calls_of c h) j ≡ Some found.0.1) found.2 call.at, call.actor)
 
+-- where calls ran in order, two places of run lists that hold the same call are one
 pub one_place : (h : History) (c k a place b q : ℕ) (item other : RunItem) → InOrder h → slice_get (runs_of a h) place ≡ Some item → item.caller ≡ c → item.future ≡ k → slice_get (runs_of b h) q ≡ Some other → other.caller ≡ c → other.future ≡ k → (b ≡ a) × (q ≡ place)
 one_place h c k a place b q item other order at caller future at' caller' future' =
     let first = held_submission h a c k place item order at caller future in
