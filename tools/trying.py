@@ -11,6 +11,9 @@ Two edits of one function are tried in one check, too: the second is made in a c
 with what is written of its proof. So is one that changes what a function promises. As a control, each function that is
 copied is copied once as it stands, too, and accepted.
 
+What is written of an edited function's proof has a line more, which can't stand. Of such a function the prover prints no
+answers to fill in. To print them takes as long as to look for its proof, and which goals aren't proved is told anyway.
+
 An edit counts as refused where its own function has a message that tells of a goal; one that has others alone is
 refused by its shape, and counts for nothing (tools/refusals.py). Each message of the check has to name a function that
 was edited. Else something that an edit did not change is refused, too: then a function counts only where nothing that
@@ -53,7 +56,14 @@ pub {name}_spec : {{M : Type 1}} → statement M
 {name}_spec = ?
 """
 # What stands in the place of a proof that is written out, and what the prover then wouldn't read.
-PROOF, PARTS_OF_A_PROOF = "Proof.antt", ("Answers.antt", "Invariants.antt")
+ANSWERS = "Answers.antt"
+PROOF, PARTS_OF_A_PROOF = "Proof.antt", (ANSWERS, "Invariants.antt")
+# What an edited function has beside its answers: with a line that can't stand the prover offers none to fill in.
+NO_ANSWER = "no-answer-of-an-edit"
+UNFILLED = f"""
+pub {NO_ANSWER} : {NO_ANSWER}-asked
+{NO_ANSWER} = {NO_ANSWER}-asked
+"""
 
 VERDICT = re.compile(r"fn (\S+): (.*)")
 # A closure, what a type's end runs, or one of a cycle: each has its proof elsewhere.
@@ -117,10 +127,15 @@ def put(path, text):
         path.write_text(text)
 
 
+def folder_of(symbol):
+    """The folder of what is written of a function's proof."""
+    return "/".join(["proofs", *symbol.split("::")[1:]])
+
+
 def hole_of(symbol):
     """The files of a function's proof, where that is a hole."""
     names = symbol.split("::")[1:]
-    folder, module = "/".join(["proofs", *names]), ".".join([symbol.split("::")[0], "proofs", *names])
+    folder, module = folder_of(symbol), ".".join([symbol.split("::")[0], "proofs", *names])
     written = dict.fromkeys(f"{folder}/{part}" for part in PARTS_OF_A_PROOF)
     return written | {f"{folder}/{PROOF}": HOLE.format(module=module, name=names[-1])}
 
@@ -220,12 +235,23 @@ class Trial:
     def check_edited(self, group):
         """The lines of a check of a group of edits, or none where it tells nothing."""
         control = self.control(group)
-        asked = [*(it for named in (*group.functions.values(), *group.same.values()) for it in named), *control]
-        said = self.said_of(group.texts, asked)
+        edited = [it for named in group.functions.values() for it in named]
+        asked = [*edited, *(it for named in group.same.values() for it in named), *control]
+        said = self.said_of(self.unfilled(group.texts, edited), asked)
         if not said or any(is_refused(verdicts_in(said).get(it, NOT_TOLD)) for it in control):
             return []
         self.controlled |= {*control.values()}
         return said
+
+    def unfilled(self, texts, functions):
+        """These texts, where the answers of each of these functions have a line more, which can't stand."""
+        texts = dict(texts)
+        for symbol in functions:
+            file, proof = (f"{folder_of(symbol)}/{part}" for part in (ANSWERS, PROOF))
+            if not (texts.get(proof) or Path(self.crate.folder, proof).is_file()):
+                path = Path(self.crate.folder, file)
+                texts[file] = (texts.get(file) or (path.read_text() if path.is_file() else "")) + UNFILLED
+        return texts
 
     def said_of(self, texts, asked):
         """The lines of a check of these functions, where the crate has these texts and all others are bare; none where
@@ -439,7 +465,7 @@ def own_messages_of(said, functions, may_rest):
     for symbol, place in functions.items():
         verdict = verdicts.get(symbol, "")
         if is_refused(verdict) or may_rest and REFUSED_VERDICT.match(verdict):
-            found[symbol] = [*own_messages(said, symbol, place)]
+            found[symbol] = [it for it in own_messages(said, symbol, place) if NO_ANSWER not in it[0]]
     return {symbol: messages for symbol, messages in found.items() if messages}
 
 

@@ -1,5 +1,5 @@
 -- That a caller's task may go to its thread, and that what it leaves may come back. The prover finds no way through the
--- resolver's `Snapshot`, so the parts are searched for one after another.
+-- caller that both have in them, so that is passed on as found.
 use mir.Syntax.{Sym}
 use mathlib.Core.List.{[], ◌∷◌}
 use denote.RattleType.{RattleType}
@@ -9,18 +9,11 @@ use denote.Struct.Tuple.{TupleAt, type_at}
 use denote.Param.Send.{IsSend, sendable, recorded_send, struct_send}
 use Rattle.std.proofs.Crossing.{crosses}
 use Rattle.act_rules.proofs.script.Step.TheSendSync as step
-use Rattle.act_resolver.specs.contracts.resolver.Resolver as resolver
-use Rattle.act_owner.specs.contracts.owner.Owner as owner
+use Rattle.act_owner.proofs.Sent.{owner_part}
 use Rattle.act_drive.proofs.driver.CallerLines.TheSendSync as lines
 use Rattle.act_drive.proofs.driver.CallerPasses.TheSendSync as passes
 use Rattle.act_drive.specs.contracts.caller.Driven as driven
 use Rattle.act_executor.specs.contracts.work.Driving as driving
-
-resolver_part : IsSend (resolver.the_field).row
-resolver_part = search (crosses, sendable) depth 60 fits 20000
-
-owner_part : IsSend (owner.the_field).row
-owner_part = search (resolver_part, crosses, sendable) depth 60 fits 20000
 
 -- what a caller's thread is given may go there, where its conduct and its notes may
 pub driving_sent : (a : NamedLft) (D N : RattleType) → IsSend D → IsSend N → IsSend (driving.the_row a D N)
