@@ -16,6 +16,7 @@ pub use Rattle.act_inbox.proofs.Taking.{next_taken, sound_then}
 pub use Rattle.act_inbox.specs.Inbox.{InboxView, IsNextTaken, IsOpened, arrival_of, handed_of, is_lane_of, lane_at_first, lane_of, next_of, note_of, with_held}
 pub use Rattle.act_inbox.specs.View.{IsInbox}
 pub use Rattle.act_inbox.specs.declared.inbox.Lane.{Lane}
+pub use Rattle.act_lists.proofs.Lists.{place_in, slice_get_pushed}
 pub use Rattle.act_owner.proofs.Life.{after_all-append, packet_stays_all, places_all, step}
 pub use Rattle.act_owner.proofs.Told.{sent_stays_all}
 pub use Rattle.act_owner.specs.Life.{Change, Copied, Noticed, Released, Sent, Submitted, after_change, after_changes, is_known_at}
@@ -25,13 +26,14 @@ pub use Rattle.act_owner.specs.Owner.{with_submission}
 pub use Rattle.act_owner.specs.declared.owner.Collected.TheVariants.{First, Late, Stray}
 pub use Rattle.act_plans.specs.Runs.{cast_at, limits_naming}
 pub use Rattle.act_rules.proofs.Ended.{contains_more, needs-none, under-push}
+pub use Rattle.act_rules.proofs.Events.{run_collected}
 pub use Rattle.act_rules.proofs.Finding.{find-None, find-Some, find-tells, position_or_len-Some}
 pub use Rattle.act_rules.proofs.Growth.{Grows, added_grows}
 pub use Rattle.act_rules.proofs.Kept.{answer_at-front}
-pub use Rattle.act_rules.proofs.Letters.{IsSoundLetter, calls_to-number, letter_is}
+pub use Rattle.act_rules.proofs.Letters.{IsSoundLetter, calls_to-number, has_front, has_last, letter_is}
 pub use Rattle.act_rules.proofs.Lists.{All-two, AllPairs-map, All_at, All_more, more_front, option_map-none, option_or-none, slice_get_front, whole_front}
 pub use Rattle.act_rules.proofs.Posts.{next_item_caller}
-pub use Rattle.act_rules.proofs.RanAll.{AllNamed}
+pub use Rattle.act_rules.proofs.RanAll.{AllNamed, named_call}
 pub use Rattle.act_rules.proofs.Retired.{calls_to-push, gone_step, times-push}
 pub use Rattle.act_rules.proofs.Steps.{IsKept, outcomes-append}
 pub use Rattle.act_rules.specs.Consistent.{IsPrefix}
@@ -76,9 +78,8 @@ pub use Rattle.act_world.proofs.Copying.{copy_follows}
 pub use Rattle.act_world.proofs.Delivering.{deliver_follows}
 pub use Rattle.act_world.proofs.Frames.{not_owner, still_lives}
 pub use Rattle.act_world.proofs.Killing.{contains-last, kill_follows}
-pub use Rattle.act_world.proofs.Lawful.{IsLawful, IsNamedLetter, has_letter-more, lawful_step, named_caller, sent_call_named, world_lawful}
+pub use Rattle.act_world.proofs.Lawful.{IsLawful, IsNamedLetter, has_letter-more, lawful_step, named_caller, world_lawful}
 pub use Rattle.act_world.proofs.Lists.{contains-more, get_set-other, get_set-same}
-pub use Rattle.act_world.proofs.Mail.{has_last}
 pub use Rattle.act_world.proofs.NextCall.{item_is, next_is}
 pub use Rattle.act_world.proofs.OneCaller.{needs_holds}
 pub use Rattle.act_world.proofs.OpenedOwners.{nothing_asked, owners_opened}

@@ -11,7 +11,8 @@ use Rattle.act_world.proofs.Telling.{tell_follows, dead_is as dead_seen_is}
 use Rattle.act_causes.proofs.Made.{owner_same, dead_is, actors_stay, actors_killed, actors_retired}
 use Rattle.act_causes.proofs.Marks.{last_post}
 use Rattle.act_causes.proofs.Keeping.{Keeps, GoesOn, go_on, cast_is}
-use Rattle.act_causes.proofs.Standing.{Lives, lives, some_cast, inboxes_set, naming_free}
+use Rattle.act_causes.proofs.Standing.{Lives, lives, inboxes_set, naming_free}
+use Rattle.act_rules.proofs.Events.{some_cast}
 
 note_is : (n : ℕ) (o : Option ℕ) → is_note_of n o ≡ true → o ≡ Some n
 note_is n None e = cc

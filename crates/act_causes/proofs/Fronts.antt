@@ -3,7 +3,7 @@ use Rattle.act_causes.proofs.Common.{◌≡◌, ℕ, zero, suc, Bool, true, fals
 use Rattle.act_causes.proofs.Common.{slice_get, unwrap_or, replicate, list_any, cons_option, append-nil, append_assoc, Answered, Death, Event, Letter, Post}
 use Rattle.act_causes.proofs.Common.{RunItem, ActorSpec, History, kept_of, next_item, history, add_event, after_run, and_also, is_known_dead, Change, Copied}
 use Rattle.act_causes.proofs.Common.{Released, Submitted, Sent, Noticed, is_death_to, Deed, Changed, AskedKill, TookCall, TookNote, Ran, TookKill, ToldDeath}
-use Rattle.act_causes.proofs.Common.{Retired, owner_by, owner_after, IsEventOf, IsPlayOfDeeds}
+use Rattle.act_causes.proofs.Common.{Retired, owner_by, owner_after, IsEventOf, IsPlayOfDeeds, run_collected}
 use Rattle.act_rules.specs.declared.history.Letter.TheVariants.{Call as CallLetter, Note as NoteLetter}
 use Rattle.act_rules.specs.declared.history.Post.TheVariants.{Reply as ReplyPost, Death as DeathPost}
 use Rattle.act_causes.proofs.Keeping.{Keeps, told_of, owner_of, is_named}
@@ -99,10 +99,6 @@ one_front casts before first (one ∷ deeds) (other ∷ events) deed event front
 )
 
 -- ---- what is collected and what arrives
-
-run_collected : (a c : ℕ) (h : History) (o : Option RunItem) → (after_run a c h o).collected ≡ h.collected
-run_collected a c h None = refl
-run_collected a c h (Some item) = refl
 
 pub collected_more : (h : History) (deed : Deed) (event : Event) → IsEventOf h deed event → (add_event h event).collected ≡ h.collected ++ cons_option (post_of deed) []
 collected_more h (Changed c (Copied a)) event is = ap (λ (e : Event). (add_event h e).collected) is ∙ sym (append-nil h.collected)

@@ -6,13 +6,14 @@ use Rattle.act_causes.proofs.Common.{TakeKill, Tell, Retire, Did, WorldRefusal, 
 use Rattle.act_causes.proofs.Common.{cast_of, names, is_caller, has_letter, next_item, calls_of, kept_of, first_answer, refusal_of, outcome_by, outcome_of}
 use Rattle.act_causes.proofs.Common.{add_event, after_run, after_by, after, whole_front, more_front, added_grows, contains_more, IsInbox, packet_at, is_sent}
 use Rattle.act_causes.proofs.Common.{Change, Copied, Released, Submitted, Sent, Noticed, is_known_at, cast_at, is_owner, SlotView, Runs, WorldView, IsOwnerOf}
-use Rattle.act_causes.proofs.Common.{IsOwnerAt, Refines, IsLawful, lawful_step, sent_call_named, named_caller, Deed, Changed, AskedKill, TookCall, TookNote}
-use Rattle.act_causes.proofs.Common.{Ran, TookKill, ToldDeath, Retired, IsNamed, owner_by, change_of, changes_by, owner_after, IsEventOf}
+use Rattle.act_causes.proofs.Common.{IsOwnerAt, Refines, IsLawful, lawful_step, named_caller, Deed, Changed, AskedKill, TookCall, TookNote}
+use Rattle.act_causes.proofs.Common.{Ran, TookKill, ToldDeath, Retired, IsNamed, owner_by, change_of, changes_by, owner_after, IsEventOf, named_call}
 use Rattle.act_rules.specs.declared.history.Letter.TheVariants.{Call as CallLetter, Note as NoteLetter}
 use Rattle.act_rules.specs.declared.history.Post.TheVariants.{Death as DeathPost}
 use Rattle.act_causes.proofs.Unrefused.{IsUnrefused, AreUnrefused, unrefused_more}
 use Rattle.act_causes.proofs.Made.{known_on, sent_on, AreActorsOf}
-use Rattle.act_causes.proofs.Marks.{HasPost, AreReplied, AreNoted, letters_stay, post_stays, replied_step, noted_step}
+use Rattle.act_causes.proofs.Marks.{HasPost, AreReplied, AreNoted, post_stays, replied_step, noted_step}
+use Rattle.act_rules.proofs.Letters.{has_front}
 
 -- ---- what each deed has left
 
@@ -64,7 +65,7 @@ asked_grows h (Tell a c) = whole_front h.asked
 asked_grows h (Retire a) = whole_front h.asked
 
 arrived_stays : (h : History) (event : Event) (letter : Letter) → has_letter letter h.arrived ≡ true → has_letter letter (add_event h event).arrived ≡ true
-arrived_stays h event letter has = letters_stay letter h.arrived (add_event h event).arrived (added_grows h event).arrived has
+arrived_stays h event letter has = has_front letter h.arrived (add_event h event).arrived (added_grows h event).arrived has
 
 -- what a deed has left stays
 left_stays : (casts : List ActorSpec) (deeds : List Deed) (deed : Deed) (h : History) (event : Event) (one : Deed) → HasLeft casts deeds h one → HasLeft casts (deeds ++ deed ∷ []) (add_event h event) one
@@ -253,7 +254,7 @@ stranger_calls h c all stranger = go (calls_of c h) refl
     go : (calls : List Submission) → calls_of c h ≡ calls → calls_of c h ≡ []
     go [] e = e
     go (call ∷ calls) e =
-        let named = sent_call_named h c 0 call all (ap (λ (l : List Submission). slice_get l 0) e) in
+        let named = named_call h c 0 call all (ap (λ (l : List Submission). slice_get l 0) e) in
         let bad : true ≡ false = sym (named_caller c call.actor h named) ∙ stranger in cc
 
 -- each caller's calls and answers, as the deeds leave them

@@ -1,12 +1,12 @@
 -- What every history keeps of replies and notes: each call that ran was replied to, and each last release sent its note.
-use Rattle.act_causes.proofs.Common.{◌≡◌, ℕ, zero, suc, ◌+◌, ◌-◌, ◌<◌, Bool, true, false, cond, List, [], ◌∷◌, ◌++◌, length, Some, None, ◌⊎◌, inl, inr, refl}
+use Rattle.act_causes.proofs.Common.{◌≡◌, ℕ, zero, suc, ◌+◌, ◌-◌, ◌<◌, Bool, true, false, cond, List, [], ◌∷◌, ◌++◌, length, Some, None, inl, inr, refl}
 use Rattle.act_causes.proofs.Common.{ap, sym, ◌∙◌, subst, arith, Option, ◌==◌, ◌&&◌, slice_get, option_map, is_some, nat_lt, eqb-true, eq-eqb, ltb-true}
 use Rattle.act_causes.proofs.Common.{and_parts, eqb_tells, Event, Submit, Copy, Release, Send, Deliver, Run, Collect, AskKill, TakeKill, Tell, Retire, Letter}
 use Rattle.act_causes.proofs.Common.{Post, RunItem, Submission, NoActor, NoHandle, TooManyCopies, NoCaller, Handle, IsPrefix, calls_to, needs, copies_held}
 use Rattle.act_causes.proofs.Common.{copy_refusal, handle_refusal, ActorSpec, History, opening, is_caller, cast_of, names, count_pairs, calls_of, copies_of}
 use Rattle.act_causes.proofs.Common.{runs_of, has_letter, next_item, refusal_of, add_event, after_run, is_last, and_also, slice_get_front, option_map-none}
-use Rattle.act_causes.proofs.Common.{added_grows, IsKept, needs-none, next_item_caller, times-push, gone_step, has_letter-more, has_last, ran_on, runs_here}
-use Rattle.act_causes.proofs.Common.{runs_other}
+use Rattle.act_causes.proofs.Common.{added_grows, IsKept, needs-none, next_item_caller, times-push, gone_step, has_last, ran_on, runs_here}
+use Rattle.act_causes.proofs.Common.{runs_other, slice_get_pushed, has_front}
 use Rattle.act_rules.specs.declared.history.Letter.TheVariants.{Note as NoteLetter}
 use Rattle.act_rules.specs.declared.history.Post.TheVariants.{Reply as ReplyPost}
 
@@ -26,13 +26,6 @@ pub last_post : (posts : List Post) (post : Post) → (j : ℕ) × (slice_get (p
 last_post [] post = (zero, refl)
 last_post (x ∷ posts) post = let rest = last_post posts post in (suc rest.0, rest.1)
 
--- what stands in a list with one element more
-pub pushed : {A : Type 0} (xs : List A) (x : A) (k : ℕ) (y : A) → slice_get (xs ++ x ∷ []) k ≡ Some y → (slice_get xs k ≡ Some y) ⊎ ((k ≡ length xs) × (x ≡ y))
-pushed [] x zero y e = inr (refl, cc)
-pushed [] x (suc k) y e = cc
-pushed (z ∷ xs) x zero y e = inl e
-pushed (z ∷ xs) x (suc k) y e = elim (pushed xs x k y e) [ inl t ↦ inl t | inr f ↦ inr (ap suc f.0, f.1) ]
-
 replied_stays : (h : History) (event : Event) → (add_event h event).ran ≡ h.ran → AreReplied h → AreReplied (add_event h event)
 replied_stays h event ran replied a place item e =
     let was : slice_get (runs_of a h) place ≡ Some item = rw ran at e in
@@ -41,7 +34,7 @@ replied_stays h event ran replied a place item e =
 replied_run : (h : History) (b d : ℕ) (item : RunItem) → item.caller ≡ d → AreReplied h → AreReplied (ran_on h b d item)
 replied_run h b d item mine replied a place x e = elim (eqb_tells b a) [
   | inl t ↦
-      elim (pushed (runs_of b h) item place x (sym (ap (λ (items : List RunItem). slice_get items place) (runs_here h b d item)) ∙ subst (λ (n : ℕ). slice_get (runs_of n (ran_on h b d item)) place ≡ Some x) (sym t.1) e)) [
+      elim (slice_get_pushed (runs_of b h) item place x (sym (ap (λ (items : List RunItem). slice_get items place) (runs_here h b d item)) ∙ subst (λ (n : ℕ). slice_get (runs_of n (ran_on h b d item)) place ≡ Some x) (sym t.1) e)) [
         | inl was ↦ front (replied a place x (subst (λ (n : ℕ). slice_get (runs_of n h) place ≡ Some x) t.1 was))
         | inr last ↦
             let post : ReplyPost d b (length (runs_of b h)) ≡ ReplyPost x.caller a place =
@@ -81,15 +74,12 @@ last_letter h c a = NoteLetter c a (length (calls_to a (calls_of c h)))
 abbrev pub AreNoted : History → Type 0
 AreNoted h = (c a : ℕ) → copies_of c a h ≡ Some 0 → has_letter (last_letter h c a) h.mail ≡ true
 
-pub letters_stay : (letter : Letter) (xs ys : List Letter) → IsPrefix xs ys → has_letter letter xs ≡ true → has_letter letter ys ≡ true
-letters_stay letter xs ys front has = subst (λ (l : List Letter). has_letter letter l ≡ true) front.1 (has_letter-more letter xs front.0 has)
-
 -- a note that was sent stays, and counts the calls still
 noted_on : (h : History) (event : Event) → refusal_of h event ≡ None → AreNoted h → (c a : ℕ) → copies_of c a h ≡ Some 0 → has_letter (last_letter (add_event h event) c a) (add_event h event).mail ≡ true
 noted_on h event accepted noted c a none =
     let stays = gone_step c a h event (ap copies_held none) accepted in
     subst (λ (calls : List (ℕ × Submission)). has_letter (NoteLetter c a (length calls)) (add_event h event).mail ≡ true) (sym stays.calls)
-    (letters_stay (last_letter h c a) h.mail (add_event h event).mail (added_grows h event).mail (noted c a none))
+    (has_front (last_letter h c a) h.mail (add_event h event).mail (added_grows h event).mail (noted c a none))
 
 -- who may copy or release holds a copy
 copier_holds : (h : History) (c a : ℕ) → refusal_of h (Copy c a) ≡ None → 0 < copies_held (copies_of c a h)

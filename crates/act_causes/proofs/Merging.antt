@@ -1,8 +1,8 @@
 -- Deeds of threads, merged by their stamps.
 use Rattle.act_causes.proofs.Common.{◌≡◌, ◌≢◌, ℕ, zero, suc, ◌≤◌, ◌<◌, ◌==◌, Bool, true, false, cond, List, [], ◌∷◌, ◌++◌, Some, refl, sym, ap, subst, ◌∙◌}
 use Rattle.act_causes.proofs.Common.{arith, find, map, filter, slice_get, nat_le, AllPairs, AllByRecursion, eqb-true, eq-eqb, ne_eqb, leb-true, leb-false}
-use Rattle.act_causes.proofs.Common.{map-append, filter-append, All-from_recursion, recursion_from_All, All-head, All-tail, AllPairs-cons, slice_get-get_or}
-use Rattle.act_causes.proofs.Common.{under, Thread, deeds_in, deeds_of, AreApart, NeverFall, IsMergeOf, contains-more}
+use Rattle.act_causes.proofs.Common.{map-append, filter-append, All-from_recursion, recursion_from_All, All-head, All-tail, AllPairs-cons}
+use Rattle.act_causes.proofs.Common.{under, Thread, deeds_in, deeds_of, AreApart, NeverFall, IsMergeOf, contains-more, place_in}
 use Rattle.std.proofs.Common.{append-nil}
 use Rattle.std.specs.List.{Contains}
 
@@ -244,9 +244,6 @@ rises_of {A = A} t (thread ∷ threads) never = go (thread.number == t) (rises_o
 
 -- ---- the merge
 
-place_of : {A : Type 0} (xs : List A) (x : A) → Contains xs x → (k : ℕ) × (slice_get xs k ≡ Some x)
-place_of xs x c = (c.0, slice_get-get_or xs c.0 x c.1 ∙ ap Some c.2)
-
 module _ {A : Type 0} (threads : List (Thread A)) (merged : List (Deed A)) (each : (t : ℕ) → under t merged ≡ deeds_of t threads) (order : InOrder merged) where
   split : (before later : List (Deed A)) (t : ℕ) → merged ≡ before ++ later → under t before ++ under t later ≡ deeds_of t threads
   split before later t e = sym (under-append t before later) ∙ ap (under t) (sym e) ∙ each t
@@ -259,7 +256,7 @@ module _ {A : Type 0} (threads : List (Thread A)) (merged : List (Deed A)) (each
 
   causes : (before later : List (Deed A)) (u m : ℕ) (y : A) → merged ≡ before ++ (u, (m, y)) ∷ later → (t n : ℕ) (x : A) → Contains (deeds_of t threads) (n, x) → n < m → Contains before (t, (n, x))
   causes before later u m y e t n x has lt =
-      let place = place_of (deeds_of t threads) (n, x) has in
+      let place = place_in (deeds_of t threads) (n, x) has in
       in_list t before place.0 (n, x) (places before later u m y e t place.0 n x place.1 lt)
 
   own : (before later : List (Deed A)) (u m : ℕ) (y : A) → merged ≡ before ++ (u, (m, y)) ∷ later → (rest : List (ℕ × A)) × (under u before ++ (m, y) ∷ rest ≡ deeds_of u threads)

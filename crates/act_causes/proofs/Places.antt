@@ -1,7 +1,7 @@
 -- Where something stands in a list, once it was found there.
-use Rattle.act_causes.proofs.Common.{◌≡◌, ◌≢◌, ℕ, zero, suc, ◌<◌, Bool, true, false, List, [], ◌∷◌, length, Option, Some, None, refl, ap, sym, ◌∙◌, get_or}
-use Rattle.act_causes.proofs.Common.{◌||◌, find, position, slice_get, slice_set, eqb-true, eq-eqb, find-set, find_past, position-Some, Letter, is_letter}
-use Rattle.act_causes.proofs.Common.{has_letter, find-Some, find-None, position_or_len-Some, letter_is, OwnerView, is_owner, not_owner}
+use Rattle.act_causes.proofs.Common.{◌≡◌, ◌≢◌, ℕ, ◌<◌, Bool, List, [], length, Option, Some, None, refl, sym, ◌∙◌, get_or}
+use Rattle.act_causes.proofs.Common.{find, position, slice_set, eqb-true, eq-eqb, find-set, find_past, position-Some}
+use Rattle.act_causes.proofs.Common.{find-Some, find-None, position_or_len-Some, OwnerView, is_owner, not_owner}
 
 -- what is found stands at its place
 pub record IsFoundAt {X : Type 0} (p : X → Bool) (xs : List X) (x : X) : Type 0 where
@@ -22,15 +22,6 @@ found_at {X = X} p xs x e = go (position p xs) refl
       is = let same : Some x ≡ Some (get_or xs i x) = sym e ∙ find-Some p xs i x at in cc;
       below = (position-Some p xs i x at).0;
     }
-
--- a letter that is there has a place
-pub letter_place : (letter : Letter) (letters : List Letter) → has_letter letter letters ≡ true → (i : ℕ) × (slice_get letters i ≡ Some letter)
-letter_place letter [] e = cc
-letter_place letter (x ∷ letters) e = go (is_letter letter x) refl (letter_place letter letters) e
-  where
-    go : (b : Bool) → is_letter letter x ≡ b → (has_letter letter letters ≡ true → (i : ℕ) × (slice_get letters i ≡ Some letter)) → (b || has_letter letter letters) ≡ true → (i : ℕ) × (slice_get (x ∷ letters) i ≡ Some letter)
-    go true is rest e = (zero, ap (λ (l : Letter). Some l) (sym (letter_is letter x is)))
-    go false is rest e = let there = rest e in (suc there.0, there.1)
 
 -- ---- a caller is written at its place
 

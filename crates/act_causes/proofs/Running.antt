@@ -12,7 +12,8 @@ use Rattle.act_actor.specs.Actor.{item_of as item_made, packet_of_item, reply_of
 use Rattle.act_causes.proofs.Keeping.{Keeps, GoesOn, HasInbox, go_on, named_is, cast_is, owner_of}
 use Rattle.act_causes.proofs.Made.{AreActorsOf, owner_same, actors_ran}
 use Rattle.act_causes.proofs.Places.{found_at}
-use Rattle.act_causes.proofs.Standing.{lives, some_cast, inboxes_set}
+use Rattle.act_causes.proofs.Standing.{lives, inboxes_set}
+use Rattle.act_rules.proofs.Events.{some_cast}
 
 -- ---- the actor
 

@@ -26,11 +26,6 @@ lives_at h slots a cast on stage = go (slice_get slots a) refl stage
     go (Some (Died dead)) at is = let bad : true ≡ false = sym is.died ∙ (ended (is_dead a h) (is_retired a h) on).0 in cc
     go (Some (Ended retired)) at is = let bad : true ≡ false = sym is.ended ∙ (ended (is_dead a h) (is_retired a h) on).1 in cc
 
--- who is named has a cast that names it
-pub some_cast : (c : ℕ) (o : Option ActorSpec) → names c o ≡ true → is_some o ≡ true
-some_cast c None e = cc
-some_cast c (Some cast) e = refl
-
 -- one actor changes, and each inbox is as any inbox is
 pub inboxes_set : (slots : List SlotView) (a : ℕ) (old new : SlotView) → slice_get slots a ≡ Some old → HasInbox (Some new) → ((b : ℕ) → HasInbox (slice_get slots b)) → (b : ℕ) → HasInbox (slice_get (slice_set slots a new) b)
 inboxes_set slots a old new at has all b = elim (eqb_tells a b) [

@@ -11,9 +11,10 @@ use Rattle.act_world.specs.declared.network.MailEntry.TheVariants.{Call as CallE
 use Rattle.act_causes.proofs.Inboxes.{takes_call, takes_note}
 use Rattle.act_causes.proofs.Keeping.{Keeps, GoesOn, HasLeft, HasInbox, IsFree, go_on, cast_is, owner_of}
 use Rattle.act_causes.proofs.Made.{owner_same, IsNoEnd, actors_stay}
-use Rattle.act_causes.proofs.Places.{letter_place}
 use Rattle.act_causes.proofs.Unrefused.{AreUnrefused, unrefused_front, unrefused_rest, sent_known, gone_stays, deed_of}
-use Rattle.act_causes.proofs.Standing.{Lives, lives, some_cast, inboxes_set}
+use Rattle.act_causes.proofs.Standing.{Lives, lives, inboxes_set}
+use Rattle.act_rules.proofs.Letters.{letter_place}
+use Rattle.act_rules.proofs.Events.{some_cast}
 
 -- the letter of a call that its caller sent is in the mail
 sent_letter : (h : History) (c k : ℕ) (owner : OwnerView) (packet : Packet) → IsOwnerOf h c owner → is_sent owner k ≡ true → packet_at owner k ≡ Some packet → has_letter (CallLetter c packet.actor packet.number) h.mail ≡ true

@@ -12,6 +12,7 @@ pub use Rattle.act_drive.specs.Driven.{KeptOn}
 pub use Rattle.act_drive.specs.Sessions.{IsLater, SessionView, Submits, session_view}
 pub use Rattle.act_handles.proofs.Lookups.{copies-with_number}
 pub use Rattle.act_handles.specs.Handles.{copies_in}
+pub use Rattle.act_lists.proofs.Lists.{filter_mapped}
 pub use Rattle.act_owner.proofs.Life.{step}
 pub use Rattle.act_owner.specs.Life.{Noticed, Submitted}
 pub use Rattle.act_owner.specs.Owner.{OwnerView, after_collect, call_at, numbered_call, opened_with, with_submission}

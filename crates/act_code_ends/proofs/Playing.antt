@@ -1,9 +1,9 @@
 -- What a world that played events says of their history, beside what codes left.
-use Rattle.act_code_ends.proofs.Common.{◌≡◌, ◌↔◌, ℕ, zero, suc, ◌<◌, Bool, true, false, if◌then◌else◌, refl, map, filter, List, [], ◌∷◌, ◌++◌, length, Option}
+use Rattle.act_code_ends.proofs.Common.{◌≡◌, ◌↔◌, ℕ, zero, suc, ◌<◌, true, map, filter, List, [], ◌∷◌, ◌++◌, length, Option}
 use Rattle.act_code_ends.proofs.Common.{Some, ap, sym, ◌∙◌, subst, arith, All, IsOk, IsTrue, is_some, list_all, Event, map-map, KindState, Cast, actor_spec}
 use Rattle.act_code_ends.proofs.Common.{limits_that_name, ActorSpec, History, opening, contains, calls_of, kept_of, Outcome, outcomes, kept_at, Answer}
 use Rattle.act_code_ends.proofs.Common.{OwnerView, opened_with, WorldView, IsOwnerAt, IsReachedBy, HasPlayed, SessionView, AreSame, HasEnded, IsThrough}
-use Rattle.act_code_ends.proofs.Common.{opened_of}
+use Rattle.act_code_ends.proofs.Common.{opened_of, filter_mapped}
 
 kept_below : (kept : List (Option Answer)) (k : ℕ) (answer : Answer) → kept_at kept k ≡ Some answer → k < length kept
 kept_below [] k answer has = absurd (cc has)
@@ -29,14 +29,6 @@ through_is makes tells opened h c owner other same places at ended answered = re
 }
 
 -- ---- how a caller was opened
-
-kept_step : {X Y : Type 0} (f : X → Y) (x : X) (xs : List X) (ys : List Y) (b : Bool) → ys ≡ map f xs → (if b then f x ∷ ys else ys) ≡ map f (if b then x ∷ xs else xs)
-kept_step f x xs ys true is = ap (λ (l : List _). f x ∷ l) is
-kept_step f x xs ys false is = is
-
-filter_mapped : {X Y : Type 0} (p : Y → Bool) (f : X → Y) (xs : List X) → filter p (map f xs) ≡ map f (filter (λ x. p (f x)) xs)
-filter_mapped p f [] = refl
-filter_mapped p f (x ∷ xs) = kept_step f x (filter (λ x. p (f x)) xs) (filter p (map f xs)) (p (f x)) (filter_mapped p f xs)
 
 -- as its casts open it
 pub opened_as : {K : Type 0} (state : K → KindState) (c : ℕ) (casts : List (Cast K)) → opened_with c (limits_that_name c casts) ≡ opened_of c (map (actor_spec state) casts)

@@ -23,6 +23,8 @@ pub use Rattle.act_executor.specs.PlanPlays.{IsPlayedAsPlanned}
 pub use Rattle.act_executor.specs.Plays.{IsEndIn, IsOwnerIn, IsPlayOf}
 pub use Rattle.act_executor.specs.Runs.{IsFault, plan_view}
 pub use Rattle.act_executor.specs.declared.run.RunFault.{RunFault}
+pub use Rattle.act_lists.proofs.Lists.{element}
+pub use Rattle.act_lists.proofs.Texts.{appends_more}
 pub use Rattle.act_owner.specs.Owner.{OwnerView}
 pub use Rattle.act_plans.proofs.Keys.{none_any, pairs_of_map}
 pub use Rattle.act_plans.proofs.Matching.{numbers_differ}
@@ -31,7 +33,7 @@ pub use Rattle.act_plans.proofs.Taking.{find_some}
 pub use Rattle.act_plans.specs.Runs.{first_bad_plan}
 pub use Rattle.act_plans.specs.Setups.{PlansFit}
 pub use Rattle.act_rules.proofs.Finding.{find-None}
-pub use Rattle.act_rules.proofs.Lists.{element, filter_map-same, find-map, length-filter_least, list_any-map}
+pub use Rattle.act_rules.proofs.Lists.{filter_map-same, find-map, length-filter_least, list_any-map, numbers_alike}
 pub use Rattle.act_rules.proofs.Steps.{after_all-append, outcomes-append}
 pub use Rattle.act_rules.specs.Grammar.{Script, spelled}
 pub use Rattle.act_rules.specs.History.{ActorSpec, History, actors_naming, calls_of, cast_of, contains, is_caller, is_dead, is_retired, kept_of, opening}

@@ -1,11 +1,11 @@
 -- A play that ends as the threads did shows their summary.
-use Rattle.act_console.proofs.Common.{◌≡◌, ℕ, zero, suc, ◌+◌, ◌<◌, ◌≤◌, ◌==◌, Bool, true, false, cond, List, [], ◌∷◌, ◌++◌, length, Option, Some, None, refl}
-use Rattle.act_console.proofs.Common.{ap, sym, ◌∙◌, subst, arith, ◌||◌, find, is_some, list_any, eqb-true, flat_map-append, space, actor_text, Event}
+use Rattle.act_console.proofs.Common.{◌≡◌, ℕ, ◌+◌, ◌<◌, ◌≤◌, ◌==◌, Bool, true, false, cond, List, [], ◌∷◌, ◌++◌, length, Option, Some, None, refl}
+use Rattle.act_console.proofs.Common.{ap, sym, ◌∙◌, subst, arith, ◌||◌, find, is_some, list_any, eqb-true, space, actor_text, Event}
 use Rattle.act_console.proofs.Common.{Submission, Step, Answer, state_after, kept_at, ActorSpec, opening, contains, cast_of, is_caller, calls_of, kept_of}
 use Rattle.act_console.proofs.Common.{runs_of, is_retired, history, one_to, numbered_lines, line, future_text, kept_text, future_line, future_lines}
 use Rattle.act_console.proofs.Common.{actor_lines, stage_of, summary, list_any-map, OwnerView, EndView, Killed, Retired, Starved, end_id, IfRetired, owner_of}
 use Rattle.act_console.proofs.Common.{end_of, calls_of_owner, kept_of_owner, log_of_end, calls_in, kept_in, log_in, RanAll, IsJoined, casts_stay, all_in}
-use Rattle.act_console.proofs.Common.{found_is, world_lawful, calls_are, IsOwnerIn, IsEndIn, IsPlayOf, end_text, end_text_in, none_any}
+use Rattle.act_console.proofs.Common.{found_is, world_lawful, calls_are, IsOwnerIn, IsEndIn, IsPlayOf, end_text, end_text_in, none_any, numbers_alike}
 use Rattle.std.proofs.Common.{flat_map}
 use Rattle.std.specs.Option.{option_map}
 use Rattle.act_console.specs.Threads.{joined_summary}
@@ -21,15 +21,6 @@ any_none p (x ∷ xs) none = go (p x) none (any_none p xs)
     go : (b : Bool) → (b || list_any p xs) ≡ false → (list_any p xs ≡ false → find p xs ≡ None) → cond b (Some x) (find p xs) ≡ None
     go true none rest = absurd (cc)
     go false none rest = rest none
-
--- what is the same for each number from 1 to n is the same for all of them
-same_lines : (f g : ℕ → List ℕ) (n : ℕ) → ((m : ℕ) → 1 ≤ m → m ≤ n → f m ≡ g m) → flat_map f (one_to n) ≡ flat_map g (one_to n)
-same_lines f g zero same = refl
-same_lines f g (suc n) same =
-    flat_map-append f (one_to n) (suc n ∷ [])
-    ∙ ap (λ (front : List ℕ). front ++ flat_map f (suc n ∷ [])) (same_lines f g n (λ m low high. same m low (omega (arith, high))))
-    ∙ ap (λ (last : List ℕ). flat_map g (one_to n) ++ (last ++ [])) (same (suc n) (omega arith) (omega arith))
-    ∙ sym (flat_map-append g (one_to n) (suc n ∷ []))
 
 -- what is the same at each place is the same of all
 same_placed : {X : Type 0} (f g : ℕ → X → List ℕ) (from : ℕ) (xs : List X) → ((k : ℕ) (x : X) → k < from + length xs → f k x ≡ g k x) → numbered_lines f from xs ≡ numbered_lines g from xs
@@ -115,8 +106,8 @@ module _ (casts : List ActorSpec) (plans : List (ℕ × List Step)) (owners : Li
   summary_same =
       let h = history casts events in
       ap (λ (front : List ℕ). front ++ flat_map (λ a. actor_lines a (runs_of a h) (stage_of a h)) (one_to 8))
-      (same_lines (λ c. future_lines c (calls_of c h) (kept_of c h)) (λ c. future_lines c (calls_in owners c) (kept_in owners c)) 16
+      (numbers_alike (λ c. future_lines c (calls_of c h) (kept_of c h)) (λ c. future_lines c (calls_in owners c) (kept_in owners c)) 16
       (λ c low high. one_caller c (owner_of c owners) low high refl))
       ∙ ap (λ (back : List ℕ). flat_map (λ c. future_lines c (calls_in owners c) (kept_in owners c)) (one_to 16) ++ back)
-      (same_lines (λ a. actor_lines a (runs_of a h) (stage_of a h)) (λ a. actor_lines a (log_in ends a) (end_text_in ends a)) 8
+      (numbers_alike (λ a. actor_lines a (runs_of a h) (stage_of a h)) (λ a. actor_lines a (log_in ends a) (end_text_in ends a)) 8
       (λ a low high. one_actor a (end_of a ends) low high refl))

@@ -1,5 +1,4 @@
 pub mod Common
-pub mod Written
 pub mod Placed
 pub mod Roles
 pub mod ThreadsRun

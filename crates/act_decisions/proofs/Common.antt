@@ -7,6 +7,7 @@ pub use Rattle.act_console.specs.Parts.{world_report}
 pub use Rattle.act_console.specs.Plans.{script_of, steps_of_caller}
 pub use Rattle.act_early.proofs.Worlds.{not_so}
 pub use Rattle.act_executor.specs.PlanPlays.{DoesPlanIn, DoesStepIn, step_of}
+pub use Rattle.act_lists.proofs.Lists.{place_in, stands_in}
 pub use Rattle.act_summaries.specs.Lines.{AreTold, IsToldAs, Make, told_line}
 pub use Rattle.act_decisions.specs.Fits.{AllFitSteps, FitsSteps, StartsWith, binding, own_step}
 pub use Rattle.act_walks.specs.Fits.{bound_of, caller_in, calls_in, steps_in, submission_of_call}

@@ -6,9 +6,9 @@ use Rattle.act_types.specs.Texts.{space, actor_text}
 use Rattle.act_rules.specs.Grammar.{is_skipped, lines_in}
 use Rattle.act_rules.specs.Report.{future_text, one_to}
 use Rattle.act_rules.proofs.AsSubmitted.{filter-slice_get}
-use Rattle.act_told_ends.proofs.Lists.{stands_in}
 use Rattle.act_summaries.specs.Stems.{Call, End, Kept, Stem, OfCall, Any, placed, stems_of, stems_of_actor, Agrees, AgreesKept, AreAgreed}
 use Rattle.act_summaries.specs.Summaries.{IsLeftOpen, open_line}
+use Rattle.act_decisions.proofs.Common.{stands_in}
 
 -- the element stands at some place
 abbrev Stands : {A : Type 0} → List A → A → Type 0

@@ -20,7 +20,6 @@ use Rattle.std.proofs.lemmas.Option.{slice_get-map}
 use Rattle.act_told_ends.specs.Told.{told_of}
 use Rattle.act_told_ends.specs.Untold.{with_calls}
 use Rattle.act_told_ends.specs.LeftOpen.{IsReplyForDeath, MayStandForKept}
-use Rattle.act_told_ends.proofs.Lists.{place_in}
 use Rattle.act_walks.specs.declared.told.Left.{Left}
 use Rattle.act_walks.specs.declared.told.Left.TheVariants as left
 use Rattle.act_walks.specs.declared.told.ToldCall.{ToldCall}
@@ -35,6 +34,7 @@ use Rattle.act_decisions.specs.LeftBy.{IsLeftBy}
 use Rattle.act_decisions.proofs.SaidRuns.{item_of_said, said_of_item, said_answer}
 use Rattle.act_decisions.proofs.SaidCalls.{data_calls, ran_item}
 use Rattle.act_decisions.proofs.Chosen.{wants_reply, is_death, reply_there, chosen, chosen_all, chosen_length, chosen_at, chosen_past}
+use Rattle.act_decisions.proofs.Common.{place_in}
 
 -- ---- lists
 

@@ -34,7 +34,7 @@ pub use Rattle.act_mailbox.specs.declared.mail.Letter.{Letter}
 pub use Rattle.act_mailbox.specs.declared.mail.Letter.TheVariants.{Call, Note}
 pub use Rattle.act_mailbox.specs.declared.thread.Endpoint.{Endpoint}
 pub use Rattle.act_owner.proofs.Life.{packet_stays, step}
-pub use Rattle.act_owner.proofs.Told.{calls_to-length, death_sent, hears_opened, hears_step, reply_sent, sent_stays}
+pub use Rattle.act_owner.proofs.Told.{death_sent, hears_opened, hears_step, reply_sent, sent_stays}
 pub use Rattle.act_owner.proofs.Waiting.{find_true}
 pub use Rattle.act_owner.specs.Life.{Change, Copied, Hears, Noticed, Released, Sent, Submitted, after_change, is_known_at, notices_in}
 pub use Rattle.act_owner.specs.Owner.{OwnerView, after_collect, after_reply_that, call_waits_for, first_ready, is_known_call, is_known_dead, is_of_call}
@@ -42,6 +42,7 @@ pub use Rattle.act_owner.specs.Owner.{is_ready, is_sent, opened_under, owner_lim
 pub use Rattle.act_owner.specs.Owner.{release_told, sending_refusal, with_death, with_handles, with_sent, with_submission}
 pub use Rattle.act_owner.specs.declared.owner.Collected.TheVariants.{First, Late, Stray}
 pub use Rattle.act_rules.proofs.Ended.{needs-none}
+pub use Rattle.act_rules.proofs.Events.{calls_to-length}
 pub use Rattle.act_rules.proofs.Lists.{All-two, option_or-none}
 pub use Rattle.act_rules.specs.Consistent.{IsPrefix}
 pub use Rattle.act_rules.specs.Plans.{Progress, do_step, done_by, first_bad, first_bad_from, holds, is_kill_of, is_refused, kills_to, nothing_done, occurrences}

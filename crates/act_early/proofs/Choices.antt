@@ -3,7 +3,7 @@ use Rattle.act_early.proofs.Common.{◌≡◌, ℕ, zero, suc, Bool, true, false
 use Rattle.act_early.proofs.Common.{filter_map, slice_get, Err, cons_option, filter_map-append, ActorDied, Event, RunItem, Submission, Post, Answer, kept_at}
 use Rattle.act_early.proofs.Common.{History, under, runs_of, calls_of, kept_of, answer_in, first_answer, add_event, slice_get_front, filter_map-same}
 use Rattle.act_early.proofs.Common.{All_weaker, Grows, added_grows, calls_grow, IsSoundPost, PostsAreSound, answer_in_stays, kept_by, kept_at_is}
-use Rattle.act_early.proofs.Common.{held_submission, IsSound, is_reply, is_heard, choices_of}
+use Rattle.act_early.proofs.Common.{held_submission, IsSound, is_reply, is_heard, choices_of, first_answer-same}
 use Rattle.act_rules.specs.declared.history.Post.TheVariants.{Death as DeathPost}
 
 -- functions that agree on each item of a list map it to the same list
@@ -21,12 +21,6 @@ answers_same h g c call grows s =
     filter_map-same (answer_in g c call.0 call.1.actor) (answer_in h c call.0 call.1.actor) h.collected
     (All_weaker (IsSoundPost h) (λ post. answer_in g c call.0 call.1.actor post ≡ answer_in h c call.0 call.1.actor post) h.collected
     (answer_in_stays h g c call.0 call.1.actor grows) s.collected)
-
-pub first_same : (h g : History) (c : ℕ) (call : ℕ × Submission) → Grows h g → PostsAreSound h → g.collected ≡ h.collected
-    → first_answer g c call ≡ first_answer h c call
-first_same h g c call grows s same =
-    ap (λ (posts : List Post). slice_get (filter_map (answer_in g c call.0 call.1.actor) posts) 0) same
-    ∙ ap (λ (l : List Answer). slice_get l 0) (answers_same h g c call grows s)
 
 pub first_more : (h g : History) (c : ℕ) (call : ℕ × Submission) (post : Post) → Grows h g → PostsAreSound h → g.collected ≡ h.collected ++ post ∷ []
     → first_answer g c call ≡ slice_get (filter_map (answer_in h c call.0 call.1.actor) h.collected
@@ -57,7 +51,7 @@ heard_quiet h g a place item grows sound same at =
     let k = item.future in
     let call = held_submission h a c k place item sound.order at refl refl in
     let there = slice_get_front (calls_of c h) (calls_of c g) k call.0 (calls_grow c h g grows) call.1 in
-    ap is_reply (kept_first g c k call.0 there ∙ first_same h g c (k, call.0) grows sound.posts same ∙ sym (kept_first h c k call.0 call.1))
+    ap is_reply (kept_first g c k call.0 there ∙ first_answer-same h g c (k, call.0) grows sound.posts same ∙ sym (kept_first h c k call.0 call.1))
 
 -- a collected post that is no reply to a call that ran doesn't change, in a sound history, whether its reply was kept
 pub heard_more : (h g : History) (a place : ℕ) (item : RunItem) (post : Post) → Grows h g → IsSound h → g.collected ≡ h.collected ++ post ∷ []

@@ -7,15 +7,17 @@ pub use Rattle.act_early.specs.Plays.{At, Closes, Happens, IsPlay, MayTake, Open
 pub use Rattle.act_early.specs.Plays.{taken, with_event}
 pub use Rattle.act_early.specs.Quiescence.{IsEarly, IsSameEnd, RunsMore, Starts, TakesMore}
 pub use Rattle.act_early.specs.Told.{told_at_rest}
+pub use Rattle.act_lists.proofs.Lists.{element, slice_get_last}
 pub use Rattle.act_rules.proofs.AsSubmitted.{calls_to-at, filter-slice_get}
 pub use Rattle.act_rules.proofs.Ended.{NothingFollows, contains_more, dead_stays, ended_stays, needs-none, nothing_follows_step, run_needs, under-push}
+pub use Rattle.act_rules.proofs.Events.{all_from_each, history_more}
 pub use Rattle.act_rules.proofs.Growth.{Grows, added_grows, calls_grow, calls_to_grow, runs_grow}
 pub use Rattle.act_rules.proofs.Kept.{KeepsAnswer, answer_at-front, answer_in_stays, kept_at_is, kept_by, kept_step, length-answers_from}
 pub use Rattle.act_rules.proofs.KindFaults.{answer_alive}
-pub use Rattle.act_rules.proofs.Letters.{IsSoundLetter, has_letter-sound, kept_extends, letter_is}
+pub use Rattle.act_rules.proofs.Letters.{IsSoundLetter, has_front, has_last, has_letter-sound, kept_extends, letter_is}
 pub use Rattle.act_rules.proofs.Limits.{limit_of-same}
-pub use Rattle.act_rules.proofs.Lists.{All_at, All_more, All_weaker, element, filter_map-same, front_next, front_trans, option_map-none, option_or-none}
-pub use Rattle.act_rules.proofs.Lists.{option_or-none_second, slice_get-enumerate_from, slice_get-filter, slice_get_front, slice_get_last, whole_front}
+pub use Rattle.act_rules.proofs.Lists.{All_at, All_more, All_weaker, filter_map-same, front_next, front_trans, option_map-none, option_or-none}
+pub use Rattle.act_rules.proofs.Lists.{numbers_alike, option_or-none_second, slice_get-enumerate_from, slice_get-filter, slice_get_front, whole_front}
 pub use Rattle.act_rules.proofs.Order.{IsNext, next_item_is, numbered, numbers}
 pub use Rattle.act_rules.proofs.Posts.{IsSoundPost, PostsAreSound, next_item_caller, run_stands}
 pub use Rattle.act_rules.proofs.RanAll.{AllNamed, IsNamed, Retires, copies_named, ran_all, retires_step, world_retires}
@@ -23,6 +25,7 @@ pub use Rattle.act_rules.proofs.Retired.{gone_step, times-push}
 pub use Rattle.act_rules.proofs.Settling.{Extends, arguments_stay}
 pub use Rattle.act_rules.proofs.Sound.{IsSound, answers_are, consistent, deaths_are, kept_from, sound_step, world_sound}
 pub use Rattle.act_rules.proofs.Steps.{IsKept, after_all-append, after_all_keeps, after_keeps, outcomes-append}
+pub use Rattle.act_rules.proofs.Table.{first_answer-same}
 pub use Rattle.act_rules.proofs.Unique.{held_call, held_submission, map-slice_get, one_place, rank}
 pub use Rattle.act_rules.specs.Consistent.{IsAsSubmitted, IsCallToDead, IsPrefix}
 pub use Rattle.act_rules.specs.History.{ActorSpec, History, answer_in, answer_of, callers_in, calls_of, cast_of, contains, copies_of, count_pairs, first_answer}

@@ -1,9 +1,9 @@
 -- Where the late play is ended, the one that was seen ends alike.
 use Rattle.act_early.proofs.Common.{◌≡◌, ℕ, suc, ◌+◌, ◌≤◌, Bool, true, false, List, [], ◌∷◌, length, Option, Some, None, refl, ap, sym, ◌∙◌, subst, arith, ◌==◌}
-use Rattle.act_early.proofs.Common.{◌||◌, find, filter_map, slice_get, is_some, list_all, enumerate_from, eq-eqb, and_from, length-map, slice_get_past, RunItem}
+use Rattle.act_early.proofs.Common.{◌||◌, find, filter_map, slice_get, is_some, enumerate_from, length-map, slice_get_past, RunItem}
 use Rattle.act_early.proofs.Common.{Submission, Step, Answer, items_of, calls_to, kept_at, ActorSpec, History, contains, callers_in, cast_of, runs_of, calls_of}
 use Rattle.act_early.proofs.Common.{kept_of, is_retired, is_ended, has_letter, ran_count, is_done, is_drained, first_answer, refusal_of, kept_at_is, kept_by}
-use Rattle.act_early.proofs.Common.{ran_all, At, steps_of, next_step, IsPlay, IsWholeSearch, IsEnded, LosesOnly, EndsAlike}
+use Rattle.act_early.proofs.Common.{ran_all, At, steps_of, next_step, IsPlay, IsWholeSearch, IsEnded, LosesOnly, EndsAlike, all_from_each}
 use Rattle.act_rules.specs.declared.event.Event.TheVariants as event
 use Rattle.act_rules.specs.declared.history.Letter.TheVariants.{Note as NoteLetter}
 use Rattle.act_early.proofs.Counting.{past_none, take-past}
@@ -24,19 +24,6 @@ same_kept (x ∷ xs) (y ∷ ys) long at =
     let first : x ≡ y = at 0 in
     let rest = same_kept xs ys (omega (arith, long)) (λ k. at (suc k)) in
     ap (λ (z : Option Answer). z ∷ xs) first ∙ ap (λ (l : List (Option Answer)). y ∷ l) rest
-
-all_from : (p : ℕ → Bool) (xs : List ℕ) → ((c : ℕ) → contains c xs ≡ true → p c ≡ true) → list_all p xs ≡ true
-all_from p [] each = refl
-all_from p (x ∷ xs) each = and_from (p x) (list_all p xs) (each x (first (x == x) (eq-eqb x x refl)))
-    (all_from p xs (λ c has. each c (later (x == c) (contains c xs) has)))
-  where
-    first : (b : Bool) → b ≡ true → (b || contains x xs) ≡ true
-    first true e = refl
-    first false e = cc
-
-    later : (b d : Bool) → d ≡ true → (b || d) ≡ true
-    later true d e = refl
-    later false d e = e
 
 length-enumerate_from : {A : Type 0} (n : ℕ) (xs : List A) → length (enumerate_from n xs) ≡ length xs
 length-enumerate_from n [] = refl
@@ -110,7 +97,7 @@ ends_alike casts plans early late both r ended f = record {
         ∙ ap (λ (l : List Submission). length (calls_to a l)) (sym (calls c))
 
     drained : (a : ℕ) → is_retired a late.history ≡ true → is_drained a early.history ≡ true
-    drained a retired = all_from (λ c. is_done c a early.history) (callers_in (cast_of a early.history)) (λ c named.
+    drained a retired = all_from_each (λ c. is_done c a early.history) (callers_in (cast_of a early.history)) (λ c named.
         subst (λ (n : ℕ). has_letter (NoteLetter c a n) early.history.arrived ≡ true) (sym (count c a retired))
         (both.quiescent.noted c a (both.quiescent.closed c a (done c) named) (live a retired)))
 

@@ -5,12 +5,13 @@ use Rattle.act_early.proofs.Common.{HaveSameChoices, AreAlike}
 use Rattle.act_early.proofs.Worlds.{world}
 use Rattle.act_early.proofs.Counting.{take-past}
 use Rattle.act_early.proofs.Progress.{follows}
-use Rattle.act_early.proofs.Replies.{front_whole, front_short}
+use Rattle.act_early.proofs.Replies.{front_short}
 use Rattle.act_early.proofs.Earlier.{earlier_same}
 use Rattle.act_early.proofs.Ahead.{AreBoth}
 use Rattle.act_early.proofs.Possible.{IsReached}
 use Rattle.act_early.proofs.Searching.{Exactly, reached}
 use Rattle.act_early.proofs.Ending.{same_kept, kept_long, ends_alike}
+use Rattle.act_rules.proofs.Lists.{front_whole}
 
 pub both_quiescent : (casts : List ActorSpec) (plans : ℕ → List Step) (early late : At) → IsPlay casts plans early → IsQuiescent plans early
     → IsPlay casts plans late → AreBoth casts plans early late

@@ -10,8 +10,9 @@ use Rattle.act_early.proofs.Worlds.{world}
 use Rattle.act_early.proofs.Deaths.{collected_death}
 use Rattle.act_early.proofs.Listed.{all_callers, all_listed}
 use Rattle.act_early.proofs.Quiescent.{may_listed, named_as_listed}
-use Rattle.act_early.proofs.Shifting.{one_after, shift}
+use Rattle.act_early.proofs.Shifting.{shift}
 use Rattle.act_early.proofs.Owning.{drop_none, closings, Left, next_is, rest_is, awaits, leaves_out, after_one, IsOwn, does_own}
+use Rattle.act_rules.proofs.Events.{history_more}
 
 -- ---- after the last event
 
@@ -279,7 +280,7 @@ all_on specs plans before (other ∷ events) p play is ok left =
     let rest : All IsOk (outcomes (after h other) events) = λ i d within. ok (suc i) d (omega arith) in
     let one = one_on specs plans before other events p play is (accepted_none h other first) left in
     let next = all_on specs plans (before ++ other ∷ []) events one.0 one.1.play one.1.is
-    (subst (λ (g : History). All IsOk (outcomes g events)) (sym (one_after specs before other)) rest) one.1.left in
+    (subst (λ (g : History). All IsOk (outcomes g events)) (sym (history_more specs before other)) rest) one.1.left in
     (next.0, record { play = next.1.play; is = next.1.is ∙ ap (history specs) (append_assoc before (other ∷ []) events); done = next.1.done })
 
 -- accepted events that keep to plans are a play of these plans, and each plan is done

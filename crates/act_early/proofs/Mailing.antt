@@ -8,12 +8,13 @@ use Rattle.act_early.proofs.Common.{with_event, Happens}
 use Rattle.act_rules.specs.declared.event.Event.TheVariants as event
 use Rattle.act_rules.specs.declared.history.Letter.TheVariants.{Note as NoteLetter}
 use Rattle.act_early.proofs.Worlds.{world, or_second}
-use Rattle.act_early.proofs.Replies.{named_call}
 use Rattle.act_early.proofs.Quiesces.{Quiesces, quiesces_same, quiesces_trans, quiet_quiesces}
 use Rattle.act_early.proofs.Listed.{all_callers, all_actors, named_caller, IsOpen, IsWay, Comes, for_each, for_all}
 use Rattle.act_early.proofs.Stepping.{IsStuck}
 use Rattle.act_early.proofs.Closing.{IsClosed}
-use Rattle.act_early.proofs.Notes.{has_front, has_last, letter_place, notes_sent}
+use Rattle.act_early.proofs.Notes.{notes_sent}
+use Rattle.act_rules.proofs.Letters.{has_front, has_last, letter_place}
+use Rattle.act_rules.proofs.RanAll.{named_call}
 
 abbrev pub IsSent : At → ℕ → ℕ → Type 0
 IsSent p c k = (call : Submission) → slice_get (calls_of c p.history) k ≡ Some call → kept_at (kept_of c p.history) k ≡ None

@@ -7,8 +7,10 @@ use Rattle.act_early.proofs.Common.{held_submission, At, steps_of, is_reply, is_
 use Rattle.act_early.proofs.Worlds.{IsWorld, either_of, or_second}
 use Rattle.act_early.proofs.Counting.{take-prefix}
 use Rattle.act_early.proofs.Progress.{Follows, submission_in}
-use Rattle.act_early.proofs.Replies.{reply_some, reply_alive, reply_died, death_answers, named_call, front_whole}
+use Rattle.act_early.proofs.Replies.{reply_some, reply_alive, reply_died, death_answers}
 use Rattle.act_early.proofs.Earlier.{IsEarlier}
+use Rattle.act_rules.proofs.Lists.{front_whole}
+use Rattle.act_rules.proofs.RanAll.{named_call}
 
 -- the play is a front of the late one, and the early one has made at least the same choices as it
 pub record Matches (play early late : History) : Type 0 where

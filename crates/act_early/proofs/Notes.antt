@@ -1,43 +1,14 @@
 -- A caller that holds no copy of a handle sent its note.
 use Rattle.act_early.proofs.Common.{◌≡◌, ℕ, zero, suc, ◌+◌, ◌-◌, Bool, true, false, cond, List, [], ◌∷◌, ◌++◌, length, Option, Some, None, refl, ap, sym, ◌∙◌}
-use Rattle.act_early.proofs.Common.{subst, arith, ◌==◌, ◌&&◌, ◌||◌, find, slice_get, eqb-true, eq-eqb, and_parts, and_from, list_any-append, Event, RunItem}
-use Rattle.act_early.proofs.Common.{Submission, Letter, Step, calls_to, copies_held, ActorSpec, History, opening, names, cast_of, count_pairs, calls_of}
-use Rattle.act_early.proofs.Common.{copies_of, is_letter, has_letter, next_item, add_event, and_also, after_run, is_last, IsPrefix, IsKept, added_grows}
-use Rattle.act_early.proofs.Common.{letter_is, times-push, gone_step, At, IsPlay}
+use Rattle.act_early.proofs.Common.{subst, arith, ◌==◌, ◌&&◌, find, eqb-true, eq-eqb, and_parts, Event, RunItem}
+use Rattle.act_early.proofs.Common.{Submission, Step, calls_to, copies_held, ActorSpec, History, opening, names, cast_of, count_pairs, calls_of}
+use Rattle.act_early.proofs.Common.{copies_of, has_letter, next_item, add_event, and_also, after_run, is_last, IsKept, added_grows}
+use Rattle.act_early.proofs.Common.{times-push, gone_step, At, IsPlay, has_front, has_last}
 use Rattle.act_rules.specs.declared.event.Event.TheVariants as event
-use Rattle.act_rules.specs.declared.history.Letter.TheVariants.{Call as CallLetter, Note as NoteLetter}
-use Rattle.act_early.proofs.Worlds.{play_keeps, or_second}
+use Rattle.act_rules.specs.declared.history.Letter.TheVariants.{Note as NoteLetter}
+use Rattle.act_early.proofs.Worlds.{play_keeps}
 
 -- ---- letters
-
-pub same_letter : (letter : Letter) → is_letter letter letter ≡ true
-same_letter (CallLetter c a n) = and_from ((c == c) && (a == a)) (n == n) (and_from (c == c) (a == a) (eq-eqb c c refl) (eq-eqb a a refl)) (eq-eqb n n refl)
-same_letter (NoteLetter c a n) = and_from ((c == c) && (a == a)) (n == n) (and_from (c == c) (a == a) (eq-eqb c c refl) (eq-eqb a a refl)) (eq-eqb n n refl)
-
-pub has_front : (letter : Letter) (xs ys : List Letter) → IsPrefix xs ys → has_letter letter xs ≡ true → has_letter letter ys ≡ true
-has_front letter xs ys f e = subst (λ (l : List Letter). has_letter letter l ≡ true) f.1
-    (list_any-append (is_letter letter) xs f.0 ∙ first (has_letter letter xs) (has_letter letter f.0) e)
-  where
-    first : (x y : Bool) → x ≡ true → (x || y) ≡ true
-    first true y e = refl
-    first false y e = cc
-
-pub has_last : (letter : Letter) (xs : List Letter) → has_letter letter (xs ++ letter ∷ []) ≡ true
-has_last letter xs = list_any-append (is_letter letter) xs (letter ∷ [])
-    ∙ or_second (has_letter letter xs) (has_letter letter (letter ∷ [])) (last (is_letter letter letter) (same_letter letter))
-  where
-    last : (x : Bool) → x ≡ true → (x || false) ≡ true
-    last true e = refl
-    last false e = cc
-
-pub letter_place : (letter : Letter) (xs : List Letter) → has_letter letter xs ≡ true → (i : ℕ) × (slice_get xs i ≡ Some letter)
-letter_place letter [] e = cc
-letter_place letter (x ∷ xs) e = go (is_letter letter x) refl (letter_place letter xs) e
-  where
-    go : (b : Bool) → is_letter letter x ≡ b → (has_letter letter xs ≡ true → (i : ℕ) × (slice_get xs i ≡ Some letter)) → (b || has_letter letter xs) ≡ true
-        → (i : ℕ) × (slice_get (x ∷ xs) i ≡ Some letter)
-    go true is rest e = (zero, ap (λ (l : Letter). Some l) (sym (letter_is letter x is)))
-    go false is rest e = let found = rest e in (suc found.0, found.1)
 
 -- ---- each note is sent
 

@@ -7,7 +7,8 @@ use Rattle.act_rules.specs.declared.event.Event.TheVariants as event
 use Rattle.act_rules.specs.declared.history.Post.TheVariants.{Death as DeathPost}
 use Rattle.act_early.proofs.Counting.{occurrences-push}
 use Rattle.act_early.proofs.Deaths.{collected_death}
-use Rattle.act_early.proofs.Shifting.{head_same, tail_same, others_first, one_after}
+use Rattle.act_early.proofs.Shifting.{head_same, tail_same, others_first}
+use Rattle.act_rules.proofs.Events.{history_more}
 
 -- ---- what is left of a plan
 
@@ -89,7 +90,7 @@ pub record IsOwn (specs : List ActorSpec) (plans : ℕ → List Step) (c : ℕ) 
 pub after_one : (specs : List ActorSpec) (before : List Event) (other : Event) (h : History) → h ≡ history specs before
     → refusal_of (history specs before) other ≡ None → add_event h other ≡ history specs (before ++ other ∷ [])
 after_one specs before other h is may = ap (λ (g : History). add_event g other) is
-    ∙ sym (one_after specs before other ∙ ap (after_by (history specs before) other) may)
+    ∙ sym (history_more specs before other ∙ ap (after_by (history specs before) other) may)
 
 -- what stands behind it
 behind : (specs : List ActorSpec) (c : ℕ) (steps : List Step) (before done later : List Event) (other : Event) (events : List Event)

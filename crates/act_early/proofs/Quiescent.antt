@@ -4,13 +4,13 @@ use Rattle.act_early.proofs.Common.{Submit, Copy, Release, Kill, Await, Answer, 
 use Rattle.act_early.proofs.Common.{cast_of, is_caller, copies_of, kept_of, submission_refusal, needs-none, copies_named, kept_from, At, MayTake, IsQuiescent}
 use Rattle.act_rules.specs.declared.outcome.WorldRefusal.TheVariants.{Submit as SubmitRefused, Handle, NoCaller}
 use Rattle.act_early.proofs.Worlds.{IsWorld, world}
-use Rattle.act_early.proofs.Replies.{named_call}
 use Rattle.act_early.proofs.Quiesces.{Quiesces, quiesces_trans}
 use Rattle.act_early.proofs.Listed.{all_callers, all_actors, caller_listed, named_caller, actor_listed, all_listed, IsOpen}
 use Rattle.act_early.proofs.Telling.{IsTold, told_stays, quiescence, tell_all}
 use Rattle.act_early.proofs.Stepping.{IsStuck, going_on, step_all}
 use Rattle.act_early.proofs.Closing.{IsClosed, closing_on, close_all}
 use Rattle.act_early.proofs.Mailing.{IsSent, IsNoted, mailing, send_all, note_all}
+use Rattle.act_rules.proofs.RanAll.{named_call}
 
 -- ---- who does anything is listed
 

@@ -1,9 +1,9 @@
 -- Replies and deaths, and what is collected.
-use Rattle.act_early.proofs.Common.{◌≡◌, ◌≢◌, ℕ, zero, suc, ◌+◌, ◌≤◌, true, false, List, [], ◌∷◌, ◌++◌, length, Option, Some, None, refl, ap, sym, ◌∙◌, subst}
-use Rattle.act_early.proofs.Common.{arith, Contains, length-append, ◌==◌, ◌&&◌, filter, filter_map, slice_get, Ok, Err, cons_option, eqb-true, eq-eqb, and_from}
-use Rattle.act_early.proofs.Common.{append-nil, Fault, NoMethod, BadArgs, Overflow, NoKey, BadAmount, Insufficient, NoItems, NoItem, KindFull, Dependency}
-use Rattle.act_early.proofs.Common.{ActorDied, Own, Submission, Answer, kept_at, History, names, cast_of, calls_of, kept_of, answer_in, IsPrefix, All_at}
-use Rattle.act_early.proofs.Common.{kept_at_is, kept_by, filter-slice_get, map-slice_get, IsNamed, AllNamed, is_reply}
+use Rattle.act_early.proofs.Common.{◌≡◌, ◌≢◌, ℕ, zero, suc, ◌+◌, ◌≤◌, true, false, List, [], ◌∷◌, ◌++◌, length, Option, Some, None, refl, ap, ◌∙◌, subst}
+use Rattle.act_early.proofs.Common.{arith, Contains, length-append, ◌==◌, ◌&&◌, filter_map, slice_get, Ok, Err, cons_option, eq-eqb, and_from}
+use Rattle.act_early.proofs.Common.{Fault, NoMethod, BadArgs, Overflow, NoKey, BadAmount, Insufficient, NoItems, NoItem, KindFull, Dependency}
+use Rattle.act_early.proofs.Common.{ActorDied, Own, Submission, Answer, kept_at, History, calls_of, kept_of, answer_in, IsPrefix}
+use Rattle.act_early.proofs.Common.{kept_at_is, kept_by, is_reply}
 use Rattle.act_rules.specs.declared.history.Post.TheVariants.{Death as DeathPost}
 
 -- ---- replies
@@ -64,27 +64,7 @@ death_answers h c k call at has =
 
 -- ---- whom a call goes to
 
-pub named_call : (h : History) (c k : ℕ) (call : Submission) → AllNamed h → slice_get (calls_of c h) k ≡ Some call → names c (cast_of call.actor h) ≡ true
-named_call h c k call named at =
-    let pair = map-slice_get (λ (s : ℕ × Submission). s.1) (filter (λ (s : ℕ × Submission). s.0 == c) h.submitted) k call at in
-    let place = filter-slice_get (λ (s : ℕ × Submission). s.0 == c) h.submitted k pair.0 pair.1 in
-    let mine : pair.0.0 ≡ c = eqb-true pair.0.0 c place.passes in
-    let is : names pair.0.0 (cast_of pair.0.1.actor h) ≡ true = All_at (IsNamed h) h.submitted place.place pair.0 named place.at in
-    subst (λ (s : Submission). names c (cast_of s.actor h) ≡ true) pair.2 (subst (λ (x : ℕ). names x (cast_of pair.0.1.actor h) ≡ true) mine is)
-
 -- ---- fronts
-
--- a front that is as long is all
-pub front_whole : {A : Type 0} (xs ys : List A) → IsPrefix xs ys → length ys ≤ length xs → xs ≡ ys
-front_whole {A = A} xs ys f short = go f.0 refl
-  where
-    long : length xs + length f.0 ≤ length xs
-    long = rw (← length-append xs f.0, f.1) short
-
-    go : (rest : List A) → f.0 ≡ rest → xs ≡ ys
-    go [] e = sym (append-nil xs) ∙ ap (λ (r : List A). xs ++ r) (sym e) ∙ f.1
-    go (x ∷ rest) e = let bad : length xs + length (x ∷ rest) ≤ length xs =
-        subst (λ (r : List A). length xs + length r ≤ length xs) e long in absurd (omega arith)
 
 -- a prefix is no longer than the whole list
 pub front_short : {A : Type 0} (xs ys : List A) → IsPrefix xs ys → length xs ≤ length ys

@@ -7,7 +7,8 @@ use Rattle.act_rules.specs.declared.event.Event.TheVariants as event
 use Rattle.act_rules.specs.declared.history.Post.TheVariants.{Reply as ReplyPost}
 use Rattle.act_early.proofs.Worlds.{world}
 use Rattle.act_early.proofs.Unanswered.{next_unanswered}
-use Rattle.act_early.proofs.Choices.{map-same_at, first_same, kept_first, heard_quiet}
+use Rattle.act_early.proofs.Choices.{map-same_at, kept_first, heard_quiet}
+use Rattle.act_rules.proofs.Table.{first_answer-same}
 
 -- ---- one choice more
 
@@ -93,7 +94,7 @@ pub unheard : (a c : ℕ) (h g : History) (item : RunItem) → IsRun a c h g ite
 unheard a c h g item r =
     let call = run_call a c h g item r in
     let there = slice_get_front (calls_of c h) (calls_of c g) item.future call.0 (calls_grow c h g r.grows) call.1 in
-    kept_first g c item.future call.0 there ∙ first_same h g c (item.future, call.0) r.grows r.sound.posts r.collected
+    kept_first g c item.future call.0 there ∙ first_answer-same h g c (item.future, call.0) r.grows r.sound.posts r.collected
     ∙ sym (kept_first h c item.future call.0 call.1) ∙ r.none
 
 -- a reply that is lost

@@ -9,12 +9,13 @@ use Rattle.act_rules.specs.declared.event.Event.TheVariants as event
 use Rattle.act_early.proofs.Worlds.{world, contains_push}
 use Rattle.act_early.proofs.Counting.{take-at}
 use Rattle.act_early.proofs.Progress.{follows}
-use Rattle.act_early.proofs.Replies.{front_whole, front_short}
+use Rattle.act_early.proofs.Replies.{front_short}
 use Rattle.act_early.proofs.Earlier.{IsEarlier, earlier_trans, earlier_event, earlier_step, step_runs, step_kills}
 use Rattle.act_early.proofs.Matching.{Matches, IsAhead, AreWorlds, calls_ahead, choice_at, kept_ahead}
 use Rattle.act_early.proofs.Ahead.{AreBoth, with_play, ahead}
 use Rattle.act_early.proofs.Items.{ready}
 use Rattle.act_early.proofs.Possible.{IsReached, may_run, runs_alike, may_kill}
+use Rattle.act_rules.proofs.Lists.{front_whole}
 
 -- the early play made the choices of this front of the late one, and no other
 pub record Exactly (play early : At) (late : History) : Type 0 where

@@ -1,15 +1,13 @@
 -- An event that is none of a caller's steps passes it by.
 use Rattle.act_early.proofs.Common.{◌≡◌, ℕ, suc, true, false, List, [], ◌∷◌, ◌++◌, Option, Some, None, inl, inr, refl, ap, sym, ◌∙◌, subst, arith, append_assoc}
 use Rattle.act_early.proofs.Common.{Contains, is_some, eq-eqb, append-nil, Contains-append_left, Event, Post, Step, Submit, Copy, Release, Kill, Await, Answer}
-use Rattle.act_early.proofs.Common.{kept_at, ActorSpec, History, opening, kept_of, history, after, IsPrefix, whole_front, after_keeps, after_all-append}
+use Rattle.act_early.proofs.Common.{kept_at, ActorSpec, History, kept_of, history, after, IsPrefix, whole_front, after_keeps}
 use Rattle.act_early.proofs.Common.{after_all_keeps, added_grows, KeepsAnswer, kept_step, world_sound, is_step_by, AreOthers, DoesStepBy, DoesStepsBy}
+use Rattle.act_early.proofs.Common.{history_more}
 use Rattle.act_rules.specs.declared.event.Event.TheVariants as event
 use Rattle.act_rules.specs.declared.history.Post.TheVariants.{Death as DeathPost}
 
 -- ---- what stays after one event more
-
-pub one_after : (casts : List ActorSpec) (before : List Event) (other : Event) → history casts (before ++ other ∷ []) ≡ after (history casts before) other
-one_after casts before other = after_all-append (opening casts) before (other ∷ [])
 
 kept_after : (casts : List ActorSpec) (before : List Event) (other : Event) (c k : ℕ) → is_some (kept_at (kept_of c (history casts before)) k) ≡ true
     → is_some (kept_at (kept_of c (history casts (before ++ other ∷ []))) k) ≡ true
@@ -21,7 +19,7 @@ kept_after casts before other c k e = go (kept_at (kept_of c (history casts befo
     go (Some answer) is some =
         let stays = after_all_keeps (KeepsAnswer c k answer) (kept_step c k answer) (history casts before) (other ∷ [])
         (record { sound = (world_sound casts before).posts; kept = is }) in
-        ap (λ (h : History). is_some (kept_at (kept_of c h) k)) (one_after casts before other) ∙ ap (λ (o : Option Answer). is_some o) stays.kept
+        ap (λ (h : History). is_some (kept_at (kept_of c h) k)) (history_more casts before other) ∙ ap (λ (o : Option Answer). is_some o) stays.kept
 
 collected_after : (casts : List ActorSpec) (before : List Event) (other : Event) (post : Post) → Contains (history casts before).collected post
     → Contains (history casts (before ++ other ∷ [])).collected post
@@ -29,7 +27,7 @@ collected_after casts before other post has =
     let h = history casts before in
     let front : IsPrefix h.collected (after h other).collected =
     after_keeps (λ g. IsPrefix h.collected g.collected) h other (whole_front h.collected) (λ _. (added_grows h other).collected) in
-    subst (λ (g : History). Contains g.collected post) (sym (one_after casts before other))
+    subst (λ (g : History). Contains g.collected post) (sym (history_more casts before other))
     (subst (λ (posts : List Post). Contains posts post) front.1 (Contains-append_left h.collected front.0 post has))
 
 -- ---- lists

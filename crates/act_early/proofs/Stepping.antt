@@ -9,9 +9,10 @@ use Rattle.act_early.proofs.Worlds.{world}
 use Rattle.act_early.proofs.Counting.{occurrences-push, other_next}
 use Rattle.act_early.proofs.Progress.{submission_in, is_copy_of, is_release_of, submitted_one, copied_one, released_one}
 use Rattle.act_early.proofs.Waiting.{IsAlike, copies_from, may_take}
-use Rattle.act_early.proofs.Choices.{first_same, map-same_at}
+use Rattle.act_early.proofs.Choices.{map-same_at}
 use Rattle.act_early.proofs.Quiesces.{Quiesces, quiesces_same, quiesces_trans, step_quiesces, skip_quiesces}
 use Rattle.act_early.proofs.Listed.{all_callers, IsOpen, IsWay, Comes, for_each}
+use Rattle.act_rules.proofs.Table.{first_answer-same}
 
 -- ---- what a step leaves of another caller
 
@@ -34,7 +35,7 @@ none_more n p step true e = cc
 kept_by_calls : (d : ℕ) (h g : History) → Grows h g → IsSound h → g.collected ≡ h.collected → calls_of d g ≡ calls_of d h → kept_of d g ≡ kept_of d h
 kept_by_calls d h g grows sound same calls =
     ap (λ (l : List Submission). map (first_answer g d) (enumerate_from 0 l)) calls
-    ∙ map-same_at (first_answer g d) (first_answer h d) (enumerate_from 0 (calls_of d h)) (λ place call at. first_same h g d call grows sound.posts same)
+    ∙ map-same_at (first_answer g d) (first_answer h d) (enumerate_from 0 (calls_of d h)) (λ place call at. first_answer-same h g d call grows sound.posts same)
 
 kept_other : (c d : ℕ) (step : Step) (h : History) → IsSound h → (c == d) ≡ false → kept_of d (after_step c step h) ≡ kept_of d h
 kept_other c d (Submit a method args) h sound e =

@@ -6,13 +6,14 @@ use Rattle.act_early.proofs.Common.{refusal_of, add_event, after_run, slice_get_
 use Rattle.act_early.proofs.Common.{IsPlay, Opens, Takes, Skips, Closes, Happens, is_heard, choices_of, IsQuiescent, IsFrontOf, Nearer, Whole, MayRun, MayKill}
 use Rattle.act_rules.specs.declared.event.Event.TheVariants as event
 use Rattle.act_early.proofs.Worlds.{world, contains_push, either_of, not_dead, take_needs, or_second}
-use Rattle.act_early.proofs.Replies.{front_whole, front_short}
+use Rattle.act_early.proofs.Replies.{front_short}
 use Rattle.act_early.proofs.Earlier.{IsEarlier, earlier_same, earlier_trans, earlier_event, earlier_step, step_runs, step_kills}
 use Rattle.act_early.proofs.Matching.{Matches, IsAhead, AreWorlds, calls_ahead, choice_at, kept_ahead}
 use Rattle.act_early.proofs.Ahead.{AreBoth, with_play, ahead}
 use Rattle.act_early.proofs.Items.{ready}
 use Rattle.act_early.proofs.Possible.{IsReached, may_run, runs_alike, may_kill}
 use Rattle.act_early.proofs.Keys.{both_quiescent}
+use Rattle.act_rules.proofs.Lists.{front_whole}
 
 -- the early play made each choice of this front of the late one
 record IsCovered (play early : History) : Type 0 where

@@ -1,23 +1,13 @@
 -- What is told of ends, part by part.
-use Rattle.act_early.proofs.Common.{◌≡◌, ℕ, zero, suc, ◌≤◌, arith, Bool, true, false, List, [], ◌∷◌, ◌++◌, Option, Some, None, refl, ap, sym, ◌∙◌, ◌==◌, ◌||◌}
+use Rattle.act_early.proofs.Common.{◌≡◌, ℕ, ◌≤◌, Bool, true, false, List, [], ◌∷◌, ◌++◌, Option, Some, None, refl, ap, sym, ◌∙◌, ◌==◌, ◌||◌}
 use Rattle.act_early.proofs.Common.{if◌then◌else◌, find, map, is_some, option_map, RunItem, Submission, Step, Answer, state_after, ActorSpec, History, contains}
-use Rattle.act_early.proofs.Common.{cast_of, calls_of, kept_of, runs_of, is_dead, is_retired, is_ended, flat_map, flat_map-append, summary, one_to}
-use Rattle.act_early.proofs.Common.{future_lines, actor_lines, stage_of, stage_text, At, IsPlay, IsEnded, EndsAlike, IsSameEnd, told_at_rest}
+use Rattle.act_early.proofs.Common.{cast_of, calls_of, kept_of, runs_of, is_dead, is_retired, is_ended, flat_map, summary, one_to}
+use Rattle.act_early.proofs.Common.{future_lines, actor_lines, stage_of, stage_text, At, IsPlay, IsEnded, EndsAlike, IsSameEnd, told_at_rest, numbers_alike}
 use Rattle.act_early.proofs.Worlds.{world, or_second}
 
 -- how an actor with this cast stands
 abbrev pub stage_from : Option ActorSpec → Bool → Bool → List RunItem → Option (List ℕ)
 stage_from cast dead retired runs = option_map (λ state. stage_text dead retired (state_after state runs)) (option_map (λ cast. cast.opening) cast)
-
--- the same lines of each number make the same text
-numbers_alike : (f g : ℕ → List ℕ) (n : ℕ) → ((a : ℕ) → 1 ≤ a → a ≤ n → f a ≡ g a) → flat_map f (one_to n) ≡ flat_map g (one_to n)
-numbers_alike f g zero same = refl
-numbers_alike f g (suc n) same =
-    let last : flat_map f (suc n ∷ []) ≡ flat_map g (suc n ∷ []) = ap (λ (text : List ℕ). text ++ []) (same (suc n) (omega arith) (omega arith)) in
-    flat_map-append f (one_to n) (suc n ∷ [])
-    ∙ ap (λ (text : List ℕ). text ++ flat_map f (suc n ∷ [])) (numbers_alike f g n (λ a low high. same a low (omega arith)))
-    ∙ ap (λ (text : List ℕ). flat_map g (one_to n) ++ text) last
-    ∙ sym (flat_map-append g (one_to n) (suc n ∷ []))
 
 -- the same of each actor is told, where calls, answers, run lists and stages are the same
 pub told_alike : (one other : History) → ((c : ℕ) → calls_of c one ≡ calls_of c other) → ((c : ℕ) → kept_of c one ≡ kept_of c other)

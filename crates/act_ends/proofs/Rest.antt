@@ -14,11 +14,11 @@ use Rattle.act_world.specs.View.{WorldView}
 use Rattle.act_world.specs.IsReachedBy.{IsReachedBy}
 use Rattle.act_early.specs.Told.{told_at_rest}
 use Rattle.act_early.proofs.Told.{ended_told, at_rest}
-use Rattle.act_early.proofs.Shifting.{one_after}
 use Rattle.act_early.proofs.Worlds.{contains_push, or_second}
 use Rattle.act_console.specs.Parts.{world_summary}
 use Rattle.act_console.proofs.Shown.{summary_is}
 use Rattle.act_ends.specs.Rest.{IsResting}
+use Rattle.act_rules.proofs.Events.{history_more}
 
 -- an actor that has its cast, and doesn't run, ended
 pub rest_none : (h : History) (a : ℕ) → cast_of a h ≡ None → is_some (cast_of a h) ≡ true → is_ended a h ≡ true
@@ -71,7 +71,7 @@ rest_more casts h n a old new did next told reached is = record {
 
     same : history casts (is.events ++ event.Retire a ∷ []) ≡ record h { retired = is.retired ++ a ∷ [] }
     same =
-        one_after casts is.events (event.Retire a)
+        history_more casts is.events (event.Retire a)
         ∙ ap (λ (refusal : Option WorldRefusal). after_by (history casts is.events) (event.Retire a) refusal) none
         ∙ ap (λ (g : History). add_event g (event.Retire a)) is.same
 

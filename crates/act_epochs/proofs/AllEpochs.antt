@@ -13,7 +13,7 @@ use Rattle.act_rules.specs.OwnRuns.{IsKept, Left}
 use Rattle.act_rules.specs.Submissions.{calls_to}
 use Rattle.act_rules.specs.Consistent.{IsPrefix, IsAnswerOfRun}
 use Rattle.act_rules.specs.History.{ActorSpec, opening, opening_of}
-use Rattle.act_rules.proofs.Lists.{whole_front, slice_get_more}
+use Rattle.act_rules.proofs.Lists.{whole_front}
 use Rattle.act_rules.proofs.OwnRuns.{holds_in_each_run}
 use Rattle.act_serve.specs.Served.{EndView}
 use Rattle.act_drive.specs.Sessions.{SessionView}
@@ -27,6 +27,7 @@ use Rattle.act_epochs.specs.Epochs.{Epoch, IsEpoch, casts_left, AreEpochs, casts
 use Rattle.act_epochs.specs.OverEpochs.{runs, submitted_in, ran_in, IsInState, IsAnswerOfAllRuns, IsOver, AreConsistent, CastKeeps}
 use Rattle.act_epochs.proofs.Lists.{front_before, state_after-append, answer_between}
 use Rattle.act_epochs.proofs.OneEpoch.{submitted_as, ran_as, no_end, no_calls, left_is, none_left, killed_leaves_none, other_is_left, ran_front, ran_whole, left_state, calls_differ}
+use Rattle.act_lists.proofs.Lists.{slice_get_more}
 
 -- the calls of a later epoch have a later number
 numbered_from : {C : Type 0} (a c n : ℕ) (epochs : List (Epoch C)) → All (λ (p : ℕ × ℕ). n ≤ p.0) (flat_map (submitted_in a c) (enumerate_from n epochs))

@@ -55,6 +55,8 @@ pub use Rattle.act_handles.proofs.Lookups.{copies-without_copy-other}
 pub use Rattle.act_handles.proofs.Places.{actors_opened}
 pub use Rattle.act_handles.specs.Handles.{actors_in, copies_in, with_copy, without_copy}
 pub use Rattle.act_handles.specs.declared.handles.Handle.{Handle}
+pub use Rattle.act_lists.proofs.Lists.{all_from_places, element}
+pub use Rattle.act_lists.proofs.Options.{cond_gives}
 pub use Rattle.act_mailbox.specs.Controls.{ControlExecView, ControlView, asker_of, starter}
 pub use Rattle.act_mailbox.specs.Lines.{items_from}
 pub use Rattle.act_mailbox.specs.Mails.{MailView, caller_of}
@@ -87,10 +89,10 @@ pub use Rattle.act_rules.proofs.Growth.{added_grows}
 pub use Rattle.act_rules.proofs.Kept.{answer_at-front, kept_at_is, kept_by}
 pub use Rattle.act_rules.proofs.KindFaults.{IsAlive, answer_alive}
 pub use Rattle.act_rules.proofs.Letters.{calls_to-number}
-pub use Rattle.act_rules.proofs.Lists.{All-two, AllPairs-map, All_at, All_more, IsPrefix-map, element, find-map, front_trans, length-zip_same, list_any-map}
+pub use Rattle.act_rules.proofs.Lists.{All-two, AllPairs-map, All_at, All_more, IsPrefix-map, find-map, front_trans, length-zip_same, list_any-map}
 pub use Rattle.act_rules.proofs.Lists.{range_push, slice_get-enumerate_from, slice_get-filter, slice_get_front, whole_front}
 pub use Rattle.act_rules.proofs.Order.{numbered, numbers}
-pub use Rattle.act_rules.proofs.Sound.{IsSound, consistent, world_sound}
+pub use Rattle.act_rules.proofs.Sound.{IsSound, consistent, reply_alive, world_sound}
 pub use Rattle.act_rules.proofs.Steps.{after_all_keeps}
 pub use Rattle.act_rules.proofs.Unique.{map-slice_get, same_place}
 pub use Rattle.act_rules.specs.Consistent.{Consistent, IsAsSubmitted, IsCallToDead, IsPrefix}

@@ -3,7 +3,6 @@ pub use Rattle.act_actor.specs.Casts.{actor_spec}
 pub use Rattle.act_actor.specs.declared.cast.Cast.{Cast}
 pub use Rattle.act_early.proofs.Ending.{enough}
 pub use Rattle.act_early.proofs.Listed.{named_caller}
-pub use Rattle.act_early.proofs.Replies.{named_call}
 pub use Rattle.act_early.proofs.Worlds.{world}
 pub use Rattle.act_early.specs.Early.{EndsAlike, HasRunMore, IsQuiescent, IsWholeSearch, is_heard}
 pub use Rattle.act_early.specs.Plays.{At, IsPlay}
@@ -29,6 +28,7 @@ pub use Rattle.act_plans.specs.Runs.{callers_of_casts, first_bad_plan, plan_of}
 pub use Rattle.act_plans.specs.Setups.{PlansFit}
 pub use Rattle.act_plans.specs.declared.rising.CallerSetup.{CallerSetup}
 pub use Rattle.act_rules.proofs.Lists.{list_any-map}
+pub use Rattle.act_rules.proofs.RanAll.{named_call}
 pub use Rattle.act_rules.specs.History.{ActorSpec, History, calls_of, contains, kept_of, next_item, opening, runs_of}
 pub use Rattle.act_rules.specs.Laws.{history}
 pub use Rattle.act_rules.specs.Report.{one_to}

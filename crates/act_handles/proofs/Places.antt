@@ -12,15 +12,13 @@ use Rattle.std.proofs.Math.Seq.{map-set_same}
 use Rattle.act_handles.proofs.Lookups.{given_of_all-opened}
 use Rattle.act_handles.specs.declared.handles.Handle.{Handle}
 use Rattle.act_handles.specs.Handles.{is_of, change_handle, new_handle, actors_in, given_of_all, IsHandles, IsAt}
+use Rattle.act_lists.proofs.Lists.{tail_apart}
 
 if_same : {A : Type 0} (a b : ℕ) (x y : A) → a ≡ b → (if a == b then x else y) ≡ x
 if_same a b x y e = rw (eq-eqb a b e) refl
 
 if_other : {A : Type 0} (a b : ℕ) (x y : A) → a ≢ b → (if a == b then x else y) ≡ y
 if_other a b x y ne = elim (eqb_tells a b) [ inl t ↦ absurd (ne t.1) | inr f ↦ rw f.0 refl ]
-
-tail_apart : (x : ℕ) (xs : List ℕ) → AllPairs (λ one other. one ≢ other) (x ∷ xs) → AllPairs (λ one other. one ≢ other) xs
-tail_apart x xs apart i j d lt below = apart (suc i) (suc j) d (omega arith) (omega arith)
 
 -- no later handle is of the first one's actor
 rest_other : (a : ℕ) (handle : Handle) (handles : List Handle) → AllPairs (λ one other. one ≢ other) (actors_in (handle ∷ handles)) → handle.actor ≡ a → (k : ℕ) (d : Handle) → k < length handles → (get_or handles k d).actor ≢ a

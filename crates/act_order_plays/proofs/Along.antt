@@ -1,7 +1,7 @@
 -- A history on the way to another: it grows, and what ran at an actor that has ended stays.
 use Rattle.act_order_plays.proofs.Common.{◌≡◌, ℕ, ◌+◌, ◌≤◌, ◌⊎◌, inl, inr, true, List, [], ◌∷◌, ◌++◌, length, Some, refl, sym, ap, subst, ◌∙◌, arith}
 use Rattle.act_order_plays.proofs.Common.{length-append, Event, Answer, kept_at, IsPrefix, ActorSpec, History, opening, calls_of, runs_of, kept_of, is_ended}
-use Rattle.act_order_plays.proofs.Common.{after, after_all, history, whole_front, front_trans, Grows, added_grows, calls_grow, after_all_keeps}
+use Rattle.act_order_plays.proofs.Common.{after_all, history, whole_front, front_trans, Grows, added_grows, calls_grow, after_all_keeps}
 use Rattle.act_order_plays.proofs.Common.{after_all-append, HasEnded, ended_stays, kept_stays, IsSound, world_sound}
 
 -- a history grows into itself
@@ -51,10 +51,6 @@ within_at casts first later events joined =
     subst (λ (all : List Event). Within (history casts first) (history casts all)) joined
     (subst (Within (history casts first)) (sym (after_all-append (opening casts) first later))
     (within_all (history casts first) later (world_sound casts first)))
-
--- one event more
-pub history_more : (casts : List ActorSpec) (first : List Event) (event : Event) → history casts (first ++ event ∷ []) ≡ after (history casts first) event
-history_more casts first event = after_all-append (opening casts) first (event ∷ [])
 
 -- ---- two ways to part the events
 

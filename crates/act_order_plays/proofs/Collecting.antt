@@ -2,8 +2,8 @@
 use Rattle.act_order_plays.proofs.Common.{◌≡◌, ℕ, ◌<◌, ◌==◌, ◌&&◌, Bool, true, cond, List, [], ◌∷◌, ◌++◌, length, Option, Some, None, Err, slice_get, refl, sym}
 use Rattle.act_order_plays.proofs.Common.{ap, subst, ◌∙◌, arith, filter_map, option_and_then, AllByRecursion, eq-eqb, and_from, slice_get_within, ActorDied}
 use Rattle.act_order_plays.proofs.Common.{KindState, OwnAt, Collect, Post, RunItem, Answer, answer_at, answers_from, History, runs_of, is_item_of, answer_of}
-use Rattle.act_order_plays.proofs.Common.{refusal_of, add_event, and_also, element, All_more, length-answers_from, sound_step, Happening, Submitted, Told}
-use Rattle.act_order_plays.proofs.Common.{call_of, kept_for, answers, future_of}
+use Rattle.act_order_plays.proofs.Common.{add_event, and_also, element, All_more, length-answers_from, sound_step, Happening, Submitted, Told}
+use Rattle.act_order_plays.proofs.Common.{call_of, kept_for, answers, future_of, collect_unrefused}
 use Rattle.act_rules.specs.declared.history.Post.TheVariants.{Reply as ReplyPost, Death as DeathPost}
 use Rattle.act_order_plays.proofs.Lists.{Has}
 use Rattle.act_order_plays.proofs.Fronts.{rans_of}
@@ -11,9 +11,6 @@ use Rattle.act_order_plays.proofs.Causes.{Good}
 use Rattle.act_order_plays.proofs.Answering.{item_of_call}
 use Rattle.act_order_plays.proofs.Stands.{Shape, IsRight, runs_are}
 use Rattle.act_order_plays.proofs.Keeping.{answers_to, kept_is, first_some, opening_is}
-
-pub collect_fine : (h : History) (j : ℕ) (post : Post) → slice_get h.posts j ≡ Some post → refusal_of h (Collect j) ≡ None
-collect_fine h j post at = rw at refl
 
 collected_is : (h : History) (j : ℕ) (post : Post) → slice_get h.posts j ≡ Some post → (add_event h (Collect j)).collected ≡ h.collected ++ post ∷ []
 collected_is h j post at = ap (λ (o : Option Post). and_also h.collected o) at
@@ -31,7 +28,7 @@ shape_collect told before h j post shape at right = record {
   collected = subst (λ (posts : List Post). AllByRecursion (IsRight told before) posts) (sym (collected_is h j post at))
       (All_more (IsRight told before) h.collected post shape.collected right);
   killed = shape.killed;
-  sound = sound_step h (Collect j) shape.sound (collect_fine h j post at);
+  sound = sound_step h (Collect j) shape.sound (collect_unrefused h j post at);
 }
 
 -- once a post that answers a call is collected, the call has an answer

@@ -1,4 +1,6 @@
 -- The names of specifications and of the crates below that most proofs here cite, passed on from one place.
+pub use Rattle.act_lists.proofs.Lists.{element, filter_map_alike, list_all-weaker, map-enumerate_from, slice_get_last, slice_get_more, slice_get_pushed}
+pub use Rattle.act_lists.proofs.Options.{cond_gives}
 pub use Rattle.act_order_plays.specs.Plays.{EndsAs, Fits, IsKeptFor, IsPlayOf, LeavesTold, Waited, answer_to, answers, args_of, call_key, calls_by}
 pub use Rattle.act_order_plays.specs.Plays.{cast_of_actor, casts_of, future_of, item_key, kept_for, run_key, runs_by, submission_key}
 pub use Rattle.act_orders.proofs.Lists.{get_taken}
@@ -16,15 +18,16 @@ pub use Rattle.act_orders.specs.declared.told.Run.{Run}
 pub use Rattle.act_orders.specs.declared.told.Told.{Told}
 pub use Rattle.act_rules.proofs.AsSubmitted.{calls_to-at, filter-slice_get}
 pub use Rattle.act_rules.proofs.Ended.{HasEnded, contains_more, ended_stays, needs-none, under-push}
+pub use Rattle.act_rules.proofs.Events.{calls_to-length, collect_unrefused, few_more, telling_unrefused}
 pub use Rattle.act_rules.proofs.Growth.{Grows, added_grows, after_run_grows, calls_grow, calls_to_grow, runs_grow}
 pub use Rattle.act_rules.proofs.Kept.{kept_at_is, kept_by, kept_stays, length-answers_from}
 pub use Rattle.act_rules.proofs.Letters.{IsSoundLetter, calls_to-number, has_letter-sound}
-pub use Rattle.act_rules.proofs.Lists.{All_at, All_more, All_weaker, IsPrefix-filter, IsPrefix-map, element, find-map, front_next, front_trans, option_map-none}
-pub use Rattle.act_rules.proofs.Lists.{option_or-none, range_push, slice_get-enumerate_from, slice_get-filter, slice_get_front, slice_get_last, slice_get_more}
-pub use Rattle.act_rules.proofs.Lists.{whole_front}
+pub use Rattle.act_rules.proofs.Lists.{All_at, All_more, All_weaker, IsPrefix-filter, IsPrefix-map, find-map, front_next, front_trans, option_map-none}
+pub use Rattle.act_rules.proofs.Lists.{option_or-none, range_push, slice_get-enumerate_from, slice_get-filter, slice_get_front}
+pub use Rattle.act_rules.proofs.Lists.{front_whole, whole_front}
 pub use Rattle.act_rules.proofs.Order.{InOrder, IsNext, next_item_is, numbered, numbers}
 pub use Rattle.act_rules.proofs.Posts.{PostsAreSound}
-pub use Rattle.act_rules.proofs.RanAll.{IsNamed, Retires, ran_all, world_retires}
+pub use Rattle.act_rules.proofs.RanAll.{IsNamed, Retires, map-numbered, ran_all, world_retires}
 pub use Rattle.act_rules.proofs.Retired.{times-push}
 pub use Rattle.act_rules.proofs.Sound.{IsSound, answers_are, consistent, deaths_are, kept_from, sound_step, world_sound}
 pub use Rattle.act_rules.proofs.Steps.{IsKept, after_all-append, after_all_keeps, after_keeps}

@@ -1,8 +1,8 @@
 -- An answer: a death is told and collected, and any other was collected with its run.
 use Rattle.act_order_plays.proofs.Common.{◌≡◌, ◌≢◌, ℕ, ◌<◌, ◌⊎◌, inl, inr, Bool, true, false, List, [], ◌∷◌, ◌++◌, length, Some, None, Err, slice_get, refl}
 use Rattle.act_order_plays.proofs.Common.{sym, ap, subst, ◌∙◌, is_some, ActorDied, Collect, AskKill, TakeKill, Tell, Answer, has_terminated, History, contains}
-use Rattle.act_order_plays.proofs.Common.{cast_of, names, is_caller, copies_of, runs_of, is_dead, is_ended, refusal_of, add_event, slice_get_last, added_grows}
-use Rattle.act_order_plays.proofs.Common.{sound_step, Happening, Submitted, Answered, Outcome, Told, call_of, actor_of, RunsInTurn, kept_for}
+use Rattle.act_order_plays.proofs.Common.{cast_of, is_caller, copies_of, runs_of, is_dead, is_ended, refusal_of, add_event, slice_get_last, added_grows}
+use Rattle.act_order_plays.proofs.Common.{sound_step, Happening, Submitted, Answered, Outcome, Told, call_of, actor_of, RunsInTurn, kept_for, telling_unrefused}
 use Rattle.act_rules.specs.declared.history.Post.TheVariants.{Death as DeathPost}
 use Rattle.act_orders.specs.declared.told.Outcome.TheVariants as out
 use Rattle.act_order_plays.proofs.Premises.{Premises}
@@ -15,7 +15,8 @@ use Rattle.act_order_plays.proofs.Stands.{Leads, leads_now, leads_by, leads_then
 use Rattle.act_order_plays.proofs.Keeping.{kept_gives}
 use Rattle.act_order_plays.proofs.More.{keeps_more, shape_answered}
 use Rattle.act_order_plays.proofs.Submitting.{one_copy}
-use Rattle.act_order_plays.proofs.Collecting.{collect_fine, shape_collect, collect_answers, death_answers}
+use Rattle.act_order_plays.proofs.Collecting.{shape_collect, collect_answers, death_answers}
+use Rattle.act_rules.proofs.Events.{collect_unrefused}
 
 -- ---- a kill
 
@@ -25,9 +26,6 @@ ask_fine h c a caller copy = rw (caller, copy) refl
 -- an actor takes the kill that was asked last
 pub take_fine : (h : History) (a : ℕ) → is_some (cast_of a h) ≡ true → is_ended a h ≡ false → contains a h.asked ≡ true → refusal_of h (TakeKill a) ≡ None
 take_fine h a cast lives asked = rw (cast, lives, asked) refl
-
-tell_fine : (h : History) (a c : ℕ) → is_caller c h ≡ true → names c (cast_of a h) ≡ true → is_dead a h ≡ true → refusal_of h (Tell a c) ≡ None
-tell_fine h a c caller named dead = rw (caller, named, dead) refl
 
 -- where one actor more is killed, each that is killed was so before, or is that one
 pub killed_or : (killed : List ℕ) (a b : ℕ) → contains b (killed ++ a ∷ []) ≡ true → (contains b killed ≡ true) ⊎ (a ≡ b)
@@ -106,7 +104,7 @@ module _ (told : Told) (fits : Premises told) (turn : RunsInTurn told) (before :
     told_death : (h : History) → Killed h → Leads (Stands told later) h
     told_death h k =
         let shape = k.shape in
-        let fine = tell_fine h a c (is_caller_is told h c a shape.casts actor role) (names_is told h c a shape.casts actor role) k.dead in
+        let fine = telling_unrefused h a c (is_caller_is told h c a shape.casts actor role) (names_is told h c a shape.casts actor role) k.dead in
         let h1 = add_event h (Tell a c) in
         let shape1 : Shape told later h1 = shape_stays told later h h1
         (record { casts = refl; copied = refl; released = refl; retired = refl; submitted = refl; ran = refl; collected = refl; killed = refl })
@@ -124,7 +122,7 @@ module _ (told : Told) (fits : Premises told) (turn : RunsInTurn told) (before :
           | inr d ↦ first.1 ∙ ap (λ (answer : Answer). Some answer) d.1
         ] in
         leads_by (Stands told later) h (Tell a c) fine
-        (leads_by (Stands told later) h1 (Collect j) (collect_fine h1 j post at) (leads_now (Stands told later) g (record {
+        (leads_by (Stands told later) h1 (Collect j) (collect_unrefused h1 j post at) (leads_now (Stands told later) g (record {
           shape = after;
           keeps = keeps_more told before (Answered n) g (keeps_stays told before h1 g (added_grows h1 (Collect j)) shape1.sound.posts keeps1)
               (λ m e. absurd (cc)) (λ m e d. let same : n ≡ m = cc in subst (λ (i : ℕ). kept_for told i g ≡ Some (Err ActorDied)) same mine);

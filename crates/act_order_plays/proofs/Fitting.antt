@@ -1,14 +1,14 @@
 -- What a play leaves fits the limits, and what it answers took no answer that failed.
-use Rattle.act_order_plays.proofs.Common.{◌≡◌, ℕ, zero, suc, ◌<◌, ◌≤◌, ◌==◌, inl, inr, Bool, true, false, cond, List, [], ◌∷◌, ◌++◌, length, map, nat_lt}
-use Rattle.act_order_plays.proofs.Common.{nat_le, Option, Some, None, Ok, Err, slice_get, refl, sym, ap, subst, ◌∙◌, arith, length-append, Result, filter}
-use Rattle.act_order_plays.proofs.Common.{is_some, option_map, option_and_then, AllByRecursion, list_all, Contains, eqb-true, ltb-true, leb-true, append-nil}
+use Rattle.act_order_plays.proofs.Common.{◌≡◌, ℕ, zero, suc, ◌<◌, ◌≤◌, ◌==◌, inl, inr, List, [], ◌∷◌, length, map, nat_lt}
+use Rattle.act_order_plays.proofs.Common.{nat_le, Option, Some, None, Ok, Err, slice_get, refl, sym, ap, subst, ◌∙◌, arith, Result, filter}
+use Rattle.act_order_plays.proofs.Common.{is_some, option_map, option_and_then, AllByRecursion, list_all, Contains, ltb-true, leb-true}
 use Rattle.act_order_plays.proofs.Common.{length-map, slice_get-map, slice_get_within, Arg, Fut, Method, Settled, Good, Bad, Value, KindState, Event, RunItem}
 use Rattle.act_order_plays.proofs.Common.{Submission, Answer, with_value, values_of, step_of_call, after_item, answer_at, needs, kept_at, settled_future}
 use Rattle.act_order_plays.proofs.Common.{settle, copies_held, is_earlier, submit_refusal, limit_refusal, IsAsSubmitted, ActorSpec, History, opening}
-use Rattle.act_order_plays.proofs.Common.{opening_of, under, is_caller, calls_of, copies_of, limit_of, runs_of, kept_of, next_item, unanswered}
+use Rattle.act_order_plays.proofs.Common.{opening_of, is_caller, calls_of, copies_of, limit_of, runs_of, kept_of, next_item, unanswered}
 use Rattle.act_order_plays.proofs.Common.{submission_refusal, refusal_of, after_run, after_all, All_more, All_at, option_map-none, option_or-none, IsKept}
-use Rattle.act_order_plays.proofs.Common.{after_all_keeps, needs-none, under-push, filter-slice_get, map-slice_get, IsSound, answers_are, consistent, Outcome}
-use Rattle.act_order_plays.proofs.Common.{Failed, Died, Open, Told, call_of, IsWhole, kept_for, IsKeptFor, LeavesTold, Fits, args_of, future_of}
+use Rattle.act_order_plays.proofs.Common.{after_all_keeps, needs-none, filter-slice_get, map-slice_get, IsSound, answers_are, consistent, Outcome}
+use Rattle.act_order_plays.proofs.Common.{Failed, Died, Open, Told, call_of, IsWhole, kept_for, IsKeptFor, LeavesTold, Fits, args_of, future_of, few_more}
 use Rattle.act_types.specs.declared.call.Value.TheVariants.{Unit as Nothing}
 use Rattle.act_rules.specs.declared.event.Event.TheVariants.{Submit, Copy, Release, Send, Deliver, Run as RunNext, Collect, AskKill, TakeKill, Tell, Retire}
 use Rattle.act_rules.specs.declared.outcome.SubmitRefusal.TheVariants.{NoActor as NoSuchActor, NoHandle as NoCopy, TooManyArgs, BadFuture, TooManyCalls}
@@ -46,23 +46,13 @@ record Limited (h : History) : Type 0 where
   args : AllByRecursion HasFew h.submitted
   calls : (c : ℕ) → length (calls_of c h) ≤ 65536
 
-calls_more : (h : History) (d c : ℕ) (call : Submission) → length (calls_of d h) < 65536 → length (calls_of c h) ≤ 65536 →
-    length (under c (h.submitted ++ (d, call) ∷ [])) ≤ 65536
-calls_more h d c call room few = rw (under-push c d h.submitted call) (go (d == c) refl)
-  where
-    go : (same : Bool) → (d == c) ≡ same → length (calls_of c h ++ cond same (call ∷ []) []) ≤ 65536
-    go true e =
-        let less : length (calls_of c h) < 65536 = subst (λ (x : ℕ). length (calls_of x h) < 65536) (eqb-true d c e) room in
-        rw (length-append (calls_of c h) (call ∷ [])) (omega arith)
-    go false e = rw (append-nil (calls_of c h)) few
-
 limited_step : IsKept Limited
 limited_step h (Submit c a method args) s accepted =
     let fits = submit_fits h c a method args accepted in
     let call : Submission = record { actor = a; method = method; args = args } in
     record {
       args = All_more HasFew h.submitted (c, call) s.args fits.0;
-      calls = λ d. calls_more h c d call fits.1 (s.calls d);
+      calls = λ d. few_more h c d call fits.1 (s.calls d);
     }
 limited_step h (Copy c a) s accepted = record { args = s.args; calls = s.calls }
 limited_step h (Release c a) s accepted = record { args = s.args; calls = s.calls }

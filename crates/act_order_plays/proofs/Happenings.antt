@@ -9,8 +9,9 @@ use Rattle.act_order_plays.proofs.Lists.{Has, has_of, contains_of, has_more, bel
 use Rattle.act_order_plays.proofs.Fronts.{run_at}
 use Rattle.act_order_plays.proofs.Casts.{contains_has, has_contains}
 use Rattle.act_order_plays.proofs.Left.{run_call}
-use Rattle.act_order_plays.proofs.Along.{Within, within_all, history_more, kept_along, calls_along}
+use Rattle.act_order_plays.proofs.Along.{Within, within_all, kept_along, calls_along}
 use Rattle.act_order_plays.proofs.Orders.{Once, once_map, once_append, has_later, has_either, last_of, Lasts, Before}
+use Rattle.act_rules.proofs.Events.{history_more}
 
 -- ---- what has happened
 

@@ -7,11 +7,12 @@ use Rattle.act_order_plays.proofs.Lists.{has_of, contains_of}
 use Rattle.act_order_plays.proofs.Fronts.{run_at}
 use Rattle.act_order_plays.proofs.Left.{run_happened, run_call}
 use Rattle.act_order_plays.proofs.Turns.{runs_in_turn, ends_right}
-use Rattle.act_order_plays.proofs.Along.{Within, within_at, within_all, history_more, parted, calls_along}
+use Rattle.act_order_plays.proofs.Along.{Within, within_at, within_all, parted, calls_along}
 use Rattle.act_order_plays.proofs.Orders.{Lasts, order_from, order_has, order_only, order_fresh, order_after, last_of}
 use Rattle.act_order_plays.proofs.Happenings.{Seen, has_call, has_answer, has_in, states, every, every_once, every_has, every_happened, answer_lasts, all_lasts, last_is, IsCausedAt, all_before}
 use Rattle.act_order_plays.proofs.Moments.{not_both}
 use Rattle.act_order_plays.proofs.Leading.{at_the_end, ran_before, submitted_caused, ran_caused, answered_caused}
+use Rattle.act_rules.proofs.Events.{history_more}
 
 module _ (told : Told) (events : List Event) (whole : IsWhole told) (play : IsPlayOf told events) where
   abbrev casts : List ActorSpec

@@ -1,9 +1,9 @@
 -- Which collected posts answer a call.
-use Rattle.act_order_plays.proofs.Common.{◌≡◌, ℕ, ◌<◌, ◌==◌, ◌&&◌, ◌⊎◌, inl, inr, Bool, true, false, cond, List, [], ◌∷◌, ◌++◌, length, Option, Some, None, Err}
+use Rattle.act_order_plays.proofs.Common.{◌≡◌, ℕ, ◌<◌, ◌==◌, ◌&&◌, ◌⊎◌, inl, inr, true, List, [], ◌∷◌, ◌++◌, length, Option, Some, None, Err}
 use Rattle.act_order_plays.proofs.Common.{slice_get, refl, sym, ap, subst, ◌∙◌, filter_map, option_map, option_and_then, AllByRecursion, cons_option, eqb-true}
 use Rattle.act_order_plays.proofs.Common.{and_parts, slice_get-map, ActorDied, KindState, OwnAt, Post, RunItem, Submission, Answer, answer_at, ActorSpec}
 use Rattle.act_order_plays.proofs.Common.{History, opening_of, calls_of, runs_of, is_item_of, answer_of, answer_in, slice_get_front, kept_by, kept_at_is}
-use Rattle.act_order_plays.proofs.Common.{Happening, Submitted, Ran, Told, call_of, kept_for, answers, calls_by, future_of}
+use Rattle.act_order_plays.proofs.Common.{Happening, Submitted, Ran, Told, call_of, kept_for, answers, calls_by, future_of, cond_gives}
 use Rattle.act_rules.specs.declared.history.Post.TheVariants.{Reply as ReplyPost, Death as DeathPost}
 use Rattle.act_order_plays.proofs.Lists.{Has}
 use Rattle.act_order_plays.proofs.Fronts.{subs_of, rans_of, subs_of_has, has_rans_of, call_at, calls_differ}
@@ -84,10 +84,6 @@ ran_submitted told before n good has = good.closed (Ran n) (Submitted n) has ref
 
 -- ---- what a right post answers
 
-cond_some : {A : Type 0} (b : Bool) (o : Option A) (x : A) → cond b o None ≡ Some x → (b ≡ true) × (o ≡ Some x)
-cond_some true o x e = (refl, e)
-cond_some false o x e = absurd (cc)
-
 pub opening_is : (told : Told) (before : List Happening) (h : History) (a : ℕ) → Shape told before h → a < length told.actors →
     opening_of a h ≡ Some (OwnAt answers)
 opening_is told before h a shape lt = ap (option_map (λ (cast : ActorSpec). cast.opening)) (cast_of_is told h a shape.casts lt)
@@ -101,7 +97,7 @@ pub right_gives : (told : Told) (before : List Happening) (h : History) (n : ℕ
     n < length told.calls → (call_of told n).actor < length told.actors → IsRight told before post → answers_to told n h post ≡ Some answer →
     Gives told before n answer
 right_gives told before h n (DeathPost d a) answer good shape lt actor right e =
-    let parts = cond_some _ _ answer e in
+    let parts = cond_gives _ _ answer e in
     let tests = and_parts (d == (call_of told n).caller) (a == (call_of told n).actor) parts.0 in
     let died : Some (Err ActorDied) ≡ Some answer = parts.1 in
     let same : Err ActorDied ≡ answer = cc in
@@ -110,7 +106,7 @@ right_gives told before h n (ReplyPost d a place) answer good shape lt actor rig
     let m = right.0 in
     let items = runs_are told before h a shape in
     let item = item_of_call told (runs_of a h) (rans_of told before a) place m items right.1 in
-    let parts = cond_some ((d == (call_of told n).caller) && is_item_of (call_of told n).caller (future_of told n) (slice_get (runs_of a h) place))
+    let parts = cond_gives ((d == (call_of told n).caller) && is_item_of (call_of told n).caller (future_of told n) (slice_get (runs_of a h) place))
     (answer_of a place h) answer e in
     let tests = and_parts (d == (call_of told n).caller) (is_item_of (call_of told n).caller (future_of told n) (slice_get (runs_of a h) place)) parts.0 in
     let mine = and_parts (item.0.caller == (call_of told n).caller) (item.0.future == future_of told n)

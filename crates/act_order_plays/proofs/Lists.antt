@@ -1,9 +1,9 @@
 -- Laws of lists: what they have, fronts of lists whose items differ, and numbers that pass a test.
 use Rattle.act_order_plays.proofs.Common.{◌≡◌, ℕ, zero, suc, ◌+◌, ◌<◌, ◌≤◌, ◌⊎◌, inl, inr, Bool, true, false, cond, List, [], ◌∷◌, ◌++◌, length, filter, take}
-use Rattle.act_order_plays.proofs.Common.{Option, Some, None, slice_get, refl, sym, ap, subst, ◌∙◌, arith, length-append, filter_map, Contains, cons_option}
+use Rattle.act_order_plays.proofs.Common.{Option, Some, None, slice_get, refl, sym, ap, subst, ◌∙◌, arith, filter_map, Contains, cons_option}
 use Rattle.act_order_plays.proofs.Common.{range_with_len, cases_lt, append-nil, filter-append, slice_get_within, slice_get-get_or, get_or_from_slice_get}
 use Rattle.act_order_plays.proofs.Common.{IsPrefix, slice_get_more, slice_get_front, slice_get_last, slice_get-filter, front_next, range_push, element}
-use Rattle.act_order_plays.proofs.Common.{filter-slice_get}
+use Rattle.act_order_plays.proofs.Common.{filter-slice_get, slice_get_pushed, front_whole}
 
 -- ---- what a list has
 
@@ -35,13 +35,6 @@ has_pushed {A = A} xs y x has = go xs has.0 has.1
     go [] (suc i) e = absurd (cc)
     go (z ∷ zs) zero e = inl (zero, e)
     go (z ∷ zs) (suc i) e = elim (go zs i e) [ inl h ↦ inl (suc h.0, h.1) | inr same ↦ inr same ]
-
-pub get_pushed : {A : Type 0} (xs : List A) (y : A) (i : ℕ) (x : A) → slice_get (xs ++ y ∷ []) i ≡ Some x →
-    (slice_get xs i ≡ Some x) ⊎ ((i ≡ length xs) × (y ≡ x))
-get_pushed [] y zero x e = inr (refl, (cc))
-get_pushed [] y (suc i) x e = absurd (cc)
-get_pushed (z ∷ zs) y zero x e = inl e
-get_pushed (z ∷ zs) y (suc i) x e = elim (get_pushed zs y i x e) [ inl h ↦ inl h | inr h ↦ inr (ap (λ (k : ℕ). suc k) h.0, h.1) ]
 
 -- what a list has and passes the test, the filtered list has
 pub has_filter : {A : Type 0} (p : A → Bool) (xs : List A) (x : A) → Has xs x → p x ≡ true → Has (filter p xs) x
@@ -126,18 +119,6 @@ pub front_grows : (xs ys : List ℕ) (i x : ℕ) → Differ ys → IsPrefix xs y
 front_grows xs ys i x differ front at fresh before =
     front_next xs ys x front (subst (λ (k : ℕ). slice_get ys k ≡ Some x) (sym (front_ends xs ys i x differ front at fresh before)) at)
 
--- a front that is as long is all
-pub front_whole : {A : Type 0} (xs ys : List A) → IsPrefix xs ys → length ys ≤ length xs → xs ≡ ys
-front_whole {A = A} xs ys f short = go f.0 refl
-  where
-    long : length xs + length f.0 ≤ length xs
-    long = rw (← length-append xs f.0, f.1) short
-
-    go : (rest : List A) → f.0 ≡ rest → xs ≡ ys
-    go [] e = sym (append-nil xs) ∙ ap (λ (r : List A). xs ++ r) (sym e) ∙ f.1
-    go (x ∷ rest) e =
-        let bad : length xs + length (x ∷ rest) ≤ length xs = subst (λ (r : List A). length xs + length r ≤ length xs) e long in absurd (omega arith)
-
 -- a front that has each item is the list
 pub front_has_all : (xs ys : List ℕ) → Differ ys → IsPrefix xs ys → ((y : ℕ) → Has ys y → Has xs y) → xs ≡ ys
 front_has_all xs ys differ front all = front_whole xs ys front (tests (cases_le (length ys) (length xs)))
@@ -185,7 +166,7 @@ below_has p (suc m) j n e = go (p m) refl (rw (below_more p m) at e) (below_has 
     go : (b : Bool) → p m ≡ b → slice_get (below p m ++ cond b (m ∷ []) []) j ≡ Some n → (slice_get (below p m) j ≡ Some n → IsBelow p m j n) →
         IsBelow p (suc m) j n
     go false is e rest = later (rest (rw (append-nil (below p m)) at e))
-    go true is e rest = elim (get_pushed (below p m) m j n e) [
+    go true is e rest = elim (slice_get_pushed (below p m) m j n e) [
       | inl h ↦ later (rest h)
       | inr h ↦ record { less = omega (arith, h.1); passes = ap p (sym h.1) ∙ is; place = h.0 ∙ ap (λ (k : ℕ). length (below p k)) h.1 }
     ]

@@ -4,6 +4,7 @@ use Rattle.act_order_plays.proofs.Common.{slice_get, refl, sym, ap, subst, ◌�
 use Rattle.act_order_plays.proofs.Common.{IsPrefix, RunItem, Submission, items_of, calls_to, number_of, History, calls_of, runs_of, ran_count, element}
 use Rattle.act_order_plays.proofs.Common.{slice_get_front, IsPrefix-map, calls_to_grow, calls_to-number, InOrder, numbered, numbers, calls_to-at, map-slice_get}
 use Rattle.act_order_plays.proofs.Common.{Happening, Submitted, Ran, Run, Told, call_of, SameWay, RunsInTurn, IsCause, calls_by, future_of, get_taken}
+use Rattle.act_order_plays.proofs.Common.{map-enumerate_from, map-numbered, calls_to-length}
 use Rattle.act_order_plays.proofs.Premises.{Premises}
 use Rattle.act_order_plays.proofs.Lists.{Has, has_filter, filter_has, Differ, front_ends}
 use Rattle.act_order_plays.proofs.Fronts.{subs_of, rans_of, rans_of_has, has_rans_of, call_at, call_before, calls_differ, IsRunAt, run_at, ran_earlier, take_front}
@@ -52,19 +53,6 @@ futures_to a calls = map (λ call. call.0) (calls_to a calls)
 pub futures_differ : (a : ℕ) (calls : List Submission) → Differ (futures_to a calls)
 futures_differ a calls = places_differ (λ (call : ℕ × Submission). call.1.actor == a) 0 calls
 
-count_from : (a n : ℕ) (calls : List Submission) →
-    length (filter (λ (call : ℕ × Submission). call.1.actor == a) (enumerate_from n calls)) ≡ length (filter (λ (call : Submission). call.actor == a) calls)
-count_from a n [] = refl
-count_from a n (x ∷ xs) = go (x.actor == a) (count_from a (n + 1) xs)
-  where
-    go : (b : Bool) → length (filter (λ (call : ℕ × Submission). call.1.actor == a) (enumerate_from (n + 1) xs)) ≡ length
-        (filter (λ (call : Submission). call.actor == a) xs) →
-        length (cond b ((n, x) ∷ filter (λ (call : ℕ × Submission). call.1.actor == a) (enumerate_from (n + 1) xs))
-        (filter (λ (call : ℕ × Submission). call.1.actor == a) (enumerate_from (n + 1) xs))) ≡ length
-        (cond b (x ∷ filter (λ (call : Submission). call.actor == a) xs) (filter (λ (call : Submission). call.actor == a) xs))
-    go true e = ap (λ (k : ℕ). suc k) e
-    go false e = e
-
 -- one call to the actor before the caller's call k
 record IsLower (a k q : ℕ) (calls : List Submission) : Type 0 where
   call : Submission
@@ -74,7 +62,7 @@ record IsLower (a k q : ℕ) (calls : List Submission) : Type 0 where
 
 lower : (a k j y : ℕ) (calls : List Submission) → j < number_of a k calls → slice_get (futures_to a calls) j ≡ Some y → IsLower a k y calls
 lower a k j y calls less at =
-    let short : j < length (calls_to a (take k calls)) = (let e = count_from a 0 (take k calls) in omega arith) in
+    let short : j < length (calls_to a (take k calls)) = (let e = calls_to-length a 0 (take k calls) in omega arith) in
     let one = element (calls_to a (take k calls)) j short in
     let is = calls_to-at a (take k calls) j one.0 one.1 in
     let early = get_taken k calls one.0.0 one.0.1 is.at in
@@ -87,14 +75,6 @@ lower a k j y calls less at =
 
 -- ---- those that ran
 
-map-second : (n : ℕ) (xs : List ℕ) → map (λ (p : ℕ × ℕ). p.1) (enumerate_from n xs) ≡ xs
-map-second n [] = refl
-map-second n (x ∷ xs) = ap (λ (l : List ℕ). x ∷ l) (map-second (n + 1) xs)
-
-map-numbered : (items : List RunItem) → map (λ (p : ℕ × ℕ). p.1) (map numbered items) ≡ map (λ (item : RunItem). item.future) items
-map-numbered [] = refl
-map-numbered (item ∷ items) = ap (λ (l : List ℕ). item.future ∷ l) (map-numbered items)
-
 -- the futures of a caller's calls that an actor ran, in the order of its run list
 abbrev pub futures_ran : ℕ → ℕ → History → List ℕ
 futures_ran c a h = map (λ item. item.future) (items_of c (runs_of a h))
@@ -103,7 +83,7 @@ pub front_ran : (h : History) (c a : ℕ) → InOrder h → IsPrefix (futures_ra
 front_ran h c a order =
     let both = IsPrefix-map (λ (p : ℕ × ℕ). p.1) (map numbered (items_of c (runs_of a h))) (numbers a (calls_of c h)) (order a c) in
     subst (λ (l : List ℕ). IsPrefix l (futures_to a (calls_of c h))) (map-numbered (items_of c (runs_of a h)))
-    (subst (λ (l : List ℕ). IsPrefix (map (λ (p : ℕ × ℕ). p.1) (map numbered (items_of c (runs_of a h)))) l) (map-second 0 (futures_to a (calls_of c h))) both)
+    (subst (λ (l : List ℕ). IsPrefix (map (λ (p : ℕ × ℕ). p.1) (map numbered (items_of c (runs_of a h)))) l) (map-enumerate_from 0 (futures_to a (calls_of c h))) both)
 
 pub ran_front : (told : Told) (before : List Happening) (h : History) (c a : ℕ) → Shape told before h →
     IsPrefix (futures_ran c a h) (futures_to a (calls_of c h))

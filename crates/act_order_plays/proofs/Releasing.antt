@@ -1,9 +1,10 @@
 -- An actor that retires: each of its callers releases its handle, and the note of it is brought.
 use Rattle.act_order_plays.proofs.Common.{◌≡◌, ℕ, zero, suc, ◌<◌, ◌==◌, ◌&&◌, ◌⊎◌, inl, inr, Bool, true, false, cond, List, [], ◌∷◌, ◌++◌, length, Option, Some}
-use Rattle.act_order_plays.proofs.Common.{None, slice_get, refl, sym, ap, subst, ◌∙◌, arith, is_some, list_all, eq-eqb, ne_eqb, and_from, and_parts, eqb_tells}
+use Rattle.act_order_plays.proofs.Common.{None, slice_get, refl, sym, ap, subst, ◌∙◌, arith, is_some, list_all, eq-eqb, ne_eqb, and_from, eqb_tells}
 use Rattle.act_order_plays.proofs.Common.{list_any-append, Release, Deliver, Retire, Letter, calls_to, copies_held, ActorSpec, History, contains, callers_in}
 use Rattle.act_order_plays.proofs.Common.{cast_of, is_caller, calls_of, count_pairs, copies_of, ran_count, is_letter, has_letter, is_done, is_drained, is_ended}
 use Rattle.act_order_plays.proofs.Common.{refusal_of, add_event, and_also, slice_get_last, contains_more, times-push, Dead, Retired, Told, actor_of}
+use Rattle.act_order_plays.proofs.Common.{list_all-weaker}
 use Rattle.act_rules.specs.declared.history.Letter.TheVariants.{Note as NoteLetter}
 use Rattle.act_order_plays.proofs.Lists.{Has, has_last}
 use Rattle.act_order_plays.proofs.Casts.{list_any_has, contains_has, cast_of_is, names_is, is_caller_is}
@@ -35,10 +36,6 @@ letter_more letter other letters has = rw (list_any-append (is_letter letter) le
 other_actor : (b : Bool) → cond {A = ℕ} (b && false) 1 0 ≡ 0
 other_actor true = refl
 other_actor false = refl
-
-list_all_more : {A : Type 0} (p q : A → Bool) (xs : List A) → ((x : A) → p x ≡ true → q x ≡ true) → list_all p xs ≡ true → list_all q xs ≡ true
-list_all_more p q [] f e = refl
-list_all_more p q (x ∷ xs) f e = let parts = and_parts (p x) (list_all p xs) e in and_from (q x) (list_all q xs) (f x parts.0) (list_all_more p q xs f parts.1)
 
 module _ (told : Told) (j : ℕ) (lt : j < length told.actors) (retires : end_of told j ≡ Retired) where
   -- the note of this caller has come, too
@@ -104,7 +101,7 @@ module _ (told : Told) (j : ℕ) (lt : j < length told.actors) (retires : end_of
       leads_now (AllFreed (c ∷ cs)) g2 (record {
         freeing = one.freeing;
         done = and_from (is_done c j g2) (list_all (λ d. is_done d j g2) cs) one.done
-            (list_all_more (λ d. is_done d j g) (λ d. is_done d j g2) cs one.more rest.done);
+            (list_all-weaker (λ d. is_done d j g) (λ d. is_done d j g2) cs one.more rest.done);
       })))
 
   retire_fine : (h : History) → AllFreed (actor_of told j).callers h → refusal_of h (Retire j) ≡ None

@@ -20,8 +20,9 @@ use Rattle.act_order_plays.proofs.Stands.{Leads, leads_now, leads_by, sub_of, pa
 use Rattle.act_order_plays.proofs.Keeping.{call_stands, kept_gives}
 use Rattle.act_order_plays.proofs.More.{death_more, rights_more, keeps_more}
 use Rattle.act_order_plays.proofs.Numbering.{number_is}
-use Rattle.act_order_plays.proofs.Collecting.{collect_fine, shape_collect, collect_answers, reply_answers}
+use Rattle.act_order_plays.proofs.Collecting.{shape_collect, collect_answers, reply_answers}
 use Rattle.act_order_plays.proofs.Sending.{no_death, alive, sendable, args_good}
+use Rattle.act_rules.proofs.Events.{collect_unrefused}
 
 -- ---- the parts of a run
 
@@ -208,7 +209,7 @@ module _ (told : Told) (fits : Premises told) (turn : RunsInTurn told) (before :
 
     lead3 : Leads (Stands told later) h3
     lead3 = elim (taken_or_not (call_of told n).outcome) [
-      | inl taken ↦ leads_by (Stands told later) h3 (Collect (length h2.posts)) (collect_fine h3 (length h2.posts) (ReplyPost c a place3) posted3)
+      | inl taken ↦ leads_by (Stands told later) h3 (Collect (length h2.posts)) (collect_unrefused h3 (length h2.posts) (ReplyPost c a place3) posted3)
           (leads_now (Stands told later) (add_event h3 (Collect (length h2.posts)))
           (collected h3 (length h2.posts) place3 shape3 keeps3 taken posted3 (place_is (runs_of a h2) (runs_are told before h2 a shape2))))
       | inr open_call ↦ leads_now (Stands told later) h3 (left_open h3 shape3 keeps3 open_call)

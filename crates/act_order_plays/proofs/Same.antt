@@ -1,6 +1,6 @@
 -- What is kept depends on the casts, the submissions, the runs and what was collected, alone.
-use Rattle.act_order_plays.proofs.Common.{◌≡◌, ℕ, List, [], ◌∷◌, Option, Some, None, slice_get, refl, sym, ap, ◌∙◌, filter_map, cons_option, Post, Submission}
-use Rattle.act_order_plays.proofs.Common.{Answer, kept_at, History, calls_of, kept_of, under, answer_in, kept_by, kept_at_is}
+use Rattle.act_order_plays.proofs.Common.{◌≡◌, ℕ, List, [], Option, Some, None, slice_get, refl, sym, ap, ◌∙◌, filter_map, Post, Submission}
+use Rattle.act_order_plays.proofs.Common.{Answer, kept_at, History, calls_of, kept_of, under, answer_in, kept_by, kept_at_is, filter_map_alike}
 use Rattle.act_rules.specs.declared.history.Post.TheVariants.{Reply as ReplyPost, Death as DeathPost}
 
 pub record SameLists (h g : History) : Type 0 where
@@ -13,16 +13,12 @@ same_answer : (h g : History) (c k b : ℕ) → SameLists h g → (post : Post) 
 same_answer h g c k b same (ReplyPost d a place) = let ran = same.ran in let casts = same.casts in rw (ran, casts) refl
 same_answer h g c k b same (DeathPost d a) = refl
 
-filter_map_same : {A B : Type 0} (f g : A → Option B) (xs : List A) → ((x : A) → f x ≡ g x) → filter_map f xs ≡ filter_map g xs
-filter_map_same f g [] same = refl
-filter_map_same f g (x ∷ xs) same = rw (same x) (ap (cons_option (g x)) (filter_map_same f g xs same))
-
 same_kept : (h g : History) (c k : ℕ) → SameLists h g → (o : Option Submission) → kept_by g c k o ≡ kept_by h c k o
 same_kept h g c k same None = refl
 same_kept h g c k same (Some call) =
     ap (λ (posts : List Post). slice_get (filter_map (answer_in g c k call.actor) posts) 0) same.collected
     ∙ ap (λ (answers : List Answer). slice_get answers 0)
-    (filter_map_same (answer_in g c k call.actor) (answer_in h c k call.actor) h.collected (same_answer h g c k call.actor same))
+    (filter_map_alike (answer_in g c k call.actor) (answer_in h c k call.actor) h.collected (same_answer h g c k call.actor same))
 
 pub kept_same : (h g : History) (c k : ℕ) → SameLists h g → kept_at (kept_of c g) k ≡ kept_at (kept_of c h) k
 kept_same h g c k same =

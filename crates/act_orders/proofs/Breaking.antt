@@ -1,9 +1,9 @@
 -- What shows that a history isn't in order contradicts that it is.
 use Rattle.act_orders.proofs.Common.{◌≡◌, ℕ, zero, suc, ◌+◌, ◌-◌, ◌<◌, ◌≤◌, List, length, sym, ap, ◌∙◌, arith, Some, slice_get, option_map, slice_get_within}
 use Rattle.act_orders.proofs.Common.{slice_get-map, Fault, Strays, Again, Skips, NoRole, Alive, LeftOut, Spoiled, Lacks, NoAnswer, Circle, Happening, Outcome}
-use Rattle.act_orders.proofs.Common.{Run, Told, call_of, calls_run, IsOrder, IsInOrderBy, IsCircle, IsFault, HasFailed}
+use Rattle.act_orders.proofs.Common.{Run, Told, call_of, calls_run, IsOrder, IsInOrderBy, IsCircle, IsFault, HasFailed, place_in, stands_in, element}
 use Rattle.act_orders.specs.declared.told.Outcome.TheVariants as out
-use Rattle.act_orders.proofs.Lists.{found, has_at, found_before, has_before, at_below}
+use Rattle.act_orders.proofs.Lists.{found_before, has_before}
 
 -- the call of the run at a place
 pub call_at : (told : Told) (i : ℕ) (run : Run) → slice_get told.runs i ≡ Some run → slice_get (calls_run told) i ≡ Some run.call
@@ -18,7 +18,7 @@ falls told order circle first p is round begins at zero h here =
     let same : Some first ≡ Some h = sym begins ∙ here in (p, omega arith, at ∙ same)
 falls told order circle first p is round begins at (suc i) h here =
     let lt : i < length circle = let w = slice_get_within circle (suc i) h here in omega (arith, w) in
-    let one = at_below circle i lt in
+    let one = element circle i lt in
     let before = falls told order circle first p is round begins at i one.0 one.1 in
     let e : suc i ≡ i + 1 = omega arith in
     let cause = round.waits i one.0 h one.1 (ap (λ k. slice_get circle k) (sym e) ∙ here) in
@@ -28,8 +28,8 @@ falls told order circle first p is round begins at (suc i) h here =
 circle_breaks : (told : Told) (order circle : List Happening) → IsOrder told order → IsCircle told circle → ⊥
 circle_breaks told order circle is round =
     let f = round.first in
-    let in' = is.all f (round.happened f (has_at circle 0 f round.begins)) in
-    let place = found order f in' in
+    let in' = is.all f (round.happened f (stands_in circle 0 f round.begins)) in
+    let place = place_in order f in' in
     let last = falls told order circle f place.0 is round round.begins place.1 (length circle - 1) f round.ends in
     let lt : last.0 < place.0 = omega (arith, last.1, round.more) in
     (is.after place.0 f place.1).once (has_before place.0 order last.0 f last.2 lt)
@@ -51,8 +51,8 @@ fault_breaks told (Spoiled n k) order f o = failed (call_of told k).outcome f.3 
     failed out.Died has is = absurd (cc)
     failed out.Open has is = has
 fault_breaks told (Lacks one other) order f o =
-    let place = found order one (o.causes.all one f.0) in
+    let place = place_in order one (o.causes.all one f.0) in
     let before = found_before place.0 order other ((o.causes.after place.0 one place.1).causes other f.1) in
-    f.2 (o.causes.only other (has_at order before.0 other before.2))
+    f.2 (o.causes.only other (stands_in order before.0 other before.2))
 fault_breaks told (NoAnswer k) order f o = f.1 (o.waits k f.0)
 fault_breaks told (Circle circle) order f o = circle_breaks told order circle o.causes f

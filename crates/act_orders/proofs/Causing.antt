@@ -4,9 +4,9 @@ use Rattle.act_orders.proofs.Common.{subst, ◌∙◌, arith, Option, Some, None
 use Rattle.act_orders.proofs.Common.{slice_get_within, slice_get-get_or, get_or_from_slice_get, slice_get-map, slice_get_past, cond_some, same_Some, Happening}
 use Rattle.act_orders.proofs.Common.{Submitted, Ran, Answered, Outcome, Run, Told, call_of, calls_run, Happened, IsCause, RunsBefore, RunsInTurn, SameCaller}
 use Rattle.act_orders.proofs.Common.{Needs, IsWhole, HasPlaces, IsPlace, place_of, run_of, number_of, run_before, call_before, first_cause, second_cause}
-use Rattle.act_orders.proofs.Common.{run_answered, last_call, taken_by, slots, graph_of, call_in}
+use Rattle.act_orders.proofs.Common.{run_answered, last_call, taken_by, slots, graph_of, call_in, place_in, stands_in}
 use Rattle.act_orders.specs.declared.told.Outcome.TheVariants as out
-use Rattle.act_orders.proofs.Lists.{found, has_at, has_before, same_or_not}
+use Rattle.act_orders.proofs.Lists.{has_before, same_or_not}
 use Rattle.act_orders.proofs.Breaking.{call_at}
 use Rattle.act_orders.proofs.Lasting.{is_last, last_found}
 use Rattle.act_orders.proofs.Running.{run_at}
@@ -45,7 +45,7 @@ taken_none told places h n p q far =
 -- a call that ran is one of the calls
 pub ran_within : (told : Told) (n : ℕ) → IsWhole told → Happened told (Ran n) → n < length told.calls
 ran_within told n whole has =
-    let f = found (calls_run told) n has in
+    let f = place_in (calls_run told) n has in
     let lt : f.0 < length told.runs = omega (arith, slice_get_within (calls_run told) f.0 n f.1, length-map told.runs (λ (run : Run). run.call)) in
     let same : Some (run_of told f.0).call ≡ Some n = sym (call_at told f.0 (run_of told f.0) (run_at told f.0 lt)) ∙ f.1 in
     let is : (run_of told f.0).call ≡ n = same_Some _ _ same in
@@ -132,14 +132,14 @@ needs_cause told places v u at whole is needs = by_slot needs.0 needs.1
     by_slot (suc zero) e = second_is told v u (same_Some _ _ e)
     by_slot (suc (suc j)) e =
         let m = mapped (slice_get (taken_by told v) j) u (sym (slice_get-map (λ j. Some (Answered j)) (taken_by told v) j) ∙ e) in
-        subst (λ w. IsCause told w v) m.2 (taken_cause told v m.0 (has_at (taken_by told v) j m.0 m.1))
+        subst (λ w. IsCause told w v) m.2 (taken_cause told v m.0 (stands_in (taken_by told v) j m.0 m.1))
 
 -- ---- each cause stands in a slot
 
 in_taken : (told : Told) (places : List (Option ℕ)) (v : Happening) (m : ℕ) → Contains (taken_by told v) m →
     Needs (graph_of told places) v (Answered m)
 in_taken told places v m has =
-    let f = found (taken_by told v) m has in
+    let f = place_in (taken_by told v) m has in
     (suc (suc f.0), slice_get-map (λ j. Some (Answered j)) (taken_by told v) f.0 ∙ ap (λ o. option_map (λ j. Some (Answered j)) o) f.1)
 
 call_slot : (told : Told) (m n : ℕ) → m + 1 ≡ n → SameCaller told m n → call_before told n ≡ Some (Submitted m)
@@ -159,7 +159,7 @@ run_slot : (told : Told) (i a m n : ℕ) (o : Option ℕ) → RunsInTurn told �
     slice_get told.runs i ≡ Some (record { actor = a; call = m }) →
     slice_get told.runs (i + 1) ≡ Some (record { actor = a; call = n }) → run_before told o ≡ Some (Ran m)
 run_slot told i a m n None turn at one next =
-    absurd (at (has_at (calls_run told) (i + 1) n (call_at told (i + 1) (record { actor = a; call = n }) next)))
+    absurd (at (stands_in (calls_run told) (i + 1) n (call_at told (i + 1) (record { actor = a; call = n }) next)))
 run_slot told i a m n (Some zero) turn at one next =
     absurd (once_there told (i + 1) 0 (record { actor = a; call = n }) (record { actor = at.0; call = n }) turn next at.1 refl (omega arith))
 run_slot told i a m n (Some (suc j)) turn at one next = elim (same_or_not j i) [
@@ -218,7 +218,7 @@ pub ran_before_answer : (told : Told) (o : Outcome) (m n : ℕ) → RunsBefore t
 ran_before_answer told out.Answered m n before ran = subst (λ k. Happened told (Ran k)) (sym before) (ran (λ e. cc))
 ran_before_answer told out.Failed m n before ran = subst (λ k. Happened told (Ran k)) (sym before) (ran (λ e. cc))
 ran_before_answer told out.Died m n before ran =
-    has_at (calls_run told) before.place m (call_at told before.place (record { actor = (call_of told n).actor; call = m }) before.at)
+    stands_in (calls_run told) before.place m (call_at told before.place (record { actor = (call_of told n).actor; call = m }) before.at)
 ran_before_answer told out.Open m n before ran = subst (λ k. Happened told (Ran k)) (sym before) (ran (λ e. cc))
 
 -- so it is one of the calls
@@ -236,7 +236,7 @@ cause_within told (Ran m) (Submitted n) whole is cause = absurd cause
 cause_within told (Answered m) (Submitted n) whole is cause = omega (arith, is, ((whole.waits n is).each m cause).before)
 cause_within told (Submitted m) (Ran n) whole is cause = subst (λ k. k < length told.calls) (sym cause) (ran_within told n whole is)
 cause_within told (Ran m) (Ran n) whole is cause =
-    ran_within told m whole (has_at (calls_run told) cause.0 m (call_at told cause.0 (record { actor = cause.1; call = m }) cause.2))
+    ran_within told m whole (stands_in (calls_run told) cause.0 m (call_at told cause.0 (record { actor = cause.1; call = m }) cause.2))
 cause_within told (Answered m) (Ran n) whole is cause =
     let lt = ran_within told n whole is in omega (arith, lt, ((whole.takes n lt).each m cause).before)
 cause_within told (Submitted m) (Answered n) whole is cause = subst (λ k. k < length told.calls) (sym cause) is.0

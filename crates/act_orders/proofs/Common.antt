@@ -1,4 +1,5 @@
 -- The names of specifications and of the crates below that most proofs here cite, passed on from one place.
+pub use Rattle.act_lists.proofs.Lists.{element, place_in, slice_get_last, slice_get_more, stands_in}
 pub use Rattle.act_orders.specs.Causes.{HasBefore, HasPlaces, IsBefore, IsEarlier, IsLast, IsPlace, IsUpTo, IsWhole, Rises, TurnTo, call_before, call_in}
 pub use Rattle.act_orders.specs.Causes.{first_cause, graph_of, last_call, number_of, place_of, run_answered, run_before, run_of, second_cause, slots, taken_by}
 pub use Rattle.act_orders.specs.Faults.{CallHolds, CallsHold, Come, Finds, HasFailed, IsCircle, IsFault, Runs, TakesGood}

@@ -3,9 +3,9 @@ use Rattle.act_orders.proofs.Common.{◌≡◌, ◌≢◌, ℕ, zero, suc, ◌+�
 use Rattle.act_orders.proofs.Common.{arith, Option, Some, None, Result, Ok, Err, IsTrue, is_some, true, false, Bool, Contains, All, MatchOption, option_to_list}
 use Rattle.act_orders.proofs.Common.{MatchResult, is_ok, append-nil, length-append, All-push, Contains-get_or, slice_get_within, get_or_from_slice_get, Fault}
 use Rattle.act_orders.proofs.Common.{Ran, Answered, Dead, Outcome, Died, Open, Told, call_of, actor_of, calls_run, Happened, HasPlaces, IsPlace, place_of}
-use Rattle.act_orders.proofs.Common.{IsFault, Finds, Come, Runs, HasFailed, TakesGood, CallHolds}
+use Rattle.act_orders.proofs.Common.{IsFault, Finds, Come, Runs, HasFailed, TakesGood, CallHolds, place_in, stands_in}
 use Rattle.act_orders.specs.declared.told.Outcome.TheVariants as out
-use Rattle.act_orders.proofs.Lists.{found, found_before, has_at, has_before, same_or_not}
+use Rattle.act_orders.proofs.Lists.{found_before, has_before, same_or_not}
 use Rattle.act_orders.proofs.Breaking.{call_at}
 use Rattle.act_orders.proofs.Running.{placed_at}
 
@@ -61,7 +61,7 @@ come_more told waits i n lt is all here k has =
 -- where the answers that are waited for have come up to a place, and none stands from there on, all have come
 pub come_all : (told : Told) (waits : List ℕ) (i : ℕ) → length waits ≤ i → Come told (take i waits) → Come told waits
 come_all told waits i far all k has =
-    let f = found waits k has in let w = slice_get_within waits f.0 k f.1 in
+    let f = place_in waits k has in let w = slice_get_within waits f.0 k f.1 in
     all k (has_before i waits f.0 k f.1 (omega (arith, w, far)))
 
 -- of no answers, none failed
@@ -82,7 +82,7 @@ good_more told n takes i m at all here is k has =
 pub good_all : (told : Told) (n : ℕ) (takes : List ℕ) (i : ℕ) → length takes ≤ i → TakesGood told n (take i takes) →
     TakesGood told n takes
 good_all told n takes i far all is k has =
-    let f = found takes k has in let w = slice_get_within takes f.0 k f.1 in
+    let f = place_in takes k has in let w = slice_get_within takes f.0 k f.1 in
     all is k (has_before i takes f.0 k f.1 (omega (arith, w, far)))
 
 -- what came and didn't fail is answered
@@ -109,7 +109,7 @@ pub has_run : (told : Told) (places : List (Option ℕ)) (n i : ℕ) → HasPlac
     place_of places n ≡ Some i → Happened told (Ran n)
 has_run told places n i at lt e =
     let there = placed_at told.runs n i (place_of places n) (at.place n lt) e in
-    has_at (calls_run told) i n (call_at told i _ there.1)
+    stands_in (calls_run told) i n (call_at told i _ there.1)
 
 pub has_not_run : (told : Told) (places : List (Option ℕ)) (n : ℕ) → HasPlaces told told.runs places → n < length told.calls →
     place_of places n ≡ None → Happened told (Ran n) → ⊥
@@ -132,7 +132,7 @@ found_role xs x (Ok i) b is e = ((λ _. subst (Contains xs) is.1 (Contains-get_o
 found_role xs x (Err i) b is e = (
   (λ h. absurd (let no : false ≡ true = sym e ∙ h in cc)),
   (λ has.
-      let f = found xs x has in let at = get_or_from_slice_get xs f.0 x 0 f.1 in let w = slice_get_within xs f.0 x f.1 in
+      let f = place_in xs x has in let at = get_or_from_slice_get xs f.0 x 0 f.1 in let w = slice_get_within xs f.0 x f.1 in
       elim (below_or_not f.0 i) [
         | inl lt ↦ absurd (let h = is.1 f.0 lt in omega (arith, h, at))
         | inr le ↦ absurd (let h = is.2 f.0 le w in omega (arith, h, at))
@@ -189,4 +189,4 @@ run_tells told places n b at lt e = tells (place_of places n) (at.place n lt) e
     tells : (o : Option ℕ) → IsPlace told.runs n o → b ≡ is_some o →
         (IsTrue b → Happened told (Ran n)) × (Happened told (Ran n) → IsTrue b)
     tells None is same = ((λ h. absurd (let no : false ≡ true = sym same ∙ h in cc)), (λ h. absurd (is h)))
-    tells (Some i) is same = ((λ _. has_at (calls_run told) i n (call_at told i _ is.1)), (λ _. same))
+    tells (Some i) is same = ((λ _. stands_in (calls_run told) i n (call_at told i _ is.1)), (λ _. same))

@@ -1,7 +1,8 @@
 -- An order of the nodes is one of the history.
 use Rattle.act_orders.proofs.Common.{ℕ, ◌+◌, ◌<◌, ◌≤◌, List, length, sym, subst, arith, Option, inl, inr, Contains, Happening, Submitted, Ran, Answered, Told}
 use Rattle.act_orders.proofs.Common.{call_of, calls_run, Happened, IsCause, IsInOrderBy, RunsInTurn, OrdersNodes, IsWhole, HasPlaces, graph_of, CallsHold}
-use Rattle.act_orders.proofs.Lists.{same_or_not, has_at}
+use Rattle.act_orders.proofs.Common.{stands_in}
+use Rattle.act_orders.proofs.Lists.{same_or_not}
 use Rattle.act_orders.proofs.Breaking.{call_at}
 use Rattle.act_orders.proofs.Causing.{ran_within, cause_needed, ran_before_answer}
 
@@ -12,7 +13,7 @@ closed told (Ran m) (Submitted n) whole hold is cause = absurd cause
 closed told (Answered m) (Submitted n) whole hold is cause = (hold.0 n is).waits m cause
 closed told (Submitted m) (Ran n) whole hold is cause = subst (λ k. k < length told.calls) (sym cause) (ran_within told n whole is)
 closed told (Ran m) (Ran n) whole hold is cause =
-    has_at (calls_run told) cause.0 m (call_at told cause.0 (record { actor = cause.1; call = m }) cause.2)
+    stands_in (calls_run told) cause.0 m (call_at told cause.0 (record { actor = cause.1; call = m }) cause.2)
 closed told (Answered m) (Ran n) whole hold is cause = (hold.0 n (ran_within told n whole is)).takes is m cause
 closed told (Submitted m) (Answered n) whole hold is cause = subst (λ k. k < length told.calls) (sym cause) is.0
 closed told (Ran m) (Answered n) whole hold is cause =
@@ -30,7 +31,7 @@ in_order told places order whole at turn hold ordered = record {
     only = ordered.only;
     after = λ i v there.
         let follows = ordered.after i v there in
-        let is = ordered.only v (has_at order i v there) in
+        let is = ordered.only v (stands_in order i v there) in
         record {
           once = follows.once;
           causes = λ u cause. follows.causes u (cause_needed told places u v at whole turn is cause) (closed told u v whole hold is cause);

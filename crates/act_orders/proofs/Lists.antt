@@ -1,7 +1,7 @@
 -- Lists that grow at their end: places, and what is said of each item with those before it.
 use Rattle.act_orders.proofs.Common.{◌≡◌, ◌≢◌, ℕ, zero, suc, ◌+◌, ◌<◌, ◌⊎◌, inl, inr, List, [], ◌∷◌, ◌++◌, length, take, drop, refl, sym, ap, subst, ◌∙◌, arith}
-use Rattle.act_orders.proofs.Common.{Some, slice_get, take-append-le, slice_get_within, slice_get-get_or, get_or_from_slice_get, take-append_seam, Contains}
-use Rattle.act_orders.proofs.Common.{EachAfter}
+use Rattle.act_orders.proofs.Common.{Some, slice_get, take-append-le, slice_get_within, take-append_seam, Contains}
+use Rattle.act_orders.proofs.Common.{EachAfter, slice_get_more, slice_get_last, stands_in, place_in}
 
 -- two numbers are one, or not
 pub same_or_not : (m n : ℕ) → (m ≡ n) ⊎ (m ≢ n)
@@ -18,17 +18,6 @@ get_pushed [] y (suc i) v e = absurd (cc)
 get_pushed (x ∷ xs) y zero v e = inl (omega arith, e)
 get_pushed (x ∷ xs) y (suc i) v e =
     elim (get_pushed xs y i v e) [ inl h ↦ inl (omega (arith, h.0), h.1) | inr h ↦ inr (ap (λ k. suc k) h.0, h.1) ]
-
--- what stands at a place still does when more is added
-pub get_kept : {A : Type 0} → (xs ys : List A) (i : ℕ) (v : A) → slice_get xs i ≡ Some v → slice_get (xs ++ ys) i ≡ Some v
-get_kept [] ys i v e = absurd (cc)
-get_kept (x ∷ xs) ys zero v e = e
-get_kept (x ∷ xs) ys (suc i) v e = get_kept xs ys i v e
-
--- the item that was added
-pub get_added : {A : Type 0} → (xs : List A) (y : A) → slice_get (xs ++ y ∷ []) (length xs) ≡ Some y
-get_added [] y = refl
-get_added (x ∷ xs) y = get_added xs y
 
 -- the items from a place on
 pub get_dropped : {A : Type 0} → (n : ℕ) (xs : List A) (i : ℕ) → slice_get (drop n xs) i ≡ slice_get xs (n + i)
@@ -50,20 +39,13 @@ each_after_pushed {A} P xs y before here i v e =
 
 pub each_after_front : {A : Type 0} (P : List A → A → Type 0) (xs ys : List A) → EachAfter P (xs ++ ys) → EachAfter P xs
 each_after_front P xs ys all i v e =
-    subst (λ ws. P ws v) (take-append-le i xs ys (let h = slice_get_within xs i v e in omega arith)) (all i v (get_kept xs ys i v e))
+    subst (λ ws. P ws v) (take-append-le i xs ys (let h = slice_get_within xs i v e in omega arith)) (all i v (slice_get_more xs ys i v e))
 
 -- the last of a list of which each is once isn't among the others
 pub fresh_last : {A : Type 0} (xs : List A) (y : A) → EachAfter (λ before v. Contains before v → ⊥) (xs ++ y ∷ []) →
     Contains xs y → ⊥
 fresh_last xs y all has =
-    all (length xs) y (get_added xs y) (subst (λ ws. Contains ws y) (sym (take-append_seam xs (y ∷ []))) has)
-
--- an item has a place, and what has a place is an item
-pub found : {A : Type 0} (xs : List A) (v : A) → Contains xs v → (k : ℕ) × (slice_get xs k ≡ Some v)
-found xs v has = (has.0, slice_get-get_or xs has.0 v has.1 ∙ ap Some has.2)
-
-pub has_at : {A : Type 0} (xs : List A) (k : ℕ) (v : A) → slice_get xs k ≡ Some v → Contains xs v
-has_at xs k v at = (k, slice_get_within xs k v at, get_or_from_slice_get xs k v v at)
+    all (length xs) y (slice_get_last xs y) (subst (λ ws. Contains ws y) (sym (take-append_seam xs (y ∷ []))) has)
 
 -- the same among the first items
 pub get_taken : {A : Type 0} (i : ℕ) (xs : List A) (k : ℕ) (v : A) → slice_get (take i xs) k ≡ Some v →
@@ -82,13 +64,7 @@ get_in_taken (suc i) (x ∷ xs) (suc k) v at lt = get_in_taken i xs k v at (omeg
 
 pub found_before : {A : Type 0} (i : ℕ) (xs : List A) (v : A) → Contains (take i xs) v →
     (k : ℕ) × (k < i) × (slice_get xs k ≡ Some v)
-found_before i xs v has = let f = found (take i xs) v has in let g = get_taken i xs f.0 v f.1 in (f.0, g.0, g.1)
+found_before i xs v has = let f = place_in (take i xs) v has in let g = get_taken i xs f.0 v f.1 in (f.0, g.0, g.1)
 
 pub has_before : {A : Type 0} (i : ℕ) (xs : List A) (k : ℕ) (v : A) → slice_get xs k ≡ Some v → k < i → Contains (take i xs) v
-has_before i xs k v at lt = has_at (take i xs) k v (get_in_taken i xs k v at lt)
-
--- each place below the length has an item
-pub at_below : {A : Type 0} (xs : List A) (k : ℕ) → k < length xs → (v : A) × (slice_get xs k ≡ Some v)
-at_below [] k lt = absurd (omega arith)
-at_below (x ∷ xs) zero lt = (x, refl)
-at_below (x ∷ xs) (suc k) lt = at_below xs k (omega arith)
+has_before i xs k v at lt = stands_in (take i xs) k v (get_in_taken i xs k v at lt)

@@ -2,8 +2,8 @@
 use Rattle.act_orders.proofs.Common.{◌≡◌, ℕ, ◌+◌, ◌-◌, ◌<◌, inl, inr, List, [], ◌∷◌, ◌++◌, length, drop, sym, ap, subst, ◌∙◌, arith, Option, Some, None}
 use Rattle.act_orders.proofs.Common.{slice_get, Contains, length-append, length-drop, Contains-push_cases, slice_get_within, same_Some, Next, Finish, Pass}
 use Rattle.act_orders.proofs.Common.{Enter, Close, Happening, Told, Happened, IsCause, Graph, Needs, Standing, IsWhole, HasPlaces, graph_of, IsCircle}
-use Rattle.act_orders.proofs.Common.{IsAtCause, IsNext}
-use Rattle.act_orders.proofs.Lists.{found, has_at, get_pushed, get_kept, get_added, get_dropped}
+use Rattle.act_orders.proofs.Common.{IsAtCause, IsNext, place_in, stands_in, slice_get_more, slice_get_last}
+use Rattle.act_orders.proofs.Lists.{get_pushed, get_dropped}
 use Rattle.act_orders.proofs.Causing.{needs_cause}
 
 pub next_at : (g : Graph Happening) (marks : List ℕ) (path order : List Happening) (top : Happening) (m : ℕ) (cause : Happening)
@@ -33,7 +33,7 @@ next_empty g order top m at = (
 
 -- the rest of a list has only items of it
 in_rest : {A : Type 0} (k : ℕ) (xs : List A) (v : A) → Contains (drop k xs) v → Contains xs v
-in_rest k xs v has = let f = found (drop k xs) v has in has_at xs (k + f.0) v (sym (get_dropped k xs f.0) ∙ f.1)
+in_rest k xs v has = let f = place_in (drop k xs) v has in stands_in xs (k + f.0) v (sym (get_dropped k xs f.0) ∙ f.1)
 
 pub circle_is : (told : Told) (places : List (Option ℕ)) (done : ℕ) (marks : List ℕ) (path order circle : List Happening)
     (top cause : Happening) (k : ℕ) → HasPlaces told told.runs places → IsWhole told →
@@ -59,7 +59,7 @@ circle_is told places done marks path order circle top cause k at whole s last n
             | inr h ↦ absurd (let w = slice_get_within circle (i + 1) next at_next in omega (arith, h.0, w, len))
             | inl h ↦
                 let one_at : slice_get path (k + i) ≡ Some one = sym (get_dropped k path i) ∙ h.1 in
-                let is_node = node one (has_at path (k + i) one one_at) in
+                let is_node = node one (stands_in path (k + i) one one_at) in
                 elim (get_pushed rest cause (i + 1) next (ap (λ ws. slice_get ws (i + 1)) (sym is) ∙ at_next)) [
                   | inl j ↦
                       let e : k + (i + 1) ≡ k + i + 1 = omega arith in
@@ -74,7 +74,7 @@ circle_is told places done marks path order circle top cause k at whole s last n
                 ]
           ];
       first = cause;
-      begins = ap (λ ws. slice_get ws 0) is ∙ get_kept rest (cause ∷ []) 0 cause first;
+      begins = ap (λ ws. slice_get ws 0) is ∙ slice_get_more rest (cause ∷ []) 0 cause first;
       ends = let e : length circle - 1 ≡ length rest = omega (arith, len) in
-          ap (λ ws. slice_get ws (length circle - 1)) is ∙ ap (λ n. slice_get (rest ++ cause ∷ []) n) e ∙ get_added rest cause;
+          ap (λ ws. slice_get ws (length circle - 1)) is ∙ ap (λ n. slice_get (rest ++ cause ∷ []) n) e ∙ slice_get_last rest cause;
     }

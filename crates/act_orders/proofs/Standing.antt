@@ -1,8 +1,8 @@
 -- The steps of a search for an order.
 use Rattle.act_orders.proofs.Common.{◌≡◌, ◌≢◌, ℕ, ◌+◌, ◌<◌, ◌≤◌, ◌⊎◌, inl, inr, List, [], ◌∷◌, ◌++◌, length, get_or, sym, ap, subst, ◌∙◌, arith, Some}
 use Rattle.act_orders.proofs.Common.{slice_get, set, Contains, get_or-set_same, get_or-set_other, length-set, length-append, Contains-append_left}
-use Rattle.act_orders.proofs.Common.{Contains-push, Contains-push_cases, slice_get_within, Graph, mark, Needs, MayFollow, Fresh, Standing}
-use Rattle.act_orders.proofs.Lists.{same_or_not, get_pushed, get_kept, each_after_pushed, each_after_front, fresh_last}
+use Rattle.act_orders.proofs.Common.{Contains-push, Contains-push_cases, slice_get_within, Graph, mark, Needs, MayFollow, Fresh, Standing, slice_get_more}
+use Rattle.act_orders.proofs.Lists.{same_or_not, get_pushed, each_after_pushed, each_after_front, fresh_last}
 
 -- no two nodes have one number
 abbrev pub Apart : {A : Type 0} → Graph A → Type 0
@@ -144,7 +144,7 @@ finished_by {A} g apart done marks rest order v m s at_m far =
         | inr h ↦ Contains-append_left order (v ∷ []) u
             (s.passed w (Contains-append_left rest (v ∷ []) w has) k u (omega (arith, h.1, below)) at n)
       ];
-      chain = λ i w x one next. s.chain i w x (get_kept rest (v ∷ []) i w one) (get_kept rest (v ∷ []) (i + 1) x next);
+      chain = λ i w x one next. s.chain i w x (slice_get_more rest (v ∷ []) i w one) (slice_get_more rest (v ∷ []) (i + 1) x next);
     }
 
 -- nothing is begun

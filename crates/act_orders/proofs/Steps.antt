@@ -1,8 +1,8 @@
 -- What a step of the search does to all that it has before it.
 use Rattle.act_orders.proofs.Common.{◌≡◌, ℕ, suc, ◌+◌, ◌-◌, ◌<◌, ◌≤◌, inl, inr, List, [], ◌∷◌, ◌++◌, length, get_or, take, refl, sym, ap, subst, ◌∙◌, arith}
 use Rattle.act_orders.proofs.Common.{Some, slice_get, set, Contains, sum_by-set, Contains-append_left, same_Some, Graph, mark, Needs, Standing, GoesOn, Steps}
-use Rattle.act_orders.proofs.Common.{AtRest, OrdersNodes, left}
-use Rattle.act_orders.proofs.Lists.{same_or_not, has_at}
+use Rattle.act_orders.proofs.Common.{AtRest, OrdersNodes, left, stands_in}
+use Rattle.act_orders.proofs.Lists.{same_or_not}
 use Rattle.act_orders.proofs.Standing.{Apart, marked, entered, passed_by, finished_by}
 
 -- a list whose last item is known
@@ -49,7 +49,7 @@ pub pass_step : {A : Type 0} (g : Graph A) (apart : Apart g) (done : ℕ) (marks
     ((u : A) → slice_get (g.slots v) (m - 1) ≡ Some (Some u) → g.IsNode u → Contains order u) →
     Steps g done marks (set marks (g.number v) (m + 1)) path order order
 pass_step g apart done marks path order v m s last at big here =
-    let on : Contains path v = has_at path (length path - 1) v last in
+    let on : Contains path v = stands_in path (length path - 1) v last in
     let node = s.begun v on in
     let lt : g.number v < length marks = s.room v node.0 in
     let low : mark g marks v ≡ (m - 1) + 1 = omega (arith, at, node.1) in
@@ -66,7 +66,7 @@ pub finish_step : {A : Type 0} (g : Graph A) (apart : Apart g) (done : ℕ) (mar
     length (g.slots v) ≤ m - 1 →
     Steps g done marks (set marks (g.number v) done) (take (length path - 1) path) order (order ++ v ∷ [])
 finish_step g apart done marks path order v m s last at far =
-    let on : Contains path v = has_at path (length path - 1) v last in
+    let on : Contains path v = stands_in path (length path - 1) v last in
     let node = s.begun v on in
     let lt : g.number v < length marks = s.room v node.0 in
     let low : mark g marks v ≡ (m - 1) + 1 = omega (arith, at, node.1) in
@@ -108,7 +108,7 @@ pub record Last {A : Type 0} (g : Graph A) (done : ℕ) (marks : List ℕ) (path
 pub last_of : {A : Type 0} (g : Graph A) (done : ℕ) (marks : List ℕ) (path order : List A) (v : A) →
     Standing g done marks path order → slice_get path (length path - 1) ≡ Some v → Last g done marks path v
 last_of g done marks path order v s at =
-    let on : Contains path v = has_at path (length path - 1) v at in let b = s.begun v on in
+    let on : Contains path v = stands_in path (length path - 1) v at in let b = s.begun v on in
     record { node = b.0; on = on; room = s.room v b.0; low = b.1; high = b.2 }
 
 -- the first node that is begun

@@ -3,6 +3,7 @@ pub use Rattle.act_handles.proofs.Lookups.{given-opened, given-with_copy, given-
 pub use Rattle.act_handles.specs.Handles.{change_handle, copies_in, given_in, given_of_all, new_handle, number_answer, or_else, with_copy, with_number}
 pub use Rattle.act_handles.specs.Handles.{without_copy}
 pub use Rattle.act_handles.specs.declared.handles.Handle.{Handle}
+pub use Rattle.act_lists.proofs.Lists.{slice_get_last}
 pub use Rattle.act_owner.specs.Life.{AreAccepted, Change, Copied, Hears, IsAccepted, IsToldBy, Noticed, Released, Sent, Submitted, after_change, after_changes}
 pub use Rattle.act_owner.specs.Life.{is_known_at, notices_in}
 pub use Rattle.act_owner.specs.Owner.{IsOwner, KnowsAnswers, OwnerView, after_reply_that, answer_after_death, answer_of_new_call, answered_row, answers_of}
@@ -16,8 +17,9 @@ pub use Rattle.act_replies.proofs.Deaths.{count-after_keep, death-after_keep, de
 pub use Rattle.act_replies.specs.Table.{after_keep, row_waits_for, row_with_answer, rows_after_death, unanswered_row, waits_at}
 pub use Rattle.act_replies.specs.declared.table.Row.{Row}
 pub use Rattle.act_resolver.specs.Resolver.{Entered, changed_at, is_answered, is_marked_sent, is_next_ready, is_told, least_ready, new_call, with_told}
+pub use Rattle.act_rules.proofs.Events.{calls_to-length}
 pub use Rattle.act_rules.proofs.Finding.{find-None, find-Some}
-pub use Rattle.act_rules.proofs.Lists.{option_or-none_second, slice_get_last}
+pub use Rattle.act_rules.proofs.Lists.{option_or-none_second}
 pub use Rattle.act_rules.specs.RunList.{Answer}
 pub use Rattle.act_rules.specs.Submissions.{calls_to, copies_held, is_known, kept_at, limit_refusal, needs, number_of, settle, settled_future, submit_refusal}
 pub use Rattle.act_rules.specs.declared.history.Submission.{Submission}

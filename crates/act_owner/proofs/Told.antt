@@ -1,11 +1,11 @@
 -- Where what a caller keeps comes from.
-use Rattle.act_owner.proofs.Common.{◌≡◌, ℕ, zero, suc, ◌+◌, ◌<◌, ◌==◌, ◌&&◌, ◌⊎◌, rules, Bool, true, false, if◌then◌else◌, not, List, [], ◌∷◌, ◌++◌, length}
+use Rattle.act_owner.proofs.Common.{◌≡◌, ℕ, zero, suc, ◌<◌, ◌==◌, ◌&&◌, ◌⊎◌, rules, Bool, true, false, if◌then◌else◌, not, List, [], ◌∷◌, ◌++◌, length}
 use Rattle.act_owner.proofs.Common.{map, replicate, Option, Ok, Err, Some, None, is_some, inl, inr, refl, sym, ◌∙◌, ap, subst, Contains, append_assoc}
-use Rattle.act_owner.proofs.Common.{append-nil, filter, slice_get, slice_set, zip, unwrap_or, enumerate_from, Contains-append_left, Contains-push, eqb_tells}
+use Rattle.act_owner.proofs.Common.{append-nil, filter, slice_get, slice_set, zip, unwrap_or, Contains-append_left, Contains-push, eqb_tells}
 use Rattle.act_owner.proofs.Common.{not-true, ActorDied, Reply, Notice, Answered, Death, Submission, Answer, kept_at, calls_to, slice_get_last, copies_in}
 use Rattle.act_owner.proofs.Common.{given_in, First, Late, Stray, OwnerView, submission_of, opened_under, with_death, after_reply_that, is_of_call, is_sent}
 use Rattle.act_owner.proofs.Common.{is_known_dead, is_to, is_death, answer_of_new_call, answer_after_death, Call, Change, Copied, Released, Submitted, Sent}
-use Rattle.act_owner.proofs.Common.{Noticed, after_change, after_changes, notices_in, IsToldBy, Hears}
+use Rattle.act_owner.proofs.Common.{Noticed, after_change, after_changes, notices_in, IsToldBy, Hears, calls_to-length}
 use Rattle.act_owner.proofs.Life.{Extends, step, found_below}
 
 -- ---- deaths
@@ -233,15 +233,6 @@ hears_opened limits id actors = record {
 }
 
 -- ---- how many calls go to an actor
-
-pub calls_to-length : (a n : ℕ) (calls : List Submission) → length (filter (λ (call : ℕ × Submission). call.1.actor == a) (enumerate_from n calls)) ≡ length (filter (λ (call : Submission). call.actor == a) calls)
-calls_to-length a n [] = refl
-calls_to-length a n (call ∷ calls) = both (call.actor == a) (calls_to-length a (n + 1) calls)
-  where
-    both : (b : Bool) → length (filter (λ (c : ℕ × Submission). c.1.actor == a) (enumerate_from (n + 1) calls)) ≡ length (filter (λ (c : Submission). c.actor == a) calls)
-        → length (if b then (n, call) ∷ filter (λ (c : ℕ × Submission). c.1.actor == a) (enumerate_from (n + 1) calls) else filter (λ (c : ℕ × Submission). c.1.actor == a) (enumerate_from (n + 1) calls)) ≡ length (if b then call ∷ filter (λ (c : Submission). c.actor == a) calls else filter (λ (c : Submission). c.actor == a) calls)
-    both true e = ap suc e
-    both false e = e
 
 pub given_is : (a : ℕ) (calls : List Call) (seen now : OwnerView) → seen ≡ now → seen.calls ≡ map submission_of calls → given_in a seen.handles ≡ length (filter (λ (call : Submission). call.actor == a) (map submission_of calls)) → given_in a now.handles ≡ length (calls_to a now.calls)
 given_is a calls seen now same is given =

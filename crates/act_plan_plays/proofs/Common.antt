@@ -6,14 +6,14 @@ pub use Rattle.act_early.proofs.Choices.{choices_same, heard_quiet}
 pub use Rattle.act_early.proofs.Choosing.{cast_known, run_more}
 pub use Rattle.act_early.proofs.Counting.{occurrences-push}
 pub use Rattle.act_early.proofs.Listed.{named_caller}
-pub use Rattle.act_early.proofs.Notes.{has_front, has_last, notes_sent}
+pub use Rattle.act_early.proofs.Notes.{notes_sent}
 pub use Rattle.act_early.proofs.Quiesces.{Quiesces, death_quiesces, quiesces_same, quiesces_trans, quiet_quiesces, skip_quiesces, step_quiesces}
-pub use Rattle.act_early.proofs.Replies.{named_call}
 pub use Rattle.act_early.proofs.Worlds.{IsWorld, contains_push, either_of, not_dead, not_so, or_second, take_needs, world}
 pub use Rattle.act_early.specs.Early.{HasRunMore, HasTakenMore, IsQuiescent, is_heard}
 pub use Rattle.act_early.specs.Fronts.{HaveSameChoices}
 pub use Rattle.act_early.specs.Plays.{At, Closes, Happens, IsPlay, MayTake, Opens, next_step, opened, skipped, steps_of, taken, with_event}
 pub use Rattle.act_handles.specs.Handles.{copies_in}
+pub use Rattle.act_lists.proofs.Lists.{element, slice_get_last}
 pub use Rattle.act_owner.specs.Owner.{OwnerView, first_ready, is_known_call, is_known_dead, is_ready, is_sent, refusal_to_submit}
 pub use Rattle.act_plan_plays.specs.Moves.{AllRuns, Does, HasDone, HasNoStep, IsDone, Moves, held, is_left_out, may_take, shows_dead, shows_live, shows_next}
 pub use Rattle.act_plan_plays.specs.Parts.{HasAsked, HasSteps, IsBehind, IsBrought, Parts, Stands, after_mail, after_move, after_post, parts_of}
@@ -29,9 +29,9 @@ pub use Rattle.act_plans.specs.Setups.{PlansFit}
 pub use Rattle.act_plans.specs.declared.rising.CallerSetup.{CallerSetup}
 pub use Rattle.act_rules.proofs.Ended.{contains_more, ended_stays, needs-none, run_needs}
 pub use Rattle.act_rules.proofs.Growth.{added_grows}
-pub use Rattle.act_rules.proofs.Letters.{letter_is}
-pub use Rattle.act_rules.proofs.Lists.{element, front_trans, list_any-map, option_map-none, range_push, slice_get_last}
-pub use Rattle.act_rules.proofs.RanAll.{Retires, copies_named, world_retires}
+pub use Rattle.act_rules.proofs.Letters.{has_front, has_last, letter_is}
+pub use Rattle.act_rules.proofs.Lists.{front_trans, list_any-map, option_map-none, range_push}
+pub use Rattle.act_rules.proofs.RanAll.{Retires, copies_named, named_call, world_retires}
 pub use Rattle.act_rules.proofs.Steps.{after_all-append, outcomes-append}
 pub use Rattle.act_rules.specs.Consistent.{IsPrefix}
 pub use Rattle.act_rules.specs.History.{ActorSpec, History, actors_naming, calls_of, cast_of, contains, copies_of, has_letter, is_caller, is_dead}

@@ -1,8 +1,8 @@
 -- The prepared casts and parts, told of the actor specifications and the plans of a run.
-use Rattle.act_plans.proofs.Common.{◌≡◌, ℕ, ◌==◌, Bool, true, false, if◌then◌else◌, List, [], ◌∷◌, map, Option, Some, None, refl, sym, ◌∙◌, ap, All, find}
+use Rattle.act_plans.proofs.Common.{◌≡◌, ℕ, ◌==◌, List, [], ◌∷◌, map, Option, Some, None, refl, sym, ◌∙◌, ap, All, find}
 use Rattle.act_plans.proofs.Common.{filter, filter_map, slice_get, option_map, list_any, cons_option, Vec, map-map, All-weaker, filter_agree, KindState, Step}
 use Rattle.act_plans.proofs.Common.{first_bad, one_to, find-map, list_any-map, Cast, actor_spec, actors_that_name, limits_that_name, actors_naming-actor_spec}
-use Rattle.act_plans.proofs.Common.{CallerSetup, Role, setup_view, setup_of, plan_in, steps_given, bad_of_setup, HasNumbers}
+use Rattle.act_plans.proofs.Common.{CallerSetup, Role, setup_view, setup_of, plan_in, steps_given, bad_of_setup, HasNumbers, filter_mapped}
 use Rattle.act_rules.specs.History.{ActorSpec, contains, actors_naming as naming_view}
 use Rattle.act_plans.specs.Prepared.{by_rising_actor, callers_named_by}
 use Rattle.act_plans.specs.Runs.{limits_naming as limits_view, callers_of_casts, actors_of_casts, cast_at, steps_of_plan, plan_of, bad_step_of, first_bad_plan}
@@ -10,14 +10,6 @@ use Rattle.act_plans.proofs.Keys.{each_first}
 use Rattle.act_plans.proofs.Matching.{actors_rising, found_rising, callers_are, roles_are}
 
 -- ---- lists that are mapped
-
-kept_step : {X Y : Type 0} (f : X → Y) (x : X) (rest : List X) (kept : List Y) (b : Bool) → kept ≡ map f rest → (if b then f x ∷ kept else kept) ≡ map f (if b then x ∷ rest else rest)
-kept_step f x rest kept true is = ap (λ l. f x ∷ l) is
-kept_step f x rest kept false is = is
-
-filter_mapped : {X Y : Type 0} (p : Y → Bool) (f : X → Y) (xs : List X) → filter p (map f xs) ≡ map f (filter (λ x. p (f x)) xs)
-filter_mapped p f [] = refl
-filter_mapped p f (x ∷ xs) = kept_step f x (filter (λ x. p (f x)) xs) (filter p (map f xs)) (p (f x)) (filter_mapped p f xs)
 
 filter_map_map : {X Y Z : Type 0} (h : Y → Option Z) (f : X → Y) (xs : List X) → filter_map h (map f xs) ≡ filter_map (λ x. h (f x)) xs
 filter_map_map h f [] = refl

@@ -9,6 +9,7 @@ pub use Rattle.act_handles.proofs.Lookups.{copies-opened, copies-with_number, gi
 pub use Rattle.act_handles.specs.Handles.{change_handle, copies_in, copy_answer, given_of_all, is_of, new_handle, number_answer, number_refusal, or_else}
 pub use Rattle.act_handles.specs.Handles.{release_answer, with_copy, with_number, without_copy}
 pub use Rattle.act_handles.specs.declared.handles.Handle.{Handle}
+pub use Rattle.act_lists.proofs.Lists.{filter_mapped}
 pub use Rattle.act_plans.specs.PlanChecks.{ChecksStep, IsAfter}
 pub use Rattle.act_plans.specs.Prepared.{HasNumbers, Role, bad_of_setup, plan_in, setup_of, setup_view, steps_given}
 pub use Rattle.act_plans.specs.Setups.{AreMatched, HasLimits, PlansFit, most_steps}

@@ -1,4 +1,5 @@
 -- The names of specifications and of the crates below that most proofs here cite, passed on from one place.
+pub use Rattle.act_lists.proofs.Lists.{take_written_over}
 pub use Rattle.act_replies.specs.Chains.{IsChained, IsCounted, IsFirstAbove, IsLastBelow, IsLinked, WaitingView, after_of, before_of, found_at, is_for}
 pub use Rattle.act_replies.specs.Chains.{linked_actors, with_found}
 pub use Rattle.act_replies.specs.Table.{IsKnown, IsTable, TableView, after_keep, after_keep_in, answer_in_table, is_open, keep_result, keep_result_in}

@@ -1,14 +1,9 @@
 -- What a change of the links does to the chains.
 use Rattle.act_replies.proofs.Common.{◌≡◌, ◌≢◌, ℕ, ◌<◌, ◌≤◌, List, [], ◌∷◌, ◌++◌, length, map, take, drop, get_or, Bool, true, false, Option, Some, None, refl}
 use Rattle.act_replies.proofs.Common.{sym, ◌∙◌, ap, subst, arith, slice_set, IfSome, is_some, not, get_or-map, get_or_default, length-map, length-set}
-use Rattle.act_replies.proofs.Common.{set-get_or, map-set, map-append, take_all, drop_all, append-nil, map-set_same, Link, found_at, with_found, IsLastBelow}
-use Rattle.act_replies.proofs.Common.{IsFirstAbove, linked_actors, before_of, after_of, IsLinked}
+use Rattle.act_replies.proofs.Common.{set-get_or, map-set, map-append, map-set_same, Link, found_at, with_found, IsLastBelow}
+use Rattle.act_replies.proofs.Common.{IsFirstAbove, linked_actors, before_of, after_of, IsLinked, take_written_over}
 use Rattle.act_replies.proofs.Chains.{within, removed_last, removed_inner, pushed}
-
--- a list of the same length, written over the whole of another
-pub whole : {X : Type 0} (n : ℕ) (xs ys : List X) → n ≡ length xs → length ys ≡ length xs → take n (ys ++ drop (length ys) xs) ≡ ys
-whole n xs ys all same =
-    rw (drop_all (length ys) xs (omega arith), append-nil) (take_all n ys (omega arith))
 
 -- what is read of a link
 pub read_link : (read : Link → Option ℕ) (items : List Link) (place : ℕ) (link : Link) → place < length items → link ≡ get_or items place link → found_at (map read items) place ≡ read link
@@ -31,7 +26,7 @@ taken_out items middle new place n link here all here_is middle_is actors before
     sym (length-map new (λ (l : Link). l.actor)) ∙ ap length actors ∙ length-map middle (λ (l : Link). l.actor) ∙ ap length middle_is in
     let before_same : before_of middle ≡ before_of items = ap before_of middle_is ∙ map-set_same (λ (l : Link). l.before) items place (silent here) here (ap (λ (l : Link). l.before) here_is) in
     let after_same : after_of middle ≡ after_of items = ap after_of middle_is ∙ map-set_same (λ (l : Link). l.after) items place (silent here) here (ap (λ (l : Link). l.after) here_is) in
-    rw (whole n out new (all ∙ sym (length-set items place (silent here))) as_many) (record {
+    rw (take_written_over n out new (all ∙ sym (length-set items place (silent here))) as_many) (record {
       actors = actors ∙ ap linked_actors middle_is ∙ map-set (λ (l : Link). l.actor) items place (silent here);
       before = before ∙ ap (λ (l : List (Option ℕ)). with_found l link.after link.before) before_same;
       after = after ∙ ap (λ (l : List (Option ℕ)). with_found l link.before link.after) after_same;
@@ -88,7 +83,7 @@ stays_out items actors place k link same at below is none =
 entered_last : (items middle new all : List Link) (n : ℕ) (link : Link) → n ≡ length items → middle ≡ items → linked_actors new ≡ linked_actors middle → all ≡ take n (new ++ drop (length new) items) ++ link ∷ [] → all ≡ new ++ link ∷ []
 entered_last items middle new all n link n_is middle_is actors_new all_is =
     let as_many : length new ≡ length items = sym (length-map new (λ (l : Link). l.actor)) ∙ ap length actors_new ∙ length-map middle (λ (l : Link). l.actor) ∙ ap length middle_is in
-    all_is ∙ ap (λ (l : List Link). l ++ link ∷ []) (whole n items new n_is as_many)
+    all_is ∙ ap (λ (l : List Link). l ++ link ∷ []) (take_written_over n items new n_is as_many)
 
 pub entered_actors : (items middle new all : List Link) (n : ℕ) (link : Link) → n ≡ length items → middle ≡ items → linked_actors new ≡ linked_actors middle → all ≡ take n (new ++ drop (length new) items) ++ link ∷ [] → linked_actors all ≡ linked_actors items ++ link.actor ∷ []
 entered_actors items middle new all n link n_is middle_is actors_new all_is =

@@ -1,12 +1,12 @@
 -- The counts, the waiting calls and the free calls after an entry, a telling and a sending.
 use Rattle.act_resolver.proofs.Common.{◌≡◌, ◌≢◌, ℕ, zero, suc, ◌+◌, ◌-◌, ◌<◌, ◌≤◌, ◌==◌, ◌&&◌, ◌⊎◌, inl, inr, Bool, true, false, cond, not, eqb, Option}
-use Rattle.act_resolver.proofs.Common.{Some, None, List, [], ◌∷◌, ◌++◌, length, get_or, take, drop, find, count_by, refl, sym, ◌∙◌, ap, arith, slice_set}
+use Rattle.act_resolver.proofs.Common.{Some, None, List, [], ◌∷◌, ◌++◌, length, get_or, drop, find, count_by, refl, sym, ◌∙◌, ap, arith, slice_set}
 use Rattle.act_resolver.proofs.Common.{slice_get, list_all, range_with_len, option_map, option_map_or, length-map, length-set, length_push, map-append}
-use Rattle.act_resolver.proofs.Common.{map-set, set-get_or, get_or-set_other, get_or-set_same, take_all, drop_all, append-nil, sum_by-cons}
+use Rattle.act_resolver.proofs.Common.{map-set, set-get_or, get_or-set_other, get_or-set_same, sum_by-cons}
 use Rattle.act_resolver.proofs.Common.{slice_get-get_or, slice_get-map, slice_get_past, slice_get_within, slice_get_read, get_or_from_slice_get, cases_lt}
 use Rattle.act_resolver.proofs.Common.{cases_eq, eq-eqb, false≢true, eqb_tells, Entered, new_call, is_answered, is_told, is_next_ready, least_ready}
 use Rattle.act_resolver.proofs.Common.{changed_at, IsLeast, waiters_of, futures_at, missing_of, count_number, places_for, is_free, AreCounted, AreFree}
-use Rattle.act_resolver.proofs.Common.{IsResolver, IsTelling, Row, calls_of, missing_at, with_one_less}
+use Rattle.act_resolver.proofs.Common.{IsResolver, IsTelling, Row, calls_of, missing_at, with_one_less, slice_get_last}
 
 not_eqb : (a b : ℕ) → a ≢ b → eqb a b ≡ false
 not_eqb a b other = elim (eqb_tells a b) [ inl told ↦ absurd (other told.1) | inr told ↦ told.0 ]
@@ -23,10 +23,6 @@ get-set_other (x ∷ xs) zero zero y other = absurd (other refl)
 get-set_other (x ∷ xs) zero (suc i) y other = refl
 get-set_other (x ∷ xs) (suc k) zero y other = refl
 get-set_other (x ∷ xs) (suc k) (suc i) y other = get-set_other xs k i y (λ e. other (ap suc e))
-
-get-push_here : {X : Type 0} (xs : List X) (y : X) → slice_get (xs ++ y ∷ []) (length xs) ≡ Some y
-get-push_here [] y = refl
-get-push_here (x ∷ xs) y = get-push_here xs y
 
 get-push_other : {X : Type 0} (xs : List X) (y : X) (i : ℕ) → i ≢ length xs → slice_get (xs ++ y ∷ []) i ≡ slice_get xs i
 get-push_other [] y zero other = absurd (other refl)
@@ -308,18 +304,18 @@ entered_fine rows lists after ready k count futures fine next room is size waits
     let all : calls_of (rows ++ row ∷ []) ≡ more = map-append (λ (r : Row). r.call) rows (row ∷ []) in
     let next_call : k ≡ length calls = next ∙ sym (length-calls rows) in
     let told : (future : ℕ) → is_answered more future ≡ is_answered calls future = λ future. elim (cases_eq future (length calls)) [
-      | inl e ↦ rw (e, get-push_here calls new, slice_get_past calls (length calls) (omega arith)) refl
+      | inl e ↦ rw (e, slice_get_last calls new, slice_get_past calls (length calls) (omega arith)) refl
       | inr other ↦ rw (get-push_other calls new future other) refl
     ] in
     let named : (i : ℕ) → i ≢ k → futures_at more i ≡ futures_at calls i = λ i other. rw (get-push_other calls new i (λ e. other (e ∙ sym next_call))) refl in
-    let here : futures_at more k ≡ futures = rw (next_call, get-push_here calls new) refl in
+    let here : futures_at more k ≡ futures = rw (next_call, slice_get_last calls new) refl in
     let nothing : futures_at calls k ≡ [] = rw (slice_get_past calls k (omega arith)) refl in
     let waiting : (future : ℕ) (xs : List ℕ) → missing_of calls xs ≡ missing_of more xs = λ future xs. count_same (λ future. not (is_answered calls future)) (λ future. not (is_answered more future)) xs (λ future. ap not (sym (told future))) in
     record {
       size_lists = omega (arith, fine.size_lists, length_push rows row, length_push lists []);
       size_ready = omega (arith, length_push rows row, length-set ready k (count == 0));
       counted = λ i. rw all (elim (cases_eq i k) [
-        | inl e ↦ rw (e, here, next, get-push_here rows row) (is ∙ waiting k futures)
+        | inl e ↦ rw (e, here, next, slice_get_last rows row) (is ∙ waiting k futures)
         | inr other ↦ rw (get-push_other rows row i (λ e. other (e ∙ sym next)), named i other) (fine.counted i ∙ waiting i (futures_at calls i))
       ]);
       waits = λ future i. rw all (waits future i ∙ rw (get_or-push_default lists [] future, told future) (elim (cases_eq i k) [
@@ -341,11 +337,6 @@ entered_fine rows lists after ready k count futures fine next room is size waits
     free i =
         let row : Row = record { call = new_call futures; missing = count } in
         elim (cases_eq i k) [
-          | inl e ↦ rw (e, get_or-set_same ready k (count == 0) false room, next, get-push_here rows row) (plain (count == 0))
+          | inl e ↦ rw (e, get_or-set_same ready k (count == 0) false room, next, slice_get_last rows row) (plain (count == 0))
           | inr other ↦ get_or-set_other ready k i (count == 0) false other ∙ fine.free i ∙ rw (get-push_other rows row i (λ e. other (e ∙ sym next))) refl
         ]
-
--- a list that was written over as a slice
-pub whole : {X : Type 0} (n : ℕ) (old new : List X) → n ≡ length old → length new ≡ length old → take n (new ++ drop (length new) old) ≡ new
-whole n old new all same =
-    rw (drop_all (length new) old (omega arith), append-nil new) (take_all n new (omega arith))

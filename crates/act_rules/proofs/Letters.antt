@@ -4,7 +4,7 @@ use Rattle.act_rules.proofs.Common.{Option, ◌==◌, ◌||◌, ◌&&◌, not, f
 use Rattle.act_rules.proofs.Common.{eq-eqb, eqb-true, and_parts, RunItem, Event, Submit, Copy, Release, Send, Deliver, Run, Collect, AskKill, TakeKill, Tell}
 use Rattle.act_rules.proofs.Common.{Retire, NoCaller, Sending, NotReady, Answered, Submission, calls_to, number_of, needs, is_known, kept_at, send_refusal}
 use Rattle.act_rules.proofs.Common.{Letter, History, calls_of, kept_of, is_caller, is_letter, has_letter, next_item, refusal_of, add_event, and_also, after_run}
-use Rattle.act_rules.proofs.Common.{call_letter, was_sent, is_last}
+use Rattle.act_rules.proofs.Common.{call_letter, was_sent, is_last, IsPrefix, list_any-append, or_right, slice_get_last, ◌++◌}
 use Rattle.act_rules.specs.declared.history.Letter.TheVariants.{Call as CallLetter, Note as NoteLetter}
 use Rattle.act_rules.proofs.Lists.{slice_get_front, slice_get-filter, slice_get-enumerate_from, All_more, All_weaker, All_at, option_map-none}
 use Rattle.act_rules.proofs.Growth.{Grows, added_grows, after_run_grows, calls_grow, calls_to_grow}
@@ -137,3 +137,33 @@ has_letter-sound P letter (x ∷ letters) all e = go (is_letter letter x) refl (
     go : (b : Bool) → is_letter letter x ≡ b → (has_letter letter letters ≡ true → P letter) → (b || has_letter letter letters) ≡ true → P letter
     go true is rest e = subst P (sym (letter_is letter x is)) all.0
     go false is rest e = rest e
+
+-- ---- letters in a list
+
+-- a letter is itself
+pub is_letter-same : (letter : Letter) → is_letter letter letter ≡ true
+is_letter-same (CallLetter c a n) = rw (eq-eqb c c refl, eq-eqb a a refl, eq-eqb n n refl) refl
+is_letter-same (NoteLetter c a n) = rw (eq-eqb c c refl, eq-eqb a a refl, eq-eqb n n refl) refl
+
+-- what a front has, the whole has
+pub has_front : (letter : Letter) (xs ys : List Letter) → IsPrefix xs ys → has_letter letter xs ≡ true → has_letter letter ys ≡ true
+has_front letter xs ys f e = rw (← f.1, list_any-append (is_letter letter) xs f.0, e) refl
+
+-- what stands at a place is there
+pub has_letter-at : (letter : Letter) (letters : List Letter) (i : ℕ) → slice_get letters i ≡ Some letter → has_letter letter letters ≡ true
+has_letter-at letter [] i e = cc
+has_letter-at letter (x ∷ letters) zero e = let same : x ≡ letter = cc in rw (same, is_letter-same letter) refl
+has_letter-at letter (x ∷ letters) (suc i) e = or_right (is_letter letter x) (has_letter letter letters) (has_letter-at letter letters i e)
+
+-- the one that was added last is there
+pub has_last : (letter : Letter) (xs : List Letter) → has_letter letter (xs ++ letter ∷ []) ≡ true
+has_last letter xs = has_letter-at letter (xs ++ letter ∷ []) (length xs) (slice_get_last xs letter)
+
+-- a letter that is there has a place
+pub letter_place : (letter : Letter) (letters : List Letter) → has_letter letter letters ≡ true → (i : ℕ) × (slice_get letters i ≡ Some letter)
+letter_place letter [] e = cc
+letter_place letter (x ∷ letters) e = go (is_letter letter x) refl (letter_place letter letters) e
+  where
+    go : (b : Bool) → is_letter letter x ≡ b → (has_letter letter letters ≡ true → (i : ℕ) × (slice_get letters i ≡ Some letter)) → (b || has_letter letter letters) ≡ true → (i : ℕ) × (slice_get (x ∷ letters) i ≡ Some letter)
+    go true is rest e = (zero, ap (λ (l : Letter). Some l) (sym (letter_is letter x is)))
+    go false is rest e = let there = rest e in (suc there.0, there.1)

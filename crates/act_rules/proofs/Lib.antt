@@ -2,6 +2,7 @@ pub mod Common
 pub mod Steps
 pub mod Terminated
 pub mod Ended
+pub mod Events
 pub mod Lists
 pub mod Finding
 pub mod RunLists

@@ -3,9 +3,10 @@ use Rattle.act_rules.proofs.Common.{◌≡◌, ℕ, Bool, true, false, cond, Lis
 use Rattle.act_rules.proofs.Common.{AllByRecursion, eq-eqb, RunItem, Event, Submit, Copy, Release, Send, Deliver, Run, Collect, AskKill, TakeKill, Tell, Retire}
 use Rattle.act_rules.proofs.Common.{NoCaller, Handle, NotDead, NoActor, Submission, calls_to, needs, Post, History, under, runs_of, calls_of, kept_of, cast_of}
 use Rattle.act_rules.proofs.Common.{names, is_caller, is_dead, has_letter, ran_count, run_item, next_item, refusal_of, add_event, and_also, after_run}
+use Rattle.act_rules.proofs.Common.{slice_get_last}
 use Rattle.act_rules.specs.declared.history.Letter.TheVariants.{Call as CallLetter}
 use Rattle.act_rules.specs.declared.history.Post.TheVariants.{Reply as ReplyPost, Death as DeathPost}
-use Rattle.act_rules.proofs.Lists.{slice_get_front, slice_get_last, All_more, All_weaker, All_at}
+use Rattle.act_rules.proofs.Lists.{slice_get_front, All_more, All_weaker, All_at}
 use Rattle.act_rules.proofs.Growth.{added_grows, runs_grow}
 use Rattle.act_rules.proofs.Steps.{IsKept}
 use Rattle.act_rules.proofs.Ended.{needs-none, under-push, dead_stays}

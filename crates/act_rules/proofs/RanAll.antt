@@ -1,17 +1,18 @@
 -- A retired actor ran every call that was submitted to it, of every caller.
 use Rattle.act_rules.proofs.Common.{◌≡◌, ℕ, ◌+◌, ◌≤◌, Bool, true, false, cond, List, [], ◌∷◌, ◌++◌, length, Some, None, refl, ap, sym, ◌∙◌, subst, arith}
-use Rattle.act_rules.proofs.Common.{length-append, ◌⊎◌, inl, inr, ⊎_elim, ◌-◌, Option, ◌==◌, ◌||◌, not, map, filter, find, slice_get, is_some, AllByRecursion}
-use Rattle.act_rules.proofs.Common.{list_all, enumerate_from, eqb-true, and_parts, and_from, or_right, append-nil, length-map, list_any-append}
+use Rattle.act_rules.proofs.Common.{◌⊎◌, inl, inr, ⊎_elim, ◌-◌, Option, ◌==◌, ◌||◌, not, map, filter, find, slice_get, is_some, AllByRecursion}
+use Rattle.act_rules.proofs.Common.{list_all, eqb-true, and_parts, or_right, length-map}
 use Rattle.act_rules.proofs.Common.{length-enumerate_from, RunItem, Event, Submit, Copy, Release, Send, Deliver, Run, Collect, AskKill, TakeKill, Tell, Retire}
-use Rattle.act_rules.proofs.Common.{Handle, ActorEnded, NotDrained, NoActor, items_of, Submission, calls_to, needs, IsPrefix, Letter, ActorSpec, History}
-use Rattle.act_rules.proofs.Common.{opening, contains, callers_in, cast_of, names, calls_of, count_pairs, copies_of, runs_of, ran_count, has_letter, is_letter}
+use Rattle.act_rules.proofs.Common.{Handle, ActorEnded, NotDrained, NoActor, items_of, Submission, calls_to, needs, ActorSpec, History}
+use Rattle.act_rules.proofs.Common.{opening, contains, callers_in, cast_of, names, calls_of, count_pairs, copies_of, runs_of, ran_count}
 use Rattle.act_rules.proofs.Common.{is_done, is_drained, is_dead, is_retired, is_ended, next_item, refusal_of, add_event, after_run, after_all}
+use Rattle.act_rules.proofs.Common.{list_all-weaker, map-enumerate_from}
 use Rattle.act_rules.specs.declared.history.Letter.TheVariants.{Note as NoteLetter}
-use Rattle.act_rules.proofs.Lists.{All_more, All_at}
+use Rattle.act_rules.proofs.Lists.{All_more, All_at, front_whole}
 use Rattle.act_rules.proofs.Growth.{Grows, added_grows}
 use Rattle.act_rules.proofs.Steps.{IsKept, after_all_keeps}
 use Rattle.act_rules.proofs.Ended.{needs-none, ended_stays}
-use Rattle.act_rules.proofs.Letters.{has_letter-sound}
+use Rattle.act_rules.proofs.Letters.{has_letter-sound, has_front}
 use Rattle.act_rules.proofs.Order.{numbered, numbers}
 use Rattle.act_rules.proofs.AsSubmitted.{filter-slice_get, calls_to-at}
 use Rattle.act_rules.proofs.Unique.{map-slice_get}
@@ -55,20 +56,13 @@ named_step h (Retire a) s accepted = s
 
 -- ---- a retired actor is drained
 
-list_all-weaker : {A : Type 0} (p q : A → Bool) (xs : List A) → ((x : A) → p x ≡ true → q x ≡ true) → list_all p xs ≡ true → list_all q xs ≡ true
-list_all-weaker p q [] f e = refl
-list_all-weaker p q (x ∷ xs) f e = let parts = and_parts (p x) (list_all p xs) e in and_from (q x) (list_all q xs) (f x parts.0) (list_all-weaker p q xs f parts.1)
-
-has_letter-more : (letter : Letter) (xs ys : List Letter) → IsPrefix xs ys → has_letter letter xs ≡ true → has_letter letter ys ≡ true
-has_letter-more letter xs ys f e = rw (← f.1, list_any-append (is_letter letter) xs f.0, e) refl
-
 drained_grows : (a : ℕ) (h g : History) → Grows h g → runs_of a g ≡ runs_of a h → is_drained a h ≡ true → is_drained a g ≡ true
 drained_grows a h g grows same e =
     let casts : cast_of a g ≡ cast_of a h = ap (λ (casts : List ActorSpec). find (λ (cast : ActorSpec). cast.actor == a) casts) grows.casts in
     subst (λ (o : Option ActorSpec). list_all (λ c. is_done c a g) (callers_in o) ≡ true) (sym casts)
     (list_all-weaker (λ c. is_done c a h) (λ c. is_done c a g) (callers_in (cast_of a h)) (λ c done.
     let count : ran_count c a g ≡ ran_count c a h = ap (λ (items : List RunItem). length (items_of c items)) same in
-    has_letter-more (NoteLetter c a (ran_count c a g)) h.arrived g.arrived grows.arrived (rw count done)) e)
+    has_front (NoteLetter c a (ran_count c a g)) h.arrived g.arrived grows.arrived (rw count done)) e)
 
 retire_needs : (h : History) (a : ℕ) → refusal_of h (Retire a) ≡ None → is_drained a h ≡ true
 retire_needs h a e =
@@ -141,17 +135,6 @@ world_retires casts events = after_all_keeps Retires retires_step (opening casts
   drained = λ a e. cc;
 })
 
--- a front that is as long is all
-front_whole : {A : Type 0} (xs ys : List A) → IsPrefix xs ys → length ys ≤ length xs → xs ≡ ys
-front_whole {A = A} xs ys f short = go f.0 refl
-  where
-    long : length xs + length f.0 ≤ length xs
-    long = rw (← length-append xs f.0, f.1) short
-
-    go : (rest : List A) → f.0 ≡ rest → xs ≡ ys
-    go [] e = sym (append-nil xs) ∙ ap (λ (r : List A). xs ++ r) (sym e) ∙ f.1
-    go (x ∷ rest) e = let bad : length xs + length (x ∷ rest) ≤ length xs = subst (λ (r : List A). length xs + length r ≤ length xs) e long in absurd (omega arith)
-
 nothing_at : {A : Type 0} (xs : List A) → ((n : ℕ) (x : A) → slice_get xs n ≡ Some x → ⊥) → length xs ≡ 0
 nothing_at [] none = refl
 nothing_at (x ∷ xs) none = absurd (none 0 x refl)
@@ -180,11 +163,8 @@ list_all-contains p (x ∷ xs) c all e = let parts = and_parts (p x) (list_all p
     go true is first rest e = subst (λ (n : ℕ). p n ≡ true) (eqb-true x c is) first
     go false is first rest e = rest e
 
-map-enumerate_from : (n : ℕ) (xs : List ℕ) → map (λ (p : ℕ × ℕ). p.1) (enumerate_from n xs) ≡ xs
-map-enumerate_from n [] = refl
-map-enumerate_from n (x ∷ xs) = ap (λ (l : List ℕ). x ∷ l) (map-enumerate_from (n + 1) xs)
-
-map-numbered : (items : List RunItem) → map (λ (p : ℕ × ℕ). p.1) (map numbered items) ≡ map (λ (item : RunItem). item.future) items
+-- the futures of numbered items
+pub map-numbered : (items : List RunItem) → map (λ (p : ℕ × ℕ). p.1) (map numbered items) ≡ map (λ (item : RunItem). item.future) items
 map-numbered [] = refl
 map-numbered (item ∷ items) = ap (λ (l : List ℕ). item.future ∷ l) (map-numbered items)
 
@@ -209,3 +189,13 @@ ran_all h a c s r retired =
         let some : length (map numbered (items_of c (runs_of a h))) ≡ ran_count c a h = length-map (items_of c (runs_of a h)) numbered in
         let few = counted (names c (cast_of a h)) refl in
         rw (all, some) few
+
+-- a caller knows the actor of each call that it submitted
+pub named_call : (h : History) (c k : ℕ) (call : Submission) → AllNamed h → slice_get (calls_of c h) k ≡ Some call → names c (cast_of call.actor h) ≡ true
+named_call h c k call named at =
+    let pair = map-slice_get (λ (s : ℕ × Submission). s.1) (filter (λ (s : ℕ × Submission). s.0 == c) h.submitted) k call at in
+    let place = filter-slice_get (λ (s : ℕ × Submission). s.0 == c) h.submitted k pair.0 pair.1 in
+    let mine : pair.0.0 ≡ c = eqb-true pair.0.0 c place.passes in
+    let to : pair.0.1.actor ≡ call.actor = ap (λ (s : Submission). s.actor) pair.2 in
+    let is : names pair.0.0 (cast_of pair.0.1.actor h) ≡ true = All_at (λ (one : ℕ × Submission). names one.0 (cast_of one.1.actor h) ≡ true) h.submitted place.place pair.0 named place.at in
+    subst (λ (x : ℕ). names x (cast_of call.actor h) ≡ true) mine (subst (λ (y : ℕ). names pair.0.0 (cast_of y h) ≡ true) to is)

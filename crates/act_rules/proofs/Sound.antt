@@ -3,7 +3,7 @@ use Rattle.act_rules.proofs.Common.{◌≡◌, ◌≢◌, ℕ, zero, suc, Bool, 
 use Rattle.act_rules.proofs.Common.{filter, filter_map, slice_get, option_and_then, Err, AllByRecursion, cons_option, eqb-true, and_parts, RunItem, ActorDied}
 use Rattle.act_rules.proofs.Common.{Event, KindState, Answer, answer_at, Submission, kept_at, IsAsSubmitted, IsAnswerOfRun, IsCallToDead, Consistent, Post}
 use Rattle.act_rules.proofs.Common.{ActorSpec, History, opening, opening_of, under, runs_of, calls_of, kept_of, is_dead, is_item_of, answer_of, answer_in}
-use Rattle.act_rules.proofs.Common.{after_all}
+use Rattle.act_rules.proofs.Common.{after_all, cond_gives}
 use Rattle.act_rules.specs.declared.history.Post.TheVariants.{Reply as ReplyPost, Death as DeathPost}
 use Rattle.act_rules.proofs.Lists.{whole_front}
 use Rattle.act_rules.proofs.Steps.{IsKept, after_all_keeps}
@@ -70,15 +70,10 @@ kept_from h c k answer s e = go (slice_get (calls_of c h) k) refl (sym (kept_at_
     go None at e = cc
     go (Some call) at e = record { call = call; at = at; from = first_gives h c k call.actor 0 answer h.collected s.collected e }
 
--- what a choice gives, where it gives something
-cond_some : {A : Type 0} (b : Bool) (o : Option A) (x : A) → cond b o None ≡ Some x → (b ≡ true) × (o ≡ Some x)
-cond_some true o x e = (refl, e)
-cond_some false o x e = cc
-
 -- a reply that answers the call names its place
 reply_place : (h : History) (c k b d a place : ℕ) (answer : Answer) → InOrder h → IsSoundPost h (ReplyPost d a place) → answer_in h c k b (ReplyPost d a place) ≡ Some answer → IsAnswerOfRun (λ x. opening_of x h) (λ x. runs_of x h) c k answer
 reply_place h c k b d a place answer order s e =
-    let parts = cond_some ((d == c) && is_item_of c k (slice_get (runs_of a h) place)) (answer_of a place h) answer e in
+    let parts = cond_gives ((d == c) && is_item_of c k (slice_get (runs_of a h) place)) (answer_of a place h) answer e in
     let tests = and_parts (d == c) (is_item_of c k (slice_get (runs_of a h) place)) parts.0 in
     let call = and_parts (s.0.caller == c) (s.0.future == k) (subst (λ (o : Option RunItem). is_item_of c k o ≡ true) s.1 tests.1) in
     let caller : s.0.caller ≡ c = eqb-true s.0.caller c call.0 in
@@ -95,8 +90,8 @@ reply_place h c k b d a place answer order s e =
     }
 
 -- a reply never answers that the actor died
-reply_alive : (h : History) (c k b d a place : ℕ) (answer : Answer) → answer_in h c k b (ReplyPost d a place) ≡ Some answer → IsAlive answer
-reply_alive h c k b d a place answer e = go (opening_of a h) (cond_some ((d == c) && is_item_of c k (slice_get (runs_of a h) place)) (answer_of a place h) answer e).1
+pub reply_alive : (h : History) (c k b d a place : ℕ) (answer : Answer) → answer_in h c k b (ReplyPost d a place) ≡ Some answer → IsAlive answer
+reply_alive h c k b d a place answer e = go (opening_of a h) (cond_gives ((d == c) && is_item_of c k (slice_get (runs_of a h) place)) (answer_of a place h) answer e).1
   where
     go : (o : Option KindState) → option_and_then (λ (state : KindState). answer_at state (runs_of a h) place) o ≡ Some answer → IsAlive answer
     go None e = cc
@@ -109,7 +104,7 @@ answers_are h c k answer s e alive = let kept = kept_from h c k answer s.posts e
     go : (b : ℕ) (post : Post) → IsSoundPost h post → answer_in h c k b post ≡ Some answer → IsAnswerOfRun (λ x. opening_of x h) (λ x. runs_of x h) c k answer
     go b (ReplyPost d a place) sound gives = reply_place h c k b d a place answer s.order sound gives
     go b (DeathPost d a) sound gives =
-        let died : Some (Err ActorDied) ≡ Some answer = (cond_some ((d == c) && (a == b)) (Some (Err ActorDied)) answer gives).1 in
+        let died : Some (Err ActorDied) ≡ Some answer = (cond_gives ((d == c) && (a == b)) (Some (Err ActorDied)) answer gives).1 in
         absurd (alive (let same : Err ActorDied ≡ answer = cc in sym same))
 
 -- in a sound history a death is kept only for a call to a dead actor
@@ -119,7 +114,7 @@ deaths_are h c k s e = let kept = kept_from h c k (Err ActorDied) s.posts e in r
     go : (b : ℕ) (post : Post) → IsSoundPost h post → answer_in h c k b post ≡ Some (Err ActorDied) → is_dead b h ≡ true
     go b (ReplyPost d a place) sound gives = absurd (reply_alive h c k b d a place (Err ActorDied) gives refl)
     go b (DeathPost d a) sound gives =
-        let tests = and_parts (d == c) (a == b) (cond_some ((d == c) && (a == b)) (Some (Err ActorDied)) (Err ActorDied) gives).0 in
+        let tests = and_parts (d == c) (a == b) (cond_gives ((d == c) && (a == b)) (Some (Err ActorDied)) (Err ActorDied) gives).0 in
         subst (λ (x : ℕ). is_dead x h ≡ true) (eqb-true a b tests.1) sound
 
 -- what holds of each run holds of each item of one run list

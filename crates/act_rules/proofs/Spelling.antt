@@ -9,7 +9,7 @@ use Rattle.act_rules.proofs.Numbers.{chosen, number_is_printed, int_is_printed}
 use Rattle.act_rules.proofs.Marks.{marked_is, closed_is}
 
 -- what the first gave, and what came of it
-parts : {A B F : Type 0} (r : Result A F) (f : A → Result B F) (y : B) → (r >>= f) ≡ Ok y → (x : A) × (r ≡ Ok x) × (f x ≡ Ok y)
+pub parts : {A B F : Type 0} (r : Result A F) (f : A → Result B F) (y : B) → (r >>= f) ≡ Ok y → (x : A) × (r ≡ Ok x) × (f x ≡ Ok y)
 parts (Ok x) f y h = (x, refl, h)
 parts (Err e) f y h = cc
 

@@ -2,7 +2,7 @@
 use Rattle.act_rules.proofs.Common.{◌≡◌, ℕ, ◌+◌, ◌<◌, Bool, true, false, cond, List, [], ◌∷◌, ◌++◌, length, Some, None, refl, ap, ◌∙◌, arith, Option, ◌==◌}
 use Rattle.act_rules.proofs.Common.{◌&&◌, ◌||◌, map, filter_map, slice_get, Err, list_any, enumerate_from, cons_option, eqb-true, eq-eqb, map-append}
 use Rattle.act_rules.proofs.Common.{filter_map-append, slice_get_within, Arg, Method, ActorDied, Answer, Submission, Post, History, under, calls_of, kept_of}
-use Rattle.act_rules.proofs.Common.{answer_of, answer_in, first_answer}
+use Rattle.act_rules.proofs.Common.{answer_of, answer_in, first_answer, map_alike}
 use Rattle.act_rules.specs.declared.history.Post.TheVariants.{Reply as ReplyPost, Death as DeathPost}
 use Rattle.act_rules.proofs.Lists.{enumerate_from-append, All_weaker, filter_map-same}
 use Rattle.act_rules.proofs.Ended.{under-push}
@@ -36,13 +36,9 @@ first_answer-collected h c post call =
     ∙ first-append (filter_map (answer_in h c call.0 call.1.actor) h.collected) (cons_option (answer_in h c call.0 call.1.actor post) [])
     ∙ ap (or_else (first_answer h c call)) (first_one (answer_in h c call.0 call.1.actor post))
 
-map_same : {A B : Type 0} (f g : A → B) (xs : List A) → ((x : A) → f x ≡ g x) → map f xs ≡ map g xs
-map_same f g [] e = refl
-map_same f g (x ∷ xs) e = rw (e x) (ap (λ l. g x ∷ l) (map_same f g xs e))
-
 -- a collected post fills each empty place of the table that it answers
 pub kept_of-collected : (h : History) (c : ℕ) (post : Post) → kept_of c (record h { collected = h.collected ++ post ∷ [] }) ≡ map (λ (call : ℕ × Submission). or_else (first_answer h c call) (answer_in h c call.0 call.1.actor post)) (enumerate_from 0 (calls_of c h))
-kept_of-collected h c post = map_same (first_answer (record h { collected = h.collected ++ post ∷ [] }) c) (λ (call : ℕ × Submission). or_else (first_answer h c call) (answer_in h c call.0 call.1.actor post)) (enumerate_from 0 (calls_of c h)) (first_answer-collected h c post)
+kept_of-collected h c post = map_alike (first_answer (record h { collected = h.collected ++ post ∷ [] }) c) (λ (call : ℕ × Submission). or_else (first_answer h c call) (answer_in h c call.0 call.1.actor post)) (enumerate_from 0 (calls_of c h)) (first_answer-collected h c post)
 
 -- ---- a new future
 
@@ -104,11 +100,12 @@ kept_of-submitted h c a method args order s =
 
 -- ---- a run leaves every table
 
-first_answer-same : (h g : History) (c : ℕ) (call : ℕ × Submission) → Grows h g → PostsAreSound h → g.collected ≡ h.collected → first_answer g c call ≡ first_answer h c call
+-- an event that collects nothing leaves each first answer
+pub first_answer-same : (h g : History) (c : ℕ) (call : ℕ × Submission) → Grows h g → PostsAreSound h → g.collected ≡ h.collected → first_answer g c call ≡ first_answer h c call
 first_answer-same h g c call grows s same = rw same (ap (λ (l : List Answer). slice_get l 0) (filter_map-same (answer_in g c call.0 call.1.actor) (answer_in h c call.0 call.1.actor) h.collected (All_weaker (IsSoundPost h) (λ post. answer_in g c call.0 call.1.actor post ≡ answer_in h c call.0 call.1.actor post) h.collected (answer_in_stays h g c call.0 call.1.actor grows) s.collected)))
 
 -- where neither submissions nor collected posts change, no table does
 pub kept_of-same : (h g : History) (c : ℕ) → Grows h g → PostsAreSound h → g.submitted ≡ h.submitted → g.collected ≡ h.collected → kept_of c g ≡ kept_of c h
 kept_of-same h g c grows s submitted collected =
     ap (λ (l : List (ℕ × Submission)). map (first_answer g c) (enumerate_from 0 (under c l))) submitted
-    ∙ map_same (first_answer g c) (first_answer h c) (enumerate_from 0 (calls_of c h)) (λ call. first_answer-same h g c call grows s collected)
+    ∙ map_alike (first_answer g c) (first_answer h c) (enumerate_from 0 (calls_of c h)) (λ call. first_answer-same h g c call grows s collected)

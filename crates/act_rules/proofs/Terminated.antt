@@ -1,8 +1,7 @@
 -- Run lists in which nothing follows a `terminate` that ended the actor.
 use Rattle.act_rules.proofs.Common.{◌≡◌, ℕ, zero, suc, ◌+◌, ◌-◌, ◌<◌, ◌≤◌, true, false, List, [], ◌∷◌, ◌++◌, length, Some, None, refl, ap, sym, ◌∙◌, arith, ◌⊎◌}
 use Rattle.act_rules.proofs.Common.{inl, inr, Option, slice_get, cases_lt, slice_get_past, length_push, RunItem, ends_actor, has_terminated}
-use Rattle.act_rules.proofs.Common.{NothingFollowsAnEnd}
-use Rattle.act_rules.proofs.Lists.{slice_get_last, slice_get_more}
+use Rattle.act_rules.proofs.Common.{NothingFollowsAnEnd, slice_get_last, slice_get_more}
 
 -- the last item decides
 pub has_terminated-push : (items : List RunItem) (item : RunItem) → has_terminated (items ++ item ∷ []) ≡ ends_actor (Some item)

@@ -5,6 +5,7 @@ pub use Rattle.act_actor.specs.StateViews.{live_view, retired_view}
 pub use Rattle.act_actor.specs.View.{DeadView, LiveView, RetiredView}
 pub use Rattle.act_inbox.proofs.Packets.{new_listed, waits_holding}
 pub use Rattle.act_inbox.specs.Inbox.{HoldsNone, arrival_of, handed_of, is_listed, is_packet_of, next_of, was_handed, with_held}
+pub use Rattle.act_lists.proofs.Lists.{slice_get_last, slice_get_more}
 pub use Rattle.act_mailbox.proofs.Clocks.{all_zip_weaker, found_alone, found_more, found_one, later_none, later_one, part_none, part_one, steps_more}
 pub use Rattle.act_mailbox.proofs.Clocks.{timed_later, timed_push}
 pub use Rattle.act_mailbox.specs.Controls.{ControlExecView, looked_after}
@@ -16,7 +17,7 @@ pub use Rattle.act_mailbox.specs.declared.mail.Letter.{Letter}
 pub use Rattle.act_mailbox.specs.declared.mail.Letter.TheVariants.{Call, Note}
 pub use Rattle.act_mailbox.specs.declared.thread.Endpoint.{Endpoint}
 pub use Rattle.act_rules.proofs.Finding.{find-None}
-pub use Rattle.act_rules.proofs.Lists.{eq_turned, front_trans, range_push, slice_get_last, slice_get_more}
+pub use Rattle.act_rules.proofs.Lists.{eq_turned, front_trans, range_push}
 pub use Rattle.act_rules.proofs.RunLists.{items_of-push, state_after-push}
 pub use Rattle.act_rules.proofs.Terminated.{nothing_follows-push}
 pub use Rattle.act_rules.specs.Consistent.{IsPrefix}

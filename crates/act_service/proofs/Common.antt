@@ -11,6 +11,7 @@ pub use Rattle.act_executor.specs.Plays.{IsPlayed}
 pub use Rattle.act_executor.specs.Runs.{IsFault, IsThreadFault, plan_view}
 pub use Rattle.act_executor.specs.declared.joined.Joined.{Joined}
 pub use Rattle.act_executor.specs.declared.run.RunFault.{RunFault}
+pub use Rattle.act_lists.proofs.Lists.{tail_apart}
 pub use Rattle.act_plans.proofs.Keys.{found_all, found_passes}
 pub use Rattle.act_plans.proofs.Matching.{numbers_differ}
 pub use Rattle.act_plans.proofs.Taking.{find_some}

@@ -3,6 +3,7 @@ use Rattle.act_service.proofs.Common.{◌≡◌, ◌≢◌, ℕ, suc, ◌==◌, 
 use Rattle.act_service.proofs.Common.{filter_map, option_map, list_any, cons_option, eqb-true, length-map, get_or-map, All-nil, All-cons, All-map, all_of_map}
 use Rattle.act_service.proofs.Common.{AllPairs-cons, AllPairs-filter, KindState, ActorSpec, one_to, IsLimit, Cast, CallersDiffer, IsFitting, actor_spec}
 use Rattle.act_service.proofs.Common.{EndView, Killed, Retired, Starved, end_id, cast_at, actors_of_casts, found_passes, found_all, numbers_differ, cast_of_end}
+use Rattle.act_service.proofs.Common.{tail_apart}
 
 -- what casting an actor again keeps of its cast
 abbrev pub IsSound : ActorSpec → Type 0
@@ -18,9 +19,6 @@ all_there P x xs all k d lt = all (suc k) d (omega arith)
 
 pairs_here : (n : ℕ) (ns : List ℕ) → AllPairs (λ one other. one ≢ other) (n ∷ ns) → All (λ other. n ≢ other) ns
 pairs_here n ns apart k d lt = apart 0 (suc k) d (omega arith) (omega arith)
-
-pairs_there : (n : ℕ) (ns : List ℕ) → AllPairs (λ one other. one ≢ other) (n ∷ ns) → AllPairs (λ one other. one ≢ other) ns
-pairs_there n ns apart i j d before below = apart (suc i) (suc j) d (omega arith) (omega arith)
 
 -- ---- the actors that are cast again
 
@@ -75,7 +73,7 @@ module _ (casts : List ActorSpec) where
 
   apart_left : (ends : List EndView) → AllPairs (λ one other. one ≢ other) (map end_id ends) → AllPairs (λ (one other : ActorSpec). one.actor ≢ other.actor) (filter_map (cast_of_end casts) ends)
   apart_left [] apart = λ i j d before below. absurd (omega arith)
-  apart_left (end ∷ ends) apart = go (cast_of_end casts end) refl (apart_left ends (pairs_there (end_id end) (map end_id ends) apart))
+  apart_left (end ∷ ends) apart = go (cast_of_end casts end) refl (apart_left ends (tail_apart (end_id end) (map end_id ends) apart))
     where
       go : (o : Option ActorSpec) → cast_of_end casts end ≡ o → AllPairs (λ (one other : ActorSpec). one.actor ≢ other.actor) (filter_map (cast_of_end casts) ends) →
           AllPairs (λ (one other : ActorSpec). one.actor ≢ other.actor) (cons_option o (filter_map (cast_of_end casts) ends))

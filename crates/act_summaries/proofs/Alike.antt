@@ -27,6 +27,7 @@ use Rattle.act_summaries.proofs.Texts.{numbered, kept_word, future_as, item_as, 
 use Rattle.act_summaries.proofs.Words.{IsGoodArg, IsGoodState, answer_word, method_word, args_words, state_plain, plain_from, spaced_plain, dead_alike}
 use Rattle.act_summaries.proofs.Facts.{Facts, facts, IsGoodCall, IsCallerNumber, call_numbers, cast_good, calls_good, items_good, opened_good, kept_good, died_or_not}
 use Rattle.act_summaries.proofs.Decoding.{IsGoodKept, AreKeptAlike, futures_alike, IsGoodItem, IsSameItem, items_alike}
+use Rattle.act_lists.proofs.Lists.{all_from_places}
 
 -- ---- what the facts say of items and answers
 
@@ -36,11 +37,6 @@ both P Q R (x ∷ xs) f p q = (f x p.0 q.0, both P Q R xs f p.1 q.1)
 
 some_same : (p q : ℕ × ℕ) → Some p ≡ Some q → p ≡ q
 some_same p q e = cc
-
--- what holds of each that stands at a place
-each_at : {A : Type 0} (P : A → Type 0) (xs : List A) → ((k : ℕ) (x : A) → slice_get xs k ≡ Some x → P x) → AllByRecursion P xs
-each_at P [] f = tt
-each_at P (x ∷ xs) f = (f 0 x refl, each_at P xs (λ k y e. f (suc k) y e))
 
 module _ (casts : List ActorSpec) (h : History) (f : Facts casts h) where
   abbrev IsSubmittedHere : RunItem → Type 0
@@ -70,7 +66,7 @@ module _ (casts : List ActorSpec) (h : History) (f : Facts casts h) where
       go (Some answer) e = kept_good h c k answer f.good f.sound e
 
   pub few_actors : (c : ℕ) → AllByRecursion (λ (call : Submission). call.actor ≤ 8) (calls_of c h)
-  few_actors c = each_at (λ (call : Submission). call.actor ≤ 8) (calls_of c h) (λ k call e. (call_numbers casts h c k call f e).few)
+  few_actors c = all_from_places (λ (call : Submission). call.actor ≤ 8) (calls_of c h) (λ k call e. (call_numbers casts h c k call f e).few)
 
   -- a number is one that a caller can have, or has no calls
   pub valid_or_none : (c : ℕ) → IsCallerNumber c ⊎ (calls_of c h ≡ [])

@@ -1,7 +1,7 @@
 -- An actor ends once, dead or retired, and only an actor of the casts does.
 use Rattle.act_rules.proofs.Common.{◌≡◌, ℕ, ◌==◌, ◌||◌, Bool, true, false, cond, not, List, [], ◌∷◌, ◌++◌, Some, None, Option, is_some, refl, sym, ap, subst, ◌∙◌}
 use Rattle.act_rules.proofs.Common.{eqb-true, not-true, append-nil, list_any-append}
-use Rattle.act_rules.proofs.Common.{History, ActorSpec, contains, names, cast_of, runs_of, is_dead, is_retired, is_ended}
+use Rattle.act_rules.proofs.Common.{History, ActorSpec, contains, cast_of, runs_of, is_dead, is_retired, is_ended}
 use Rattle.act_rules.proofs.Common.{has_terminated, needs, is_drained, under, next_item, add_event, after_run, after_all, opening}
 use Rattle.act_rules.specs.declared.event.Event.{Event}
 use Rattle.act_rules.specs.declared.event.Event.TheVariants.{Submit, Copy, Release, Send, Deliver, Run, Collect, AskKill, TakeKill, Tell, Retire}
@@ -11,6 +11,7 @@ use Rattle.act_rules.specs.declared.outcome.WorldRefusal.TheVariants.{Handle, Ac
 use Rattle.act_rules.specs.declared.outcome.WorldRefusal.TheVariants.{NoKill, NotDrained}
 use Rattle.act_rules.proofs.Ended.{needs-none, run_needs, under-push}
 use Rattle.act_rules.proofs.Steps.{IsKept, after_all_keeps}
+use Rattle.act_rules.proofs.Events.{some_cast}
 
 pub record EndOnce (h : History) : Type 0 where
   pub apart : (a : ℕ) → is_dead a h ≡ true → is_retired a h ≡ false
@@ -23,10 +24,6 @@ second_false false b e = e
 first_false : (a b : Bool) → (a || b) ≡ false → a ≡ false
 first_false true b e = cc
 first_false false b e = refl
-
-named_some : (c : ℕ) (o : Option ActorSpec) → names c o ≡ true → is_some o ≡ true
-named_some c None e = cc
-named_some c (Some cast) e = refl
 
 -- one number more contains no other
 other_stays : (a b : ℕ) (ns : List ℕ) → (b == a) ≡ false → contains a (ns ++ b ∷ []) ≡ contains a ns
@@ -95,7 +92,7 @@ once_step h (Run a c) s accepted = go (next_item a c h)
     go None = s
     go (Some item) =
         let fits = run_needs h a c accepted in
-        let once = ran_once h s a fits.2 (named_some c (cast_of a h) fits.1) item in
+        let once = ran_once h s a fits.2 (some_cast c (cast_of a h) fits.1) item in
         record { apart = once.apart; cast = once.cast }
 once_step h (Collect j) s accepted = record { apart = s.apart; cast = s.cast }
 once_step h (AskKill c a) s accepted = record { apart = s.apart; cast = s.cast }

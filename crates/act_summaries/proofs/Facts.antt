@@ -1,7 +1,7 @@
 -- What holds of each history of a script: its numbers are small, and what it says is sayable.
-use Rattle.act_rules.proofs.Common.{◌≡◌, ◌≢◌, ◌⊎◌, inl, inr, ℕ, ◌<◌, ◌≤◌, ◌^◌, ◌==◌, ◌||◌, Bool, true, false, cond, List, [], ◌∷◌, ◌++◌}
+use Rattle.act_rules.proofs.Common.{◌≡◌, ◌≢◌, ◌⊎◌, inl, inr, ℕ, ◌<◌, ◌≤◌, ◌^◌, ◌==◌, ◌||◌, Bool, true, false, cond, List, [], ◌∷◌}
 use Rattle.act_rules.proofs.Common.{length, map, filter, find, slice_get, Some, None, Option, is_some, option_map, option_and_then, Ok, Err, refl, sym, ap, subst, ◌∙◌, arith, nat_lt, nat_le}
-use Rattle.act_rules.proofs.Common.{length-append, append-nil, eqb-true, and_parts, ltb-true, AllByRecursion, list_all}
+use Rattle.act_rules.proofs.Common.{eqb-true, and_parts, ltb-true, AllByRecursion, list_all}
 use Rattle.act_rules.proofs.Common.{History, ActorSpec, contains, names, cast_of}
 use Rattle.act_rules.proofs.Common.{calls_of, runs_of, kept_of, under, opening_of, ran_count, next_item, refusal_of, add_event, after, after_run}
 use Rattle.act_rules.proofs.Common.{after_all, opening, Answer, answer_at, answers_from, state_after, KindState, settle, settled_future}
@@ -25,7 +25,7 @@ use Rattle.act_rules.specs.Scripts.{opening_state}
 use Rattle.act_rules.specs.Submissions.{limit_refusal}
 use Rattle.act_rules.specs.Laws.{history}
 use Rattle.act_rules.proofs.Lists.{All_more, option_map-none, option_or-none, All_at}
-use Rattle.act_rules.proofs.Ended.{needs-none, under-push}
+use Rattle.act_rules.proofs.Ended.{needs-none}
 use Rattle.act_rules.proofs.Steps.{IsKept, after_all_keeps, after_keeps}
 use Rattle.act_rules.proofs.Order.{next_item_is}
 use Rattle.act_rules.proofs.AsSubmitted.{calls_to-at, filter-slice_get}
@@ -37,6 +37,7 @@ use Rattle.act_summaries.specs.Summaries.{is_sayable_role, is_sayable_event}
 use Rattle.act_summaries.proofs.Words.{IsGoodArg, IsGoodAnswer, IsGoodState}
 use Rattle.act_summaries.proofs.Replies.{AreGoodItems, runs_good}
 use Rattle.act_summaries.proofs.Ends.{EndOnce, ends_once}
+use Rattle.act_rules.proofs.Events.{few_more}
 
 -- ---- lists
 
@@ -222,15 +223,6 @@ room_for h c a method args e =
     let few = needs-none (nat_le (length args) 4) TooManyArgs fourth second.1 in
     let earlier = needs-none (list_all (is_earlier count) args) BadFuture last few.1 in
     ltb-true count 65536 (needs-none (nat_lt count 65536) TooManyCalls None earlier.1).0
-
-few_more : (h : History) (d c : ℕ) (call : Submission) → length (calls_of d h) < 65536 → length (calls_of c h) ≤ 65536 → length (under c (h.submitted ++ (d, call) ∷ [])) ≤ 65536
-few_more h d c call room few = rw (under-push c d h.submitted call) (go (d == c) refl)
-  where
-    go : (same : Bool) → (d == c) ≡ same → length (calls_of c h ++ cond same (call ∷ []) []) ≤ 65536
-    go true e =
-        let less : length (calls_of c h) < 65536 = subst (λ (x : ℕ). length (calls_of x h) < 65536) (eqb-true d c e) room in
-        rw (length-append (calls_of c h) (call ∷ [])) (omega arith)
-    go false e = rw (append-nil (calls_of c h)) few
 
 few_step : IsKept AreFew
 few_step h (Submit c a method args) s accepted = λ d. few_more h c d (record { actor = a; method = method; args = args }) (room_for h c a method args accepted) (s d)

@@ -33,11 +33,7 @@ use Rattle.act_rules.proofs.Numbers.{chosen}
 use Rattle.act_summaries.specs.Summaries.{is_sayable_role, is_sayable_event}
 use Rattle.act_summaries.proofs.Replies.{low_in_range}
 use Rattle.act_summaries.proofs.Facts.{found}
-
--- what the first gave, and what came of it
-parts : {A B F : Type 0} (r : Result A F) (f : A → Result B F) (y : B) → (r >>= f) ≡ Ok y → (x : A) × (r ≡ Ok x) × (f x ≡ Ok y)
-parts (Ok x) f y h = (x, refl, h)
-parts (Err e) f y h = cc
+use Rattle.act_rules.proofs.Spelling.{parts}
 
 -- a test that had to fail
 refused : {A : Type 0} (b : Bool) (r : Result A Wrong) (y : A) → cond b (Err BadLine) r ≡ Ok y → (b ≡ false) × (r ≡ Ok y)

@@ -12,7 +12,7 @@ use Rattle.act_rules.specs.RunList.{Answer}
 use Rattle.act_rules.specs.Submissions.{kept_at}
 use Rattle.act_rules.specs.History.{ActorSpec, History, opening, names, cast_of, calls_of, kept_of, runs_of, is_dead, is_retired, is_ended}
 use Rattle.act_rules.specs.Laws.{history}
-use Rattle.act_rules.proofs.RanAll.{world_retires}
+use Rattle.act_rules.proofs.RanAll.{world_retires, named_call}
 use Rattle.act_rules.proofs.Sound.{world_sound}
 use Rattle.act_rules.proofs.Unique.{held_submission}
 use Rattle.act_early.specs.Plays.{At}
@@ -20,7 +20,7 @@ use Rattle.act_early.specs.Early.{is_reply, is_heard, IsWholeSearch, IsOver, Los
 use Rattle.act_early.specs.Lists.{DoesStepsBy, KeepsToPlans}
 use Rattle.act_early.proofs.Found.{found}
 use Rattle.act_early.proofs.Listed.{named_caller}
-use Rattle.act_early.proofs.Replies.{named_call, reply_died}
+use Rattle.act_early.proofs.Replies.{reply_died}
 use Rattle.act_early.proofs.Worlds.{world, or_second}
 use Rattle.act_early.proofs.Choosing.{cast_known}
 use Rattle.act_owner.specs.Owner.{OwnerView}

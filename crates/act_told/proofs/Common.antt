@@ -2,6 +2,8 @@
 pub use Rattle.act_executor.proofs.Lists.Agreeing.{place_behind}
 pub use Rattle.act_executor.specs.Joined.{IsJoined, RanAll, calls_in, calls_of_owner, end_of, is_killed, is_killed_end, kept_in, kept_of_owner, log_in}
 pub use Rattle.act_executor.specs.Joined.{log_of_end, owner_of}
+pub use Rattle.act_lists.proofs.Lists.{element, map_alike, slice_get_more}
+pub use Rattle.act_lists.proofs.Options.{cond_none}
 pub use Rattle.act_orders.proofs.Lists.{found_before, has_before}
 pub use Rattle.act_orders.specs.Order.{IsNext, SameWay, actor_of, call_of, calls_run}
 pub use Rattle.act_orders.specs.declared.told.Call.{Call}
@@ -10,7 +12,7 @@ pub use Rattle.act_orders.specs.declared.told.Run.{Run}
 pub use Rattle.act_owner.proofs.Told.{is_death-only}
 pub use Rattle.act_owner.specs.Owner.{OwnerView, call_at, future_of_arg, futures_of_args, is_death, numbered_call, submission_of}
 pub use Rattle.act_rules.proofs.Finding.{position_or_len-Some}
-pub use Rattle.act_rules.proofs.Lists.{All_at, element, slice_get-enumerate_from, slice_get-filter, slice_get_front, slice_get_more}
+pub use Rattle.act_rules.proofs.Lists.{All_at, slice_get-enumerate_from, slice_get-filter, slice_get_front}
 pub use Rattle.act_rules.proofs.Order.{numbered, numbers}
 pub use Rattle.act_rules.proofs.Unique.{enumerate-slice_get, map-slice_get, rank, same_place}
 pub use Rattle.act_rules.specs.Consistent.{IsAsSubmitted, IsPrefix}

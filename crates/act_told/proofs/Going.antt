@@ -3,7 +3,7 @@ use Rattle.act_told.proofs.Common.{◌≡◌, ℕ, suc, ◌+◌, ◌<◌, ◌==�
 use Rattle.act_told.proofs.Common.{None, option_map, append_assoc, add-one, drop-cons, refl, ap, sym, ◌∙◌, arith, length-append, drop-map, map-append}
 use Rattle.act_told.proofs.Common.{filter_map-append, take-suc, Arg, slice_get_within, get_or_from_slice_get, Submission, OwnerView, call_at, numbered_call}
 use Rattle.act_told.proofs.Common.{submission_of, future_of_arg, futures_of_args, EndView, end_log, Call, Run, call_told, calls_from, calls_told, takes_told}
-use Rattle.act_told.proofs.Common.{start_of, run_told, runs_told, actor_told, told_by, starts_from, start_in, run_by, runs_by}
+use Rattle.act_told.proofs.Common.{start_of, run_told, runs_told, actor_told, told_by, starts_from, start_in, run_by, runs_by, map_alike}
 use Rattle.act_owner.specs.declared.owner.Call.{Call as OwnCall}
 use Rattle.act_orders.specs.declared.told.Actor.{Actor as ActorTold}
 
@@ -139,10 +139,6 @@ starts_tell [] before all c e = omega (arith, e)
 starts_tell (owner ∷ owners) before all c e =
     ap (λ (n : ℕ). if owner.id == c then before else n) (starts_tell owners (before + length owner.calls) all c (omega (arith, e)))
 
-each_same : {X Y : Type 0} (f g : X → Y) (xs : List X) → ((x : X) → f x ≡ g x) → map f xs ≡ map g xs
-each_same f g [] same = refl
-each_same f g (x ∷ xs) same = ap (λ (y : _). y ∷ map f xs) (same x) ∙ ap (λ (ys : List _). g x ∷ ys) (each_same f g xs same)
-
 -- run lists by the table are those that are told
 pub runs_tell : (owners : List OwnerView) (all a : ℕ) (ends : List EndView) → all ≡ calls_among owners →
     runs_by (starts_from 0 owners) all a ends ≡ runs_told owners a ends
@@ -150,7 +146,7 @@ runs_tell owners all a [] e = refl
 runs_tell owners all a (end ∷ ends) e =
     let starts = starts_from 0 owners in
     ap (λ (t : List Run). t ++ runs_by starts all (a + 1) ends)
-    (each_same (run_by starts all a) (run_told owners a) (end_log end) (λ item. ap (λ (n : ℕ). record { actor = a; call = n + item.future })
+    (map_alike (run_by starts all a) (run_told owners a) (end_log end) (λ item. ap (λ (n : ℕ). record { actor = a; call = n + item.future })
     (starts_tell owners 0 all item.caller (omega (arith, e)))))
     ∙ ap (λ (t : List Run). map (run_told owners a) (end_log end) ++ t) (runs_tell owners all (a + 1) ends e)
 

@@ -10,12 +10,13 @@ use Rattle.act_early.proofs.Listed.{named_caller}
 use Rattle.act_early.proofs.Replies.{death_answers, reply_some}
 use Rattle.act_early.proofs.Worlds.{IsWorld, world}
 use Rattle.act_told_ends.specs.Walks.{Collects, Tells, Hears, MayHear}
-use Rattle.act_told_ends.proofs.Lists.{place_in, stands_in, push_at}
+use Rattle.act_told_ends.proofs.Lists.{push_at}
 use Rattle.act_told_ends.proofs.Later.{IsLater}
 use Rattle.act_told_ends.proofs.Posted.{CameBy, Replied, Died, came_by, reply_answers}
 use Rattle.act_told_ends.proofs.Covered.{IsCovered, runs_told, runs_covered, calls_covered, dead_covered, cast_same}
 use Rattle.act_told_ends.proofs.Going.{Case, Here, Goal}
 use Rattle.act_told_ends.proofs.Covers.{Near, idle, death_in}
+use Rattle.act_lists.proofs.Lists.{place_in, stands_in}
 
 -- the play once the post was collected
 abbrev with_post : Post → At → At

@@ -9,13 +9,15 @@ use Rattle.act_early.proofs.Worlds.{IsWorld, world, either_of, or_second}
 use Rattle.act_early.proofs.Counting.{done_steps, take-prefix}
 use Rattle.act_early.proofs.Progress.{Follows, follows, submission_in, is_copy_of, is_release_of}
 use Rattle.act_early.proofs.Matching.{IsPrefix-filter_map}
-use Rattle.act_early.proofs.Replies.{death_answers, front_short, front_whole}
+use Rattle.act_early.proofs.Replies.{death_answers, front_short}
 use Rattle.act_early.proofs.Waiting.{IsAlike}
 use Rattle.act_told_ends.specs.Told.{Told, IsWalk, DidFirst, submission_of, copies, releases}
-use Rattle.act_told_ends.proofs.Lists.{front_of_front, filter_alike, filter_map_alike}
+use Rattle.act_told_ends.proofs.Lists.{front_of_front, filter_alike}
 use Rattle.act_told_ends.proofs.Bridge.{IsLate}
 use Rattle.act_told_ends.proofs.Later.{IsLater}
 use Rattle.act_told_ends.proofs.Posted.{RunsPosted, CameBy, Replied, Died, came_by}
+use Rattle.act_lists.proofs.Lists.{filter_map_alike}
+use Rattle.act_rules.proofs.Lists.{front_whole}
 
 -- a walk, and a play that ends as is told
 pub record IsSetting (casts : List ActorSpec) (bound : ℕ → Option (List Step)) (told : Told) (done : ℕ → ℕ) (plans : ℕ → List Step) (late : At)

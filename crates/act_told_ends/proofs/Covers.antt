@@ -10,13 +10,13 @@ use Rattle.act_rules.specs.declared.history.Post.TheVariants.{Reply as ReplyPost
 use Rattle.act_early.proofs.Counting.{occurrences-push}
 use Rattle.act_early.proofs.Earlier.{step_runs, step_kills}
 use Rattle.act_early.proofs.Progress.{submission_in, submitted_one}
-use Rattle.act_early.proofs.Replies.{front_whole}
 use Rattle.act_early.proofs.Worlds.{contains_push, either_of, or_second}
 use Rattle.act_told_ends.specs.Walks.{DoesWithout}
-use Rattle.act_told_ends.proofs.Lists.{place_in, stands_in}
 use Rattle.act_told_ends.proofs.Later.{IsLater}
 use Rattle.act_told_ends.proofs.Covered.{IsCovered, runs_covered, dead_covered}
 use Rattle.act_told_ends.proofs.Going.{Case, Here, Goal, run_goes, kill_goes, submits, asks, steps_on, kill_asked}
+use Rattle.act_lists.proofs.Lists.{place_in, stands_in}
+use Rattle.act_rules.proofs.Lists.{front_whole}
 
 -- the walk did all that the play did so far, or may go on
 abbrev pub Near : Case → At → Type 0

@@ -19,8 +19,7 @@ use Rattle.act_rules.proofs.Ended.{not_terminated}
 use Rattle.act_rules.proofs.Retired.{submit_needs}
 use Rattle.act_early.proofs.Worlds.{IsWorld, world, take_needs, or_second}
 use Rattle.act_early.proofs.Items.{IsReady, ready}
-use Rattle.act_early.proofs.Notes.{letter_place}
-use Rattle.act_early.proofs.Replies.{front_short, front_whole}
+use Rattle.act_early.proofs.Replies.{front_short}
 use Rattle.act_early.proofs.Unanswered.{next_unanswered}
 use Rattle.act_early.proofs.Waiting.{IsAlike, may_take}
 use Rattle.act_told_ends.specs.Told.{Told, IsWalk}
@@ -29,6 +28,8 @@ use Rattle.act_told_ends.proofs.Lists.{fronts_same}
 use Rattle.act_told_ends.proofs.Later.{IsLater}
 use Rattle.act_told_ends.proofs.Covered.{IsAt, calls_told, calls_covered, runs_covered, kept_covered, cast_same, caller_same}
 use Rattle.act_told_ends.proofs.Covered.{bound_alike}
+use Rattle.act_rules.proofs.Letters.{letter_place}
+use Rattle.act_rules.proofs.Lists.{front_whole}
 
 -- a walk, and the play that it is held against
 pub record Case : Type 0 where

@@ -11,7 +11,8 @@ use Rattle.act_rules.specs.declared.history.Post.TheVariants.{Reply as ReplyPost
 use Rattle.act_told_ends.specs.Told.{Told, Leaves}
 use Rattle.act_told_ends.specs.LeftOpen.{MayStandForKept, IsReplyForDeath}
 use Rattle.act_told_ends.proofs.Later.{IsLater}
-use Rattle.act_told_ends.proofs.Lists.{push_at, place_in, stands_in, first_in, some_first, filter_map_alike}
+use Rattle.act_told_ends.proofs.Lists.{push_at, first_in, some_first}
+use Rattle.act_lists.proofs.Lists.{place_in, stands_in, filter_map_alike}
 
 -- what some events left, and answers that may stand for those
 pub record Open : Type 0 where

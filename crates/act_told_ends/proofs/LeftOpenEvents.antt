@@ -18,6 +18,7 @@ use Rattle.act_told_ends.proofs.Later.{IsLater}
 use Rattle.act_told_ends.proofs.Sent.{AreSent, sent_step, was_mailed}
 use Rattle.act_told_ends.proofs.LeftOpen.{Open, is_replaced, replaced, IsMore, more_both, with_collected, kept_same, kept_more}
 use Rattle.act_told_ends.proofs.LeftOpen.{unanswered_less, settled_same}
+use Rattle.act_rules.proofs.Events.{run_collected}
 
 -- more replies were collected, and by now each that stands for a death of a call that ran
 pub record IsBeside (x : Open) (h : History) (posts : List Post) : Type 0 where
@@ -174,10 +175,6 @@ run_left : (h : History) (posts : List Post) (a c : ℕ) (o : Option RunItem)
     → after_run a c (with_collected h posts) o ≡ with_collected (after_run a c h o) posts
 run_left h posts a c None = refl
 run_left h posts a c (Some item) = refl
-
-run_collected : (a c : ℕ) (h : History) (o : Option RunItem) → (after_run a c h o).collected ≡ h.collected
-run_collected a c h None = refl
-run_collected a c h (Some item) = refl
 
 -- the event is accepted, and leaves the same but for the replies
 pub record IsThere (x : Open) (h : History) (posts : List Post) (other : Event) : Type 0 where

@@ -1,6 +1,6 @@
 -- Fronts of one list, what stands in a list, and what a pushed list holds.
 use Rattle.act_early.proofs.Common.{◌≡◌, ℕ, zero, suc, ◌≤◌, Bool, cond, List, [], ◌∷◌, ◌++◌, length, take, Option, Some, None, inl, inr, ◌⊎◌}
-use Rattle.act_early.proofs.Common.{refl, ap, sym, ◌∙◌, subst, arith, Contains, slice_get, filter, filter_map, cons_option, IsPrefix}
+use Rattle.act_early.proofs.Common.{refl, ap, sym, ◌∙◌, subst, slice_get, filter, filter_map, cons_option, IsPrefix}
 use Rattle.act_early.proofs.Counting.{take-prefix}
 use Rattle.act_early.proofs.Items.{take-front}
 
@@ -16,16 +16,6 @@ pub fronts_same : {A : Type 0} (xs ys zs : List A) → IsPrefix xs zs → IsPref
 fronts_same {A = A} xs ys zs f g e = sym (take-front xs zs f) ∙ ap (λ (n : ℕ). take n zs) e ∙ take-front ys zs g
 
 -- ---- what stands in a list
-
-pub place_in : {A : Type 0} (xs : List A) (x : A) → Contains xs x → (i : ℕ) × (slice_get xs i ≡ Some x)
-place_in [] x has = absurd (let below = has.1 in omega arith)
-place_in {A = A} (y ∷ xs) x (zero, below, is) = (zero, ap (λ (z : A). Some z) is)
-place_in (y ∷ xs) x (suc i, below, is) = let found = place_in xs x (i, omega arith, is) in (suc found.0, found.1)
-
-pub stands_in : {A : Type 0} (xs : List A) (i : ℕ) (x : A) → slice_get xs i ≡ Some x → Contains xs x
-stands_in [] i x e = cc
-stands_in (y ∷ xs) zero x e = (zero, omega arith, cc)
-stands_in (y ∷ xs) (suc i) x e = let rest = stands_in xs i x e in (suc rest.0, (let below = rest.1 in omega (arith, below)), rest.2)
 
 -- what stands in a pushed list stood there, or is what was pushed
 pub push_at : {A : Type 0} (xs : List A) (x y : A) (i : ℕ) → slice_get (xs ++ x ∷ []) i ≡ Some y → (slice_get xs i ≡ Some y) ⊎ ((i ≡ length xs) × (y ≡ x))
@@ -71,8 +61,3 @@ pub filter_alike : {A : Type 0} (p q : A → Bool) (xs : List A) → ((x : A) �
 filter_alike p q [] same = refl
 filter_alike {A = A} p q (x ∷ xs) same = ap (λ (b : Bool). cond b (x ∷ filter p xs) (filter p xs)) (same x)
     ∙ ap (λ (l : List A). cond (q x) (x ∷ l) l) (filter_alike p q xs same)
-
-pub filter_map_alike : {A B : Type 0} (f g : A → Option B) (xs : List A) → ((x : A) → f x ≡ g x) → filter_map f xs ≡ filter_map g xs
-filter_map_alike f g [] same = refl
-filter_map_alike {B = B} f g (x ∷ xs) same = ap (λ (o : Option B). cons_option o (filter_map f xs)) (same x)
-    ∙ ap (λ (l : List B). cons_option (g x) l) (filter_map_alike f g xs same)

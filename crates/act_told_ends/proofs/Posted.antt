@@ -8,8 +8,10 @@ use Rattle.act_early.proofs.Common.{under-push, kept_at_is, kept_by, length-answ
 use Rattle.act_early.proofs.Common.{IsSoundPost, held_submission, next_item_caller, is_reply, AllNamed, answer_alive, under, All_at, added_grows}
 use Rattle.act_rules.specs.declared.event.Event.TheVariants as event
 use Rattle.act_rules.specs.declared.history.Post.TheVariants.{Reply as ReplyPost, Death as DeathPost}
-use Rattle.act_early.proofs.Replies.{named_call, reply_died}
+use Rattle.act_early.proofs.Replies.{reply_died}
 use Rattle.act_told_ends.proofs.Lists.{push_at, first_in, some_first}
+use Rattle.act_lists.proofs.Options.{cond_gives}
+use Rattle.act_rules.proofs.RanAll.{named_call}
 
 -- ---- each run has its reply posted
 
@@ -112,10 +114,6 @@ pub data CameBy (h : History) (c k : ℕ) (answer : Answer) : Type 0 where
   Died : (i : ℕ) (call : Submission) → slice_get h.collected i ≡ Some (DeathPost c call.actor) → slice_get (calls_of c h) k ≡ Some call
       → answer ≡ Err ActorDied → CameBy h c k answer
 
-cond_some : {A : Type 0} (b : Bool) (o : Option A) (x : A) → cond b o None ≡ Some x → (b ≡ true) × (o ≡ Some x)
-cond_some true o x e = (refl, e)
-cond_some false o x e = cc
-
 -- an answer that is no death is a reply
 pub is_alive : (answer : Answer) → answer ≢ Err ActorDied → is_reply (Some answer) ≡ true
 is_alive answer alive = go (is_reply (Some answer)) refl
@@ -127,7 +125,7 @@ is_alive answer alive = go (is_reply (Some answer)) refl
 replied : (h : History) (c k b i d a place : ℕ) (answer : Answer) → IsSoundPost h (ReplyPost d a place)
     → slice_get h.collected i ≡ Some (ReplyPost d a place) → answer_in h c k b (ReplyPost d a place) ≡ Some answer → CameBy h c k answer
 replied h c k b i d a place answer s at gives =
-    let parts = cond_some ((d == c) && is_item_of c k (slice_get (runs_of a h) place)) (answer_of a place h) answer gives in
+    let parts = cond_gives ((d == c) && is_item_of c k (slice_get (runs_of a h) place)) (answer_of a place h) answer gives in
     let tests = and_parts (d == c) (is_item_of c k (slice_get (runs_of a h) place)) parts.0 in
     let call = and_parts (s.0.caller == c) (s.0.future == k) (subst (λ (o : Option RunItem). is_item_of c k o ≡ true) s.1 tests.1) in
     let who : d ≡ c = eqb-true d c tests.0 in
@@ -147,7 +145,7 @@ came_by h c k answer sound e = go (slice_get (calls_of c h) k) refl (sym (kept_a
     post (ReplyPost d a place) i call there at gives = replied h c k call.actor i d a place answer
         (All_at (IsSoundPost h) h.collected i (ReplyPost d a place) sound.posts.collected at) at gives
     post (DeathPost d a) i call there at gives =
-        let parts = cond_some ((d == c) && (a == call.actor)) (Some (Err ActorDied)) answer gives in
+        let parts = cond_gives ((d == c) && (a == call.actor)) (Some (Err ActorDied)) answer gives in
         let tests = and_parts (d == c) (a == call.actor) parts.0 in
         let same : Err ActorDied ≡ answer = let e : Some (Err ActorDied) ≡ Some answer = parts.1 in cc in
         Died i call (at ∙ ap (λ (x : ℕ). Some (DeathPost x a)) (eqb-true d c tests.0) ∙ ap (λ (x : ℕ). Some (DeathPost c x)) (eqb-true a call.actor tests.1))

@@ -6,7 +6,7 @@ use Rattle.act_early.proofs.Common.{callers_in, is_caller, calls_of, copies_of, 
 use Rattle.act_early.proofs.Common.{has_letter, calls_to, handle_refusal, deliver_refusal, outcomes, history, ran_all, summary, At, IsPlay, both_ways}
 use Rattle.act_rules.specs.declared.history.Letter.TheVariants.{Note as NoteLetter}
 use Rattle.act_early.proofs.Listed.{all_actors, all_listed, named_caller}
-use Rattle.act_early.proofs.Notes.{letter_place, notes_sent, NotesSent}
+use Rattle.act_early.proofs.Notes.{notes_sent, NotesSent}
 use Rattle.act_early.proofs.Told.{same_told}
 use Rattle.act_early.proofs.Worlds.{IsWorld, world}
 use Rattle.act_early.proofs.Retires.{cast_listed}
@@ -17,6 +17,7 @@ use Rattle.act_told_ends.proofs.Bridge.{IsLate, late_play, free_play}
 use Rattle.act_told_ends.proofs.Covered.{cast_same}
 use Rattle.act_told_ends.proofs.Going.{has_copies, may_deliver}
 use Rattle.act_told_ends.proofs.Through.{world_of}
+use Rattle.act_rules.proofs.Letters.{letter_place}
 
 -- a play that ends as is told, and a walk that is through
 record IsRest (casts : List ActorSpec) (bound : ℕ → Option (List Step)) (told : Told) (plans : ℕ → List Step) (late : At) (g : History) : Type 0 where

@@ -1,15 +1,15 @@
 -- Each call that ran was sent.
-use Rattle.act_early.proofs.Common.{◌≡◌, ℕ, zero, suc, ◌+◌, Bool, true, false, cond, List, [], ◌∷◌, ◌++◌, length, map, Option, Some, None, inl, inr, ◌⊎◌}
-use Rattle.act_early.proofs.Common.{refl, ap, sym, ◌∙◌, subst, arith, ◌==◌, ◌||◌, slice_get, option_map, append-nil, eqb-true, eq-eqb, AllByRecursion}
-use Rattle.act_early.proofs.Common.{RunItem, Submission, Letter, calls_to, number_of, History, opening, under, calls_of, runs_of, has_letter, is_letter}
+use Rattle.act_early.proofs.Common.{◌≡◌, ℕ, ◌+◌, Bool, true, false, cond, List, [], ◌∷◌, ◌++◌, length, map, Option, Some, None, inl, inr, ◌⊎◌}
+use Rattle.act_early.proofs.Common.{refl, ap, sym, ◌∙◌, subst, arith, ◌==◌, slice_get, option_map, append-nil, eqb-true, eq-eqb, AllByRecursion}
+use Rattle.act_early.proofs.Common.{RunItem, Submission, Letter, calls_to, number_of, History, opening, under, calls_of, runs_of, has_letter}
 use Rattle.act_early.proofs.Common.{ran_count, items_of, next_item, add_event, after_run, and_also, call_letter, under-push, IsKept, IsPrefix, added_grows}
 use Rattle.act_early.proofs.Common.{IsNext, next_item_is, numbered, numbers, has_letter-sound, held_call, held_submission, map-slice_get, rank, IsSound}
 use Rattle.act_early.proofs.Common.{slice_get_front, slice_get-filter, slice_get-map, slice_get-enumerate_from, ActorSpec, All_more, All_weaker}
 use Rattle.act_rules.specs.declared.event.Event.TheVariants as event
 use Rattle.act_rules.specs.declared.history.Letter.TheVariants.{Call as CallLetter}
-use Rattle.act_early.proofs.Notes.{same_letter, has_front}
 use Rattle.act_early.proofs.Unanswered.{number_is}
 use Rattle.act_told_ends.proofs.Lists.{push_at}
+use Rattle.act_rules.proofs.Letters.{has_front, has_letter-at}
 
 -- each letter that arrived was sent, and so was that of each call that ran
 pub record AreSent (h : History) : Type 0 where
@@ -19,20 +19,6 @@ pub record AreSent (h : History) : Type 0 where
 
 abbrev In : List Letter → Letter → Type 0
 In mail letter = has_letter letter mail ≡ true
-
-letter_at : (letter : Letter) (xs : List Letter) (i : ℕ) → slice_get xs i ≡ Some letter → has_letter letter xs ≡ true
-letter_at letter [] i e = cc
-letter_at letter (x ∷ xs) zero e = first (is_letter letter x) (has_letter letter xs)
-    (ap (is_letter letter) (let same : x ≡ letter = cc in same) ∙ same_letter letter)
-  where
-    first : (y z : Bool) → y ≡ true → (y || z) ≡ true
-    first true z e = refl
-    first false z e = cc
-letter_at letter (x ∷ xs) (suc i) e = second (is_letter letter x) (has_letter letter xs) (letter_at letter xs i e)
-  where
-    second : (y z : Bool) → z ≡ true → (y || z) ≡ true
-    second true z e = refl
-    second false z e = e
 
 -- more was sent, and nothing arrived or ran
 more_sent : (h g : History) → AreSent h → IsPrefix h.mail g.mail → g.arrived ≡ h.arrived → g.ran ≡ h.ran → AreSent g
@@ -77,7 +63,7 @@ sent_step h (event.Deliver i) sent may = go (slice_get h.mail i) refl
   where
     go : (o : Option Letter) → slice_get h.mail i ≡ o → AreSent (record h { arrived = and_also h.arrived o })
     go None e = sent
-    go (Some letter) e = record { arrived = All_more (In h.mail) h.arrived letter sent.arrived (letter_at letter h.mail i e); ran = sent.ran }
+    go (Some letter) e = record { arrived = All_more (In h.mail) h.arrived letter sent.arrived (has_letter-at letter h.mail i e); ran = sent.ran }
 sent_step h (event.Submit c a method args) sent may =
     more_sent h (add_event h (event.Submit c a method args)) sent (added_grows h (event.Submit c a method args)).mail refl refl
 sent_step h (event.Copy c a) sent may = more_sent h (add_event h (event.Copy c a)) sent (added_grows h (event.Copy c a)).mail refl refl

@@ -11,19 +11,21 @@ use Rattle.act_early.proofs.Counting.{take-at, take-past, past_none, take-prefix
 use Rattle.act_early.proofs.Earlier.{step_runs, step_kills}
 use Rattle.act_early.proofs.Matching.{IsPrefix-filter_map}
 use Rattle.act_early.proofs.Progress.{follows, submission_in, is_copy_of, is_release_of, submitted_one, copied_one, released_one, counted}
-use Rattle.act_early.proofs.Replies.{front_short, front_whole}
+use Rattle.act_early.proofs.Replies.{front_short}
 use Rattle.act_early.proofs.Worlds.{IsWorld, either_of, or_second, step_keeps, world_step}
 use Rattle.act_early.proofs.Notes.{opened_none}
 use Rattle.act_told_ends.specs.Told.{Told, IsWalk, DidFirst, EndsAsTold, submission_of, copies, releases}
 use Rattle.act_told_ends.specs.Walks.{MayGoOn, Calls, Asks, Steps, DoesWithout, Sends, Delivers, Runs, Collects, TakesKill, Tells, Hears, IsThrough}
 use Rattle.act_told_ends.specs.Walked.{IsWalked, Begins, GoesOn, Mails, Brings, gone_on, one_step_more}
-use Rattle.act_told_ends.proofs.Lists.{filter_alike, filter_map_alike}
+use Rattle.act_told_ends.proofs.Lists.{filter_alike}
 use Rattle.act_told_ends.proofs.Bridge.{IsLate, late_play}
 use Rattle.act_told_ends.proofs.Posted.{RunsPosted, CameBy, Replied, Died, came_by, posted_step, all_posted}
 use Rattle.act_told_ends.proofs.Covered.{same_submission, same_copy, same_release}
 use Rattle.act_told_ends.proofs.Covers.{step_collects, step_asks}
 use Rattle.act_told_ends.proofs.Through.{world_of, stuck_in}
 use Rattle.act_told_ends.proofs.Walked.{IsGoing, new_kept, old_reply, told_death, hear_more, still_killed, quiet_going, kill_going, run_going, reply_going, death_going}
+use Rattle.act_lists.proofs.Lists.{filter_map_alike}
+use Rattle.act_rules.proofs.Lists.{front_whole}
 
 -- ---- what a step leaves as it was
 

@@ -7,7 +7,7 @@ use Rattle.act_early.proofs.Common.{world_retires, both_ways}
 use Rattle.act_rules.specs.declared.event.Event.TheVariants as event
 use Rattle.act_early.proofs.Counting.{past_none}
 use Rattle.act_early.proofs.Ending.{same_kept, kept_long}
-use Rattle.act_early.proofs.Replies.{front_short, front_whole}
+use Rattle.act_early.proofs.Replies.{front_short}
 use Rattle.act_early.proofs.Worlds.{IsWorld, world, either_of, world_step}
 use Rattle.act_told_ends.specs.Told.{Told, EndsAsTold, IsWalk}
 use Rattle.act_told_ends.specs.Walks.{MayGoOn, IsThrough}
@@ -18,6 +18,7 @@ use Rattle.act_told_ends.proofs.Covered.{IsSetting, IsCovered, calls_covered, ru
 use Rattle.act_told_ends.proofs.Going.{Case, Here}
 use Rattle.act_told_ends.proofs.Covers.{Near, idle, step_near, skip_near, run_near, kill_near}
 use Rattle.act_told_ends.proofs.Collected.{collect_near}
+use Rattle.act_rules.proofs.Lists.{front_whole}
 
 -- ---- every event
 

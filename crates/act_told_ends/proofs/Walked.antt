@@ -10,16 +10,18 @@ use Rattle.act_early.proofs.Common.{is_reply, option_map}
 use Rattle.act_rules.specs.Consistent.{IsAnswerOfRun}
 use Rattle.act_rules.specs.declared.event.Event.TheVariants as event
 use Rattle.act_rules.specs.declared.history.Post.TheVariants.{Reply as ReplyPost, Death as DeathPost}
-use Rattle.act_early.proofs.Choices.{first_same, kept_first}
+use Rattle.act_early.proofs.Choices.{kept_first}
 use Rattle.act_early.proofs.Progress.{IsIdle, free_idle}
 use Rattle.act_early.proofs.Replies.{death_answers, reply_some, reply_died, reply_alive}
 use Rattle.act_early.proofs.Worlds.{IsWorld, world, either_of, contains_push, world_step}
 use Rattle.act_told_ends.specs.Told.{Told, IsWalk, DidFirst}
 use Rattle.act_told_ends.specs.Walks.{MayHear}
-use Rattle.act_told_ends.proofs.Lists.{push_at, stands_in}
+use Rattle.act_told_ends.proofs.Lists.{push_at}
 use Rattle.act_told_ends.proofs.Bridge.{IsLate}
 use Rattle.act_told_ends.proofs.Posted.{RunsPosted, CameBy, Replied, Died, came_by, reply_answers, posted_step}
 use Rattle.act_told_ends.proofs.Covered.{cast_same}
+use Rattle.act_lists.proofs.Lists.{stands_in}
+use Rattle.act_rules.proofs.Table.{first_answer-same}
 
 -- what a walk keeps: it is one, and a death that it collected could be heard
 pub record IsGoing (casts : List ActorSpec) (bound : ℕ → Option (List Step)) (told : Told) (done : ℕ → ℕ) (h : History) : Type 0 where
@@ -50,7 +52,7 @@ quiet_kept h g c k grows sound calls collected = go (slice_get (calls_of c h) k)
 
     go : (o : Option Submission) → slice_get (calls_of c h) k ≡ o → kept_at (kept_of c g) k ≡ kept_at (kept_of c h) k
     go None at = kept_at_is g c k ∙ ap (kept_by g c k) (there ∙ at) ∙ sym (kept_at_is h c k ∙ ap (kept_by h c k) at)
-    go (Some call) at = kept_first g c k call (there ∙ at) ∙ first_same h g c (k, call) grows sound.posts collected ∙ sym (kept_first h c k call at)
+    go (Some call) at = kept_first g c k call (there ∙ at) ∙ first_answer-same h g c (k, call) grows sound.posts collected ∙ sym (kept_first h c k call at)
 
 -- a reply that is collected already was an answer
 pub old_reply : (casts : List ActorSpec) (bound : ℕ → Option (List Step)) (told : Told) (done : ℕ → ℕ) (h : History) (i c a place k : ℕ) (item : RunItem)

@@ -7,11 +7,9 @@ use Rattle.act_early.proofs.Common.{slice_get-filter, slice_get-enumerate_from, 
 use Rattle.act_early.proofs.Common.{nothing_follows_step, after_all_keeps, opening, Retires}
 use Rattle.std.proofs.lemmas.Option.{slice_get-map}
 use Rattle.act_early.proofs.Common.{take-append_seam}
-use Rattle.act_early.proofs.Notes.{has_last}
-use Rattle.act_early.proofs.Replies.{named_call}
 use Rattle.act_early.proofs.Unanswered.{number_is}
 use Rattle.act_rules.proofs.Ended.{NothingFollows}
-use Rattle.act_rules.proofs.Letters.{calls_to-number}
+use Rattle.act_rules.proofs.Letters.{calls_to-number, has_last}
 use Rattle.act_rules.specs.RunList.{ends_actor}
 use Rattle.act_rules.specs.declared.event.Event.TheVariants as event
 use Rattle.act_rules.specs.declared.history.Letter.TheVariants.{Call as CallLetter}
@@ -21,6 +19,7 @@ use Rattle.act_told_ends.specs.Walks.{IsNextRun}
 use Rattle.act_told_ends.proofs.Walked.{IsGoing}
 use Rattle.act_walks.specs.Eager.{SomeEnd, IsEager}
 use Rattle.act_walks.proofs.Eager.{going_of, sent}
+use Rattle.act_rules.proofs.RanAll.{named_call}
 
 -- ---- the item that is told, in the end that is told
 

@@ -15,7 +15,6 @@ use Rattle.act_world.proofs.Lawful.{world_lawful}
 use Rattle.act_world.proofs.Heard.{death_listed}
 use Rattle.act_told_ends.specs.Told.{Told}
 use Rattle.act_told_ends.specs.Walks.{MayHear}
-use Rattle.act_told_ends.proofs.Lists.{place_in}
 use Rattle.act_walks.specs.declared.told.Left.{Left}
 use Rattle.act_walks.specs.declared.told.Left.TheVariants.{Open, Reply, Death}
 use Rattle.act_walks.specs.declared.told.ToldCall.{ToldCall}
@@ -26,6 +25,7 @@ use Rattle.act_walks.specs.Walking.{Parts, done_in, Moves, NoTell, Does, HearsNo
 use Rattle.act_walks.proofs.EagerRuns.{heard}
 use Rattle.act_walks.proofs.Kills.{kills_event}
 use Rattle.act_walks.proofs.Onward.{stands_event, walking_to, moves_none, moves_yes}
+use Rattle.act_lists.proofs.Lists.{place_in}
 
 -- ---- who is dead
 

@@ -8,7 +8,6 @@ use Rattle.act_rules.specs.declared.history.Post.TheVariants.{Death as DeathPost
 use Rattle.act_rules.specs.declared.outcome.Did.{Did}
 use Rattle.act_rules.specs.declared.outcome.Did.TheVariants as did_so
 use Rattle.act_rules.specs.Rules.{did}
-use Rattle.act_early.proofs.Replies.{front_whole}
 use Rattle.act_told_ends.specs.Told.{Told}
 use Rattle.act_told_ends.specs.Walks.{Calls, Asks, Steps, DoesWithout, TakesKill, IsNextRun}
 use Rattle.act_told_ends.specs.Walked.{IsWalked, Begins, GoesOn, Mails, Brings, one_step_more}
@@ -18,6 +17,7 @@ use Rattle.act_told_ends.proofs.Walked.{IsGoing}
 use Rattle.act_plan_plays.specs.Parts.{IsBrought, after_mail, after_post, after_move}
 use Rattle.act_plan_plays.proofs.Brought.{brought_kept, brought_release, brought_send}
 use Rattle.act_walks.specs.Eager.{SomeEnd, RepliesAreKept, DeathsAreHeard, IsEager}
+use Rattle.act_rules.proofs.Lists.{front_whole}
 
 -- what a walk keeps, where some events end as is told
 pub going_of : (casts : List ActorSpec) (bound : ℕ → Option (List Step)) (told : Told) → SomeEnd casts bound told → (done : ℕ → ℕ) (h : History)

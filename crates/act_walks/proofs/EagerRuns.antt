@@ -14,7 +14,7 @@ use Rattle.act_told_ends.specs.Told.{Told}
 use Rattle.act_told_ends.specs.Walks.{Runs, Collects, Tells, Hears, IsNextRun, MayHear}
 use Rattle.act_told_ends.specs.Walked.{IsWalked, GoesOn}
 use Rattle.act_told_ends.proofs.Bridge.{IsLate, late_play}
-use Rattle.act_told_ends.proofs.Lists.{place_in, push_at, stands_in}
+use Rattle.act_told_ends.proofs.Lists.{push_at}
 use Rattle.act_told_ends.proofs.Posted.{reply_answers}
 use Rattle.act_told_ends.proofs.Walked.{IsGoing, hear_more, quiet_kept}
 use Rattle.act_told_ends.proofs.Resting.{collect_may}
@@ -22,6 +22,7 @@ use Rattle.act_plan_plays.specs.Parts.{IsBrought}
 use Rattle.act_plan_plays.proofs.Brought.{brought_kept}
 use Rattle.act_walks.specs.Eager.{SomeEnd, RepliesAreKept, DeathsAreHeard, IsEager}
 use Rattle.act_walks.proofs.Eager.{going_of, some_stays}
+use Rattle.act_lists.proofs.Lists.{place_in, stands_in}
 
 -- ---- what runs next is what is told
 

@@ -12,13 +12,14 @@ use Rattle.act_told_ends.specs.Told.{Told}
 use Rattle.act_told_ends.specs.Walks.{MayGoOn, Calls, Asks, Steps, DoesWithout, Sends, Delivers, Runs, Collects, TakesKill, Tells, Hears, IsThrough, IsNextRun}
 use Rattle.act_told_ends.specs.Walks.{MayHear}
 use Rattle.act_told_ends.specs.Walked.{IsWalked}
-use Rattle.act_told_ends.proofs.Lists.{place_in, push_at, stands_in}
+use Rattle.act_told_ends.proofs.Lists.{push_at}
 use Rattle.act_told_ends.proofs.Resting.{walked_left}
 use Rattle.act_told_ends.proofs.Stepped.{goes_on}
 use Rattle.act_plan_plays.specs.Parts.{IsBrought}
 use Rattle.act_walks.specs.Eager.{SomeEnd, IsEager, KillsAreAsked, IsAtRest}
 use Rattle.act_walks.proofs.Eager.{going_of}
-use Rattle.act_world.proofs.Lawful.{has_letter-at}
+use Rattle.act_lists.proofs.Lists.{place_in, stands_in}
+use Rattle.act_rules.proofs.Letters.{has_letter-at}
 
 -- ---- what was collected was posted
 

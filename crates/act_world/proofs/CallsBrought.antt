@@ -7,7 +7,8 @@ use Rattle.act_world.proofs.Common.{waiting_packet, has_come, arrival_of, waitin
 use Rattle.act_world.proofs.Common.{held_packet, is_note_of, IsLive}
 use Rattle.act_rules.specs.declared.history.Letter.TheVariants.{Call as CallLetter, Note as NoteLetter}
 use Rattle.act_world.proofs.Lawful.{IsLawful}
-use Rattle.act_world.proofs.Mail.{has_other, has_again, has_last, brought, held_same}
+use Rattle.act_world.proofs.Mail.{has_other, has_again, brought, held_same}
+use Rattle.act_rules.proofs.Letters.{has_last}
 
 number_small : (h : History) (c a n : ℕ) (call : ℕ × Submission) → IsLawful h → slice_get (calls_to a (calls_of c h)) n ≡ Some call → nat_lt n 65536 ≡ true
 number_small h c a n call lawful at =

@@ -14,11 +14,12 @@ use Rattle.act_world.proofs.Lawful.{IsLawful, IsNamedPost, named_caller, world_l
 use Rattle.act_world.proofs.Frames.{owner_absent}
 use Rattle.act_world.proofs.Sending.{SeesOwner}
 use Rattle.act_world.proofs.Stepping.{FollowsThere}
-use Rattle.act_world.proofs.Heard.{caller_of, Collects, collect_unrefused}
+use Rattle.act_world.proofs.Heard.{caller_of, Collects}
 use Rattle.act_world.proofs.OneCaller.{put_back}
 use Rattle.act_world.proofs.Bereaved.{death_collects}
 use Rattle.act_world.proofs.Answering.{reply_collects}
 use Rattle.act_world.proofs.Lists.{set-same, none_alike}
+use Rattle.act_rules.proofs.Events.{collect_unrefused}
 
 -- ---- each notice
 

@@ -8,7 +8,8 @@ use Rattle.act_world.proofs.Common.{is_ended, next_item, refusal_of, after_run, 
 use Rattle.act_world.proofs.Common.{OwnerView, is_owner, SlotView, Runs, Died, Ended, Vacant, WorldView, IsOwnerAt, IsStage, Refines, is_dead_slot, world_calls}
 use Rattle.act_world.proofs.Common.{world_kept, slot_log, world_log, world_died, IsConsistent}
 use Rattle.act_rules.specs.declared.history.Letter.TheVariants.{Call as CallLetter}
-use Rattle.act_world.proofs.Lawful.{IsLawful, IsNamedLetter, world_lawful, named_caller, sent_call_named}
+use Rattle.act_world.proofs.Lawful.{IsLawful, IsNamedLetter, world_lawful, named_caller}
+use Rattle.act_rules.proofs.RanAll.{named_call}
 
 -- ---- the casts stay, and the killed have casts
 
@@ -62,7 +63,7 @@ killed_step h (Retire a) all accepted b killed = all b killed
 no_calls : (h : History) (c : ℕ) (calls : List Submission) → calls_of c h ≡ calls → IsLawful h → is_caller c h ≡ false → calls ≡ []
 no_calls h c [] is lawful stranger = refl
 no_calls h c (call ∷ calls) is lawful stranger =
-    let named = sent_call_named h c 0 call lawful.retires.named (ap (λ (l : List Submission). slice_get l 0) is) in
+    let named = named_call h c 0 call lawful.retires.named (ap (λ (l : List Submission). slice_get l 0) is) in
     let bad : true ≡ false = sym (named_caller c call.actor h named) ∙ stranger in
     absurd (cc)
 

@@ -1,9 +1,10 @@
 -- A history after one of its posts was collected.
 use Rattle.act_world.proofs.Common.{◌≡◌, ◌≢◌, ℕ, Bool, false, List, [], ◌∷◌, ◌++◌, Some, None, refl, ap, sym, ◌∙◌, subst, Ok, Option, ◌==◌, ◌||◌, slice_get}
 use Rattle.act_world.proofs.Common.{slice_set, list_any, or-false, ne_eqb, list_any-append, Collect, Submission, Post, Answer, History, calls_of, kept_of}
-use Rattle.act_world.proofs.Common.{answer_in, first_answer, did, Outcome, refusal_of, outcome_of, did_collect, add_event, after, and_also, was_sent, Grows}
+use Rattle.act_world.proofs.Common.{answer_in, first_answer, did, Outcome, outcome_of, did_collect, add_event, after, and_also, was_sent, Grows}
 use Rattle.act_world.proofs.Common.{added_grows, or_else, kept_of-collected, OwnerView, collect_result, after_collect, KnowsDeath, Posted, NetworkView}
 use Rattle.act_world.proofs.Common.{told_collected, SlotView, WorldView, IsOwnerOf, is_death_to, Refines, zero, true, arith, and_parts, eqb-true, Contains}
+use Rattle.act_world.proofs.Common.{collect_unrefused}
 use Rattle.act_rules.specs.declared.history.Post.TheVariants.{Reply as ReplyPost, Death as DeathPost}
 use Rattle.act_world.proofs.Changes.{accepted_follows}
 use Rattle.act_world.proofs.Lawful.{IsLawful}
@@ -83,9 +84,6 @@ heard_ties h network slots post place owner new lawful grows refines sees is =
       reply_count = refines.reply_count;
       asked = refines.asked;
     }
-
-pub collect_unrefused : (h : History) (j : ℕ) (post : Post) → slice_get h.posts j ≡ Some post → refusal_of h (Collect j) ≡ None
-collect_unrefused h j post at = rw at refl
 
 collect_adds : (h : History) (j : ℕ) (post : Post) → slice_get h.posts j ≡ Some post → add_event h (Collect j) ≡ heard h post
 collect_adds h j post at = ap (λ (o : Option Post). record h { collected = and_also h.collected o }) at

@@ -1,14 +1,15 @@
 -- What every history keeps, beside the laws of the rules: what a world may rely on.
-use Rattle.act_world.proofs.Common.{◌≡◌, ℕ, zero, suc, ◌+◌, ◌<◌, ◌≤◌, Bool, true, false, cond, List, [], ◌∷◌, ◌++◌, length, Some, None, inl, inr, refl, ap, sym}
-use Rattle.act_world.proofs.Common.{◌∙◌, subst, arith, length-append, Option, ◌==◌, ◌||◌, filter, find, slice_get, option_map, is_some, nat_lt, nat_le}
-use Rattle.act_world.proofs.Common.{AllByRecursion, list_all, list_any, or-false, eqb-true, eq-eqb, ltb-true, or_right, leb_tells, append-nil, list_any-append}
+use Rattle.act_world.proofs.Common.{◌≡◌, ℕ, suc, ◌+◌, ◌<◌, ◌≤◌, Bool, true, false, cond, List, [], ◌∷◌, ◌++◌, length, Some, None, inl, inr, refl, ap, sym}
+use Rattle.act_world.proofs.Common.{◌∙◌, subst, arith, length-append, Option, ◌==◌, ◌||◌, find, slice_get, option_map, is_some, nat_lt, nat_le}
+use Rattle.act_world.proofs.Common.{AllByRecursion, list_all, list_any, or-false, eqb-true, ltb-true, or_right, leb_tells, append-nil, list_any-append}
 use Rattle.act_world.proofs.Common.{filter-append, Arg, Method, RunItem, Submission, Letter, Post, Event, Submit, Copy, Release, Send, Deliver, Run, Collect}
 use Rattle.act_world.proofs.Common.{AskKill, TakeKill, Tell, Retire, NoActor, NoHandle, items_of, calls_to, needs, copies_held, submit_refusal, limit_refusal}
 use Rattle.act_world.proofs.Common.{handle_refusal, is_earlier, ActorSpec, History, opening, contains, under, cast_of, names, is_caller, calls_of, copies_of}
 use Rattle.act_world.proofs.Common.{limit_of, runs_of, ran_count, has_letter, is_letter, is_dead, next_item, unanswered, submission_refusal, refusal_of}
-use Rattle.act_world.proofs.Common.{add_event, and_also, after_run, call_letter, is_last, after_all, All_more, All_weaker, All_at, option_map-none}
-use Rattle.act_world.proofs.Common.{option_or-none, IsKept, after_all_keeps, needs-none, under-push, run_needs, IsNext, next_item_is, map-slice_get}
-use Rattle.act_world.proofs.Common.{filter-slice_get, Retires, retires_step, AllNamed, world_retires, copies_named, IsSound, sound_step, world_sound}
+use Rattle.act_world.proofs.Common.{add_event, and_also, after_run, call_letter, is_last, after_all, All_more, All_weaker, option_map-none}
+use Rattle.act_world.proofs.Common.{option_or-none, IsKept, after_all_keeps, needs-none, under-push, run_needs, IsNext, next_item_is}
+use Rattle.act_world.proofs.Common.{Retires, retires_step, AllNamed, world_retires, copies_named, IsSound, sound_step, world_sound}
+use Rattle.act_world.proofs.Common.{has_letter-at, named_call}
 use Rattle.act_rules.specs.declared.history.Letter.TheVariants.{Call as CallLetter, Note as NoteLetter}
 use Rattle.act_rules.specs.declared.history.Post.TheVariants.{Reply as ReplyPost, Death as DeathPost}
 use Rattle.act_rules.specs.declared.outcome.SubmitRefusal.TheVariants.{NoActor as NoSuchActor, NoHandle as NoCopy, TooManyArgs, BadFuture, TooManyCalls}
@@ -67,20 +68,6 @@ has_letter-more letter xs ys e = rw (list_any-append (is_letter letter) xs ys, e
 -- a letter is in a list with one more at its end where it was before or is that one
 pub has_letter-last : (letter other : Letter) (xs : List Letter) → has_letter letter (xs ++ other ∷ []) ≡ (has_letter letter xs || is_letter letter other)
 has_letter-last letter other xs = list_any-append (is_letter letter) xs (other ∷ []) ∙ ap (λ (b : Bool). has_letter letter xs || b) (or-false (is_letter letter other))
-
--- a letter is itself
-pub is_letter-same : (letter : Letter) → is_letter letter letter ≡ true
-is_letter-same (CallLetter c a n) = rw (eq-eqb c c refl, eq-eqb a a refl, eq-eqb n n refl) refl
-is_letter-same (NoteLetter c a n) = rw (eq-eqb c c refl, eq-eqb a a refl, eq-eqb n n refl) refl
-
-pub has_letter-at : (letter : Letter) (letters : List Letter) (i : ℕ) → slice_get letters i ≡ Some letter → has_letter letter letters ≡ true
-has_letter-at letter [] i e = cc
-has_letter-at letter (x ∷ letters) zero e = let same : x ≡ letter = cc in rw (same, is_letter-same letter) refl
-has_letter-at letter (x ∷ letters) (suc i) e = or_right (is_letter letter x) (has_letter letter letters) (has_letter-at letter letters i e)
-  where
-    or_right : (a b : Bool) → b ≡ true → (a || b) ≡ true
-    or_right true b e = refl
-    or_right false b e = e
 
 -- each letter that arrived stands in the mail
 abbrev pub WereSent : History → Type 0
@@ -183,15 +170,6 @@ tell_names h a c e =
     let first = needs-none (is_caller c h) NoCaller (needs (names c (cast_of a h)) (Handle NoActor) (needs (is_dead a h) NotDead None)) e in
     (needs-none (names c (cast_of a h)) (Handle NoActor) (needs (is_dead a h) NotDead None) first.1).0
 
-pub sent_call_named : (h : History) (c k : ℕ) (call : Submission) → AllNamed h → slice_get (calls_of c h) k ≡ Some call → names c (cast_of call.actor h) ≡ true
-sent_call_named h c k call named at =
-    let pair = map-slice_get (λ (s : ℕ × Submission). s.1) (filter (λ (s : ℕ × Submission). s.0 == c) h.submitted) k call at in
-    let place = filter-slice_get (λ (s : ℕ × Submission). s.0 == c) h.submitted k pair.0 pair.1 in
-    let mine : pair.0.0 ≡ c = eqb-true pair.0.0 c place.passes in
-    let to : pair.0.1.actor ≡ call.actor = ap (λ (s : Submission). s.actor) pair.2 in
-    let is : names pair.0.0 (cast_of pair.0.1.actor h) ≡ true = All_at (λ (one : ℕ × Submission). names one.0 (cast_of one.1.actor h) ≡ true) h.submitted place.place pair.0 named place.at in
-    subst (λ (x : ℕ). names x (cast_of call.actor h) ≡ true) mine (subst (λ (y : ℕ). names pair.0.0 (cast_of y h) ≡ true) to is)
-
 pub named_step : (h : History) (event : Event) → AllNamed h → AreNamed h → refusal_of h event ≡ None → AreNamed (add_event h event)
 named_step h (Submit c a method args) all named accepted = record { mail = named.mail; posts = named.posts }
 named_step h (Copy c a) all named accepted = record { mail = named.mail; posts = named.posts }
@@ -204,7 +182,7 @@ named_step h (Send c k) all named accepted = record { mail = go (slice_get (call
   where
     go : (o : Option Submission) → slice_get (calls_of c h) k ≡ o → AllByRecursion (IsNamedLetter h) (and_also h.mail (option_map (λ (call : Submission). call_letter c k call h) o))
     go None e = named.mail
-    go (Some call) e = All_more (IsNamedLetter h) h.mail (call_letter c k call h) named.mail (sent_call_named h c k call all e)
+    go (Some call) e = All_more (IsNamedLetter h) h.mail (call_letter c k call h) named.mail (named_call h c k call all e)
 named_step h (Deliver i) all named accepted = record { mail = named.mail; posts = named.posts }
 named_step h (Run a c) all named accepted = go (next_item a c h)
   where

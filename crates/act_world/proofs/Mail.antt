@@ -1,11 +1,11 @@
 -- The letters of a history, and one more that arrived.
 use Rattle.act_world.proofs.Common.{◌≡◌, ◌≢◌, ℕ, Bool, true, false, cond, List, [], ◌∷◌, ◌++◌, Some, None, refl, ap, sym, ◌∙◌, subst, Option, ◌||◌, slice_get}
-use Rattle.act_world.proofs.Common.{option_and_then, nat_lt, or-true, or-false, Letter, History, cast_of, ran_count, is_letter, has_letter, letter_actor}
+use Rattle.act_world.proofs.Common.{option_and_then, nat_lt, or-false, Letter, History, cast_of, ran_count, is_letter, has_letter, letter_actor}
 use Rattle.act_world.proofs.Common.{All_at, IsSoundLetter, letter_is, IsSoundNote, MailEntry, entry_actor, SlotView, Runs, Died, Ended, Vacant, WorldView}
 use Rattle.act_world.proofs.Common.{packet_by_number, call_key, mail_entry, held_packet, IsStage, Refines}
 use Rattle.act_rules.specs.declared.history.Letter.TheVariants.{Call as CallLetter, Note as NoteLetter}
 use Rattle.act_world.specs.declared.network.MailEntry.TheVariants.{Call as CallEntry, Note as NoteEntry}
-use Rattle.act_world.proofs.Lawful.{IsLawful, IsNamedLetter, has_letter-last, is_letter-same}
+use Rattle.act_world.proofs.Lawful.{IsLawful, IsNamedLetter, has_letter-last}
 use Rattle.act_world.proofs.Changes.{named_cast}
 
 -- ---- letters
@@ -28,9 +28,6 @@ has_again x letter xs there = has_letter-last x letter xs ∙ go (is_letter x le
     go : (b : Bool) → is_letter x letter ≡ b → (has_letter x xs || b) ≡ has_letter x xs
     go true e = subst (λ (y : Letter). (has_letter y xs || true) ≡ has_letter y xs) (sym (letter_is x letter e)) (rw there refl)
     go false e = or-false (has_letter x xs)
-
-pub has_last : (letter : Letter) (xs : List Letter) → has_letter letter (xs ++ letter ∷ []) ≡ true
-has_last letter xs = has_letter-last letter letter xs ∙ ap (λ (b : Bool). has_letter letter xs || b) (is_letter-same letter) ∙ or-true (has_letter letter xs)
 
 -- a letter that the history holds at a place, and what it carries
 pub record IsLetterAt (h : History) (i : ℕ) (m : MailEntry) : Type 0 where

@@ -4,7 +4,8 @@ use Rattle.act_world.proofs.Common.{eqb-true, eq-eqb, eqb_tells, Arrival, New, R
 use Rattle.act_world.proofs.Common.{IsSoundNote, note_of, note_arrival, note_after, ActorView, note_arrival_at, HasNoted, is_note_of, IsLive}
 use Rattle.act_rules.specs.declared.history.Letter.TheVariants.{Call as CallLetter, Note as NoteLetter}
 use Rattle.act_world.proofs.Lawful.{IsLawful}
-use Rattle.act_world.proofs.Mail.{has_other, has_again, has_last, brought, held_same}
+use Rattle.act_world.proofs.Mail.{has_other, has_again, brought, held_same}
+use Rattle.act_rules.proofs.Letters.{has_last}
 
 -- the actor knows whether the caller's note came
 note_came : (h : History) (c a n : ℕ) (live : ActorView) → IsLawful h → IsLive h a live → names c (cast_of a h) ≡ true → IsSoundNote h (NoteLetter c a n)

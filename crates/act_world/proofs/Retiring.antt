@@ -1,11 +1,11 @@
 -- An actor that ends by itself.
 use Rattle.act_world.proofs.Common.{◌≡◌, ◌≢◌, ℕ, ◌<◌, Bool, true, false, List, [], ◌∷◌, ◌++◌, length, map, get_or, Some, None, refl, ap, sym, ◌∙◌, subst}
 use Rattle.act_world.proofs.Common.{Option, Ok, Err, ◌==◌, ◌||◌, not, slice_get, slice_set, is_some, list_all, or-false, eqb-true, eq-eqb, ne_eqb, and_parts}
-use Rattle.act_world.proofs.Common.{and_from, or_parts, or_right, map-set, list_any-append, Retire, Retired, NoActor, WorldRefusal, Handle, ActorEnded}
+use Rattle.act_world.proofs.Common.{or_parts, map-set, list_any-append, Retire, Retired, NoActor, WorldRefusal, Handle, ActorEnded}
 use Rattle.act_world.proofs.Common.{NotDrained, history, needs, History, contains, cast_of, callers_in, names, ran_count, is_ended, is_dead, is_retired}
 use Rattle.act_world.proofs.Common.{is_done, is_drained, Outcome, refusal_of, outcome_of, after, Grows, added_grows, handed_of, note_of, IsDrained, ActorView}
 use Rattle.act_world.proofs.Common.{RetiredView, MayRetire, NetworkView, SlotView, Runs, Died, Ended, Vacant, WorldView, with_slots, IsRetiredIn, is_note_of}
-use Rattle.act_world.proofs.Common.{IsLive, IsRetired, IsStage, Refines, FollowsRules}
+use Rattle.act_world.proofs.Common.{IsLive, IsRetired, IsStage, Refines, FollowsRules, all_from_each}
 use Rattle.act_world.proofs.Lawful.{IsLawful, world_lawful}
 use Rattle.act_world.proofs.Frames.{same_caller, owners_stay, still_lives, stage_stays}
 use Rattle.act_world.proofs.Changes.{refused_follows, accepted_follows, stages_change, slot_within}
@@ -13,10 +13,6 @@ use Rattle.act_world.proofs.Lists.{set-same}
 use Rattle.act_world.proofs.Killing.{contains-last}
 
 -- ---- drained, as the actor and as the history tells
-
-all_from_each : (p : ℕ → Bool) (cs : List ℕ) → ((c : ℕ) → contains c cs ≡ true → p c ≡ true) → list_all p cs ≡ true
-all_from_each p [] each = refl
-all_from_each p (x ∷ cs) each = and_from (p x) (list_all p cs) (each x (rw (eq-eqb x x refl) refl)) (all_from_each p cs (λ c e. each c (or_right (x == c) (contains c cs) e)))
 
 each_of_all : (p : ℕ → Bool) (cs : List ℕ) → list_all p cs ≡ true → (c : ℕ) → contains c cs ≡ true → p c ≡ true
 each_of_all p [] all c e = cc

@@ -12,8 +12,9 @@ use Rattle.act_world.specs.declared.network.MailEntry.TheVariants.{Call as CallE
 use Rattle.act_world.proofs.Changes.{refused_follows, accepted_follows}
 use Rattle.act_world.proofs.Stepping.{refused_there, wanting_there}
 use Rattle.act_world.proofs.Lists.{get_set-same, get_set-other}
-use Rattle.act_world.proofs.Lawful.{IsLawful, has_letter-last, is_letter-same}
+use Rattle.act_world.proofs.Lawful.{IsLawful, has_letter-last}
 use Rattle.act_world.proofs.Frames.{SameCaller, owners_change, owner_here, mail_stays, replies_stay, go_together, stages_stay}
+use Rattle.act_rules.proofs.Letters.{is_letter-same}
 
 -- ---- the refusals
 

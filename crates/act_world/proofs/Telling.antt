@@ -2,7 +2,7 @@
 use Rattle.act_world.proofs.Common.{◌≡◌, ℕ, ◌+◌, true, false, List, [], ◌∷◌, ◌++◌, length, Some, None, refl, ap, sym, ◌∙◌, subst, Ok, Err, length-append, find}
 use Rattle.act_world.proofs.Common.{slice_get, or_parts, Death, Tell, Told, WorldRefusal, NotDead, needs, History, cast_of, names, is_caller, is_dead}
 use Rattle.act_world.proofs.Common.{is_retired, did, refusal_of, outcome_of, add_event, after, added_grows, Posted, NetworkView, is_owner, naming_refusal}
-use Rattle.act_world.proofs.Common.{SlotView, Runs, Died, Ended, Vacant, is_dead_slot, IsStage, posted_notice, Refines}
+use Rattle.act_world.proofs.Common.{SlotView, Runs, Died, Ended, Vacant, is_dead_slot, IsStage, posted_notice, Refines, telling_unrefused}
 use Rattle.act_rules.specs.declared.history.Post.TheVariants.{Death as DeathPost}
 use Rattle.act_world.proofs.Changes.{refused_follows, accepted_follows}
 use Rattle.act_world.proofs.Lawful.{IsLawful}
@@ -27,9 +27,6 @@ dead_is h c a Vacant is named = let none = unnamed h c a is in let bad : true �
 refuses_living : (h : History) (a c : ℕ) → is_caller c h ≡ true → names c (cast_of a h) ≡ true → is_dead a h ≡ false → refusal_of h (Tell a c) ≡ Some NotDead
 refuses_living h a c caller named dead = rw (caller, named, dead) refl
 
-refuses_none : (h : History) (a c : ℕ) → is_caller c h ≡ true → names c (cast_of a h) ≡ true → is_dead a h ≡ true → refusal_of h (Tell a c) ≡ None
-refuses_none h a c caller named dead = rw (caller, named, dead) refl
-
 -- ---- the event that is refused, and that is not
 
 pub tell_refused : (h : History) (network : NetworkView) (slots : List SlotView) (a c : ℕ) (refusal : WorldRefusal) → Refines h (record { network = network; slots = slots }) → naming_refusal (find (is_owner c) network.owners) a ≡ Some refusal
@@ -47,7 +44,7 @@ pub tell_unrefused : (h : History) (network : NetworkView) (slots : List SlotVie
     → refusal_of h (Tell a c) ≡ None
 tell_unrefused h network slots a c slot refines there free dead =
     let here = known h network.owners c a refines.owners free in
-    refuses_none h a c here.0 here.1 (sym (dead_is h c a slot (subst (IsStage h a) there (refines.actors a)) here.1) ∙ dead)
+    telling_unrefused h a c here.0 here.1 (sym (dead_is h c a slot (subst (IsStage h a) there (refines.actors a)) here.1) ∙ dead)
 
 -- ---- the notice
 

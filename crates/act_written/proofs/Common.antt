@@ -1,4 +1,5 @@
 -- The names of specifications and of the crates below that most proofs here cite, passed on from one place.
+pub use Rattle.act_lists.proofs.Texts.{appends_more}
 pub use Rattle.act_orders.proofs.Lists.{same_or_not}
 pub use Rattle.act_orders.specs.Causes.{run_of}
 pub use Rattle.act_orders.specs.declared.told.Call.{Call}

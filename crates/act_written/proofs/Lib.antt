@@ -1,4 +1,3 @@
 pub mod Common
 pub mod Pushed
 pub mod Each
-pub mod Appended

@@ -1,6 +1,6 @@
 -- Elements of lists by their places, and look-ups.
 use Rattle.act_executor.proofs.Common.{◌≡◌, ℕ, zero, suc, ◌+◌, Bool, true, false, cond, List, [], ◌∷◌, ◌++◌, length, Some, None, refl, ap, sym, ◌∙◌, subst}
-use Rattle.act_executor.proofs.Common.{arith, inl, inr, ◌<◌, length-append, ◌==◌, ◌||◌, map, filter, find, slice_get, All, Contains, ◌⊎◌, AllByRecursion}
+use Rattle.act_executor.proofs.Common.{arith, inl, inr, ◌<◌, length-append, ◌==◌, ◌||◌, map, filter, find, slice_get, All, Contains, ◌⊎◌}
 use Rattle.act_executor.proofs.Common.{list_any, range_with_len, enumerate_from, eq-eqb, eqb-true, slice_get_read, slice_get-get_or, slice_get_within}
 use Rattle.act_executor.proofs.Common.{get_or_from_slice_get, All-contains, any_passes_from_place, IsPrefix, slice_get-filter, slice_get_front, contains}
 use Rattle.act_executor.proofs.Common.{get_or-map, length-map}
@@ -30,10 +30,6 @@ in_filter p xs x i passes = record { place = _; at = slice_get-filter p xs i.pla
 -- what stands in a front stands in the whole
 pub in_front : {A : Type 0} (xs ys : List A) (x : A) → IsPrefix xs ys → IsIn xs x → IsIn ys x
 in_front xs ys x f i = record { place = i.place; at = slice_get_front xs ys i.place x f i.at }
-
-pub all_from_places : {A : Type 0} (P : A → Type 0) (xs : List A) → ((k : ℕ) (x : A) → slice_get xs k ≡ Some x → P x) → AllByRecursion P xs
-all_from_places P [] f = tt
-all_from_places P (x ∷ xs) f = (f 0 x refl, all_from_places P xs (λ k y e. f (suc k) y e))
 
 pub all_by_places : {A : Type 0} (P : A → Type 0) (xs : List A) → ((k : ℕ) (x : A) → slice_get xs k ≡ Some x → P x) → All P xs
 all_by_places P xs f k d below = f k _ (slice_get-get_or xs k d below)

@@ -4,8 +4,8 @@ use Rattle.act_executor.proofs.Common.{refl, ap, sym, ◌∙◌, subst, arith, �
 use Rattle.act_executor.proofs.Common.{Err, AllByRecursion, cons_option, enumerate_from, eqb-true, eq-eqb, and_parts, slice_get-map, KindState, ActorDied, Post}
 use Rattle.act_executor.proofs.Common.{RunItem, Submission, Answer, answer_at, items_of, IsPrefix, kept_at, calls_to, History, opening_of, calls_of, kept_of}
 use Rattle.act_executor.proofs.Common.{runs_of, is_item_of, answer_of, answer_in, first_answer, slice_get-filter, slice_get-enumerate_from, slice_get_front}
-use Rattle.act_executor.proofs.Common.{calls_to-at, kept_at_is, kept_by, IsAlive, answer_alive, IsSound, consistent, places_of, CallsThatDiedNeverRan}
-use Rattle.act_executor.proofs.Common.{is_between, CollectsInLine}
+use Rattle.act_executor.proofs.Common.{calls_to-at, kept_at_is, kept_by, IsSound, consistent, places_of, CallsThatDiedNeverRan}
+use Rattle.act_executor.proofs.Common.{is_between, CollectsInLine, cond_gives, reply_alive}
 use Rattle.act_rules.specs.declared.history.Post.TheVariants.{Reply as ReplyPost, Death as DeathPost}
 use Rattle.act_executor.proofs.Lists.Elements.{IsIn, in_none, in_first}
 
@@ -40,21 +40,10 @@ module _ (f : Post → Option Answer) (q : Post → Bool) (dead : Post) (died : 
 
 -- ---- what a post answers
 
-some_of : {A : Type 0} (b : Bool) (o : Option A) (x : A) → cond b o None ≡ Some x → (b ≡ true) × (o ≡ Some x)
-some_of true o x e = (refl, e)
-some_of false o x e = cc
-
-reply_alive : (h : History) (c k b d a place : ℕ) (answer : Answer) → answer_in h c k b (ReplyPost d a place) ≡ Some answer → IsAlive answer
-reply_alive h c k b d a place answer e = go (opening_of a h) (some_of ((d == c) && is_item_of c k (slice_get (runs_of a h) place)) (answer_of a place h) answer e).1
-  where
-    go : (o : Option KindState) → option_and_then (λ (state : KindState). answer_at state (runs_of a h) place) o ≡ Some answer → IsAlive answer
-    go None e = cc
-    go (Some state) e = answer_alive state (runs_of a h) place answer e
-
 only_death : (h : History) (c k a : ℕ) (post : Post) → answer_in h c k a post ≡ Some (Err ActorDied) → post ≡ DeathPost c a
 only_death h c k a (ReplyPost d b place) e = absurd (reply_alive h c k a d b place (Err ActorDied) e refl)
 only_death h c k a (DeathPost d b) e =
-    let both = and_parts (d == c) (b == a) (some_of ((d == c) && (b == a)) (Some (Err ActorDied)) (Err ActorDied) e).0 in
+    let both = and_parts (d == c) (b == a) (cond_gives ((d == c) && (b == a)) (Some (Err ActorDied)) (Err ActorDied) e).0 in
     ap (λ (n : ℕ). DeathPost n b) (eqb-true d c both.0) ∙ ap (λ (n : ℕ). DeathPost c n) (eqb-true b a both.1)
 
 -- a place of the caller's is among its places

@@ -1,7 +1,7 @@
 -- Threads made of what each of some did.
 use Rattle.act_executor.proofs.Common.{◌≡◌, ◌≢◌, ℕ, Bool, true, false, cond, List, [], ◌∷◌, map, Some, None, refl, ap, sym, subst, All, AllPairs, ◌==◌, find}
-use Rattle.act_executor.proofs.Common.{AllByRecursion, All_at, pairs_of_map, Thread, deeds_in, deeds_of, AreApart}
-use Rattle.act_executor.proofs.Lists.Elements.{all_from_places, all_by_places, all_in}
+use Rattle.act_executor.proofs.Common.{AllByRecursion, All_at, pairs_of_map, Thread, deeds_in, deeds_of, AreApart, all_from_places}
+use Rattle.act_executor.proofs.Lists.Elements.{all_by_places, all_in}
 
 module _ {A S : Type 0} (number : A → ℕ) (Work : A → List (ℕ × S) → Type 0) where
   -- what it did is such work

@@ -5,9 +5,9 @@ use Rattle.act_executor.proofs.Common.{contains, filter-slice_get, Asked, Letter
 use Rattle.act_executor.proofs.Common.{found_in, ExecPasses, EndView, Killed, Retired, Starved, end_id, end_log, caller_at, endpoint_callers, KillsOfDead}
 use Rattle.act_executor.proofs.Common.{KillsTaken, cast_at, ActorStep, LetterTaken, CallRun, KillTaken, DeathTold, Retirement, letter_taken, call_run}
 use Rattle.act_executor.proofs.Common.{kill_taken, is_kill_step, is_retirement, log_of_steps, has_died_in, ActorMayDoAll, IsGivenAfter, IsActorTrace}
-use Rattle.act_executor.proofs.Common.{IsActorTraced, is_killed, is_starved, ServedView, IsServed}
+use Rattle.act_executor.proofs.Common.{IsActorTraced, is_killed, is_starved, ServedView, IsServed, all_from_places}
 use Rattle.act_executor.proofs.PlaysOfThreads.AsPlay.{has_retired}
-use Rattle.act_executor.proofs.Lists.Elements.{IsIn, in_from_contains, contains_from_in, all_in, all_from_places, in_filter, contains_is}
+use Rattle.act_executor.proofs.Lists.Elements.{IsIn, in_from_contains, contains_from_in, all_in, in_filter, contains_is}
 use Rattle.act_executor.proofs.PlaysOfThreads.FoundSteps.{found_is as found_alone}
 use Rattle.act_executor.proofs.Lists.Stamped.{IsTakenFrom, mapped_at, found_step, found_taken, zipped}
 use Rattle.act_executor.proofs.PlaysOfPlans.Letters.{letter_in_step, letter_from, letters_kept, letters_lost}

@@ -1,6 +1,6 @@
 use Rattle.act_resolver.proofs.Common.{◌≡◌, ◌∙◌, length, true, false, Some, refl, sym, ap, arith, subst, rules, slice_get, slice_set, length-set, IsTelling, Row}
-use Rattle.act_resolver.proofs.Common.{calls_of, is_free, with_one_less, with_told}
-use Rattle.act_resolver.proofs.Counting.{changed_is, found_at, length-calls, same_calls, told_start, told_step, waiter_entered, waiter_counted, whole}
+use Rattle.act_resolver.proofs.Common.{calls_of, is_free, with_one_less, with_told, take_written_over}
+use Rattle.act_resolver.proofs.Counting.{changed_is, found_at, length-calls, same_calls, told_start, told_step, waiter_entered, waiter_counted}
 use Rattle.act_resolver.proofs.resolver.Resolver.told.Goals as goal
 
 pub loop-waiter-init : goal.loop-waiter-init
@@ -37,7 +37,7 @@ loop-waiter-preserved c =
     let within = waiter_entered rows waiter (waiter_counted _ _ _ _ _ c.loop-waiter.invariant.telling first) in
     let less : c.tell_place.new.calls ≡ with_one_less rows waiter = c.tell_place.ensures.calls ∙ ap (λ rs. with_one_less rs waiter) c.deref_mut.ensures.value in
     let same : calls_of c.tell_place.new.calls ≡ calls_of rows = ap calls_of less ∙ same_calls rows waiter within in
-    let written = whole c.loop-waiter.self-inside.calls.len rows c.tell_place.new.calls c.loop-waiter.self-inside.calls.ok.0 (omega (arith, ap length same, length-calls rows, length-calls c.tell_place.new.calls)) in
+    let written = take_written_over c.loop-waiter.self-inside.calls.len rows c.tell_place.new.calls c.loop-waiter.self-inside.calls.ok.0 (omega (arith, ap length same, length-calls rows, length-calls c.tell_place.new.calls)) in
     let ready : c.tell_place.new.ready ≡ slice_set c.loop-waiter.self-inside.ready waiter (is_free (with_one_less rows waiter) waiter) = c.tell_place.ensures.ready ∙ ap (λ rs. slice_set c.loop-waiter.self-inside.ready waiter (is_free rs waiter)) less in
     let step = told_step c.args.k rows c.loop-waiter.self-inside.waiters.lists c.loop-waiter.self-inside.ready waiter c.loop-waiter.invariant.telling first in
     record {
