@@ -51,7 +51,8 @@ all_from_places P (x ∷ xs) f = (f 0 x refl, all_from_places P xs (λ k y e. f 
 -- where all pass a test, all pass a weaker one
 pub list_all-weaker : {A : Type 0} (p q : A → Bool) (xs : List A) → ((x : A) → p x ≡ true → q x ≡ true) → list_all p xs ≡ true → list_all q xs ≡ true
 list_all-weaker p q [] f e = refl
-list_all-weaker p q (x ∷ xs) f e = let parts = and_parts (p x) (list_all p xs) e in and_from (q x) (list_all q xs) (f x parts.0) (list_all-weaker p q xs f parts.1)
+list_all-weaker p q (x ∷ xs) f e =
+    let parts = and_parts (p x) (list_all p xs) e in and_from (q x) (list_all q xs) (f x parts.0) (list_all-weaker p q xs f parts.1)
 
 -- numbers that differ still do without the first
 pub tail_apart : (x : ℕ) (xs : List ℕ) → AllPairs (λ one other. one ≢ other) (x ∷ xs) → AllPairs (λ one other. one ≢ other) xs
@@ -69,7 +70,8 @@ pub filter_map_alike : {A B : Type 0} (f g : A → Option B) (xs : List A) → (
 filter_map_alike f g [] same = refl
 filter_map_alike f g (x ∷ xs) same = rw (same x) (ap (cons_option (g x)) (filter_map_alike f g xs same))
 
-kept_step : {X Y : Type 0} (f : X → Y) (x : X) (xs : List X) (ys : List Y) (b : Bool) → ys ≡ map f xs → (if b then f x ∷ ys else ys) ≡ map f (if b then x ∷ xs else xs)
+kept_step : {X Y : Type 0} (f : X → Y) (x : X) (xs : List X) (ys : List Y) (b : Bool) → ys ≡ map f xs
+    → (if b then f x ∷ ys else ys) ≡ map f (if b then x ∷ xs else xs)
 kept_step f x xs ys true is = ap (λ (l : List _). f x ∷ l) is
 kept_step f x xs ys false is = is
 
