@@ -8,8 +8,6 @@ use Rattle.act_rules.specs.declared.event.Event.TheVariants as event
 use Rattle.act_rules.specs.declared.history.Letter.TheVariants.{Note as NoteLetter}
 use Rattle.act_early.proofs.Worlds.{play_keeps}
 
--- ---- letters
-
 -- ---- each note is sent
 
 abbrev pub NotesSent : History → Type 0

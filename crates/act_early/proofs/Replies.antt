@@ -62,8 +62,6 @@ death_answers h c k call at has =
     let first = some_first (answer_in h c k call.actor) h.collected (DeathPost c call.actor) (Err ActorDied) has gives in
     (first.0, kept_at_is h c k ∙ ap (kept_by h c k) at ∙ first.1)
 
--- ---- whom a call goes to
-
 -- ---- fronts
 
 -- a prefix is no longer than the whole list
