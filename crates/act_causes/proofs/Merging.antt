@@ -43,8 +43,8 @@ abbrev ordered : {A : Type 0} → List (Deed A) → List (Deed A)
 ordered [] = []
 ordered (x ∷ xs) = put x (ordered xs)
 
--- no stamp is below that of the deed
-abbrev IsLeast : {A : Type 0} → ℕ → List (ℕ × A) → Type 0
+-- no stamp is below m
+abbrev pub IsLeast : {A : Type 0} → ℕ → List (ℕ × A) → Type 0
 IsLeast m deeds = AllByRecursion (λ deed. m ≤ deed.0) deeds
 
 put-other : {A : Type 0} (t : ℕ) (x : Deed A) (xs : List (Deed A)) → (x.0 == t) ≡ false → under t (put x xs) ≡ under t xs
@@ -151,7 +151,7 @@ under-from t m (x ∷ xs) from = here_or_not x.0 t (IsLeast m (under t (x ∷ xs
 -- ---- places
 
 -- what is below the rest stands in the front
-place_in_front : {A : Type 0} (xs ys : List (ℕ × A)) (k m n : ℕ) (x : A) → IsLeast m ys → slice_get (xs ++ ys) k ≡ Some (n, x) → n < m → slice_get xs k ≡ Some (n, x)
+pub place_in_front : {A : Type 0} (xs ys : List (ℕ × A)) (k m n : ℕ) (x : A) → IsLeast m ys → slice_get (xs ++ ys) k ≡ Some (n, x) → n < m → slice_get xs k ≡ Some (n, x)
 place_in_front {A = A} [] ys k m n x least at lt = absurd (behind ys k least at)
   where
     behind : (ys : List (ℕ × A)) (k : ℕ) → IsLeast m ys → slice_get ys k ≡ Some (n, x) → ⊥

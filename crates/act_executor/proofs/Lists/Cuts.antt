@@ -3,6 +3,7 @@ use Rattle.act_executor.proofs.Common.{◌≡◌, ◌≢◌, ℕ, zero, suc, ◌
 use Rattle.act_executor.proofs.Common.{ap, sym, ◌∙◌, subst, arith, Contains, ◌⊎◌, map, filter_map, slice_get, nat_le, AllPairs, AllByRecursion, cons_option}
 use Rattle.act_executor.proofs.Common.{eq-eqb, leb-true, leb-false, eqb_tells, All-append, All-head, All-tail, Contains-append_right}
 use Rattle.act_executor.proofs.Common.{AllPairs-cons, IsPrefix, under, under_here, under_other, contains-more}
+use Rattle.act_causes.proofs.Merging.{IsLeast}
 
 -- ---- what is contained
 
@@ -65,15 +66,11 @@ cut_of {A = A} {B = B} f (y ∷ whole) (x ∷ xs) rest e = more (cut_of f whole 
 
 -- ---- stamps
 
--- none of these has a stamp below m
-abbrev pub AreFrom : {A : Type 0} → ℕ → List (ℕ × A) → Type 0
-AreFrom m xs = AllByRecursion (λ x. m ≤ x.0) xs
-
 none_there : {A : Type 0} {x : A} → None ≡ Some x → ⊥
 none_there e = cc
 
 -- what is below m stands at its place in the front: so nothing behind it is
-pub later_from : {A : Type 0} (m : ℕ) (front later : List (ℕ × A)) → ((k n : ℕ) (x : A) → slice_get (front ++ later) k ≡ Some (n, x) → n < m → slice_get front k ≡ Some (n, x)) → AreFrom m later
+pub later_from : {A : Type 0} (m : ℕ) (front later : List (ℕ × A)) → ((k n : ℕ) (x : A) → slice_get (front ++ later) k ≡ Some (n, x) → n < m → slice_get front k ≡ Some (n, x)) → IsLeast m later
 later_from m [] [] places = tt
 later_from {A = A} m [] (y ∷ ys) places = (here (nat_le m y.0) refl, later_from m [] ys (λ k n x at lt. absurd (none k n x at lt)))
   where
@@ -85,21 +82,10 @@ later_from {A = A} m [] (y ∷ ys) places = (here (nat_le m y.0) refl, later_fro
     none k n x at lt = none_there (places (suc k) n x at lt)
 later_from m (z ∷ front) later places = later_from m front later (λ k n x at lt. places (suc k) n x at lt)
 
--- what is below m stands in the front
-pub place_in_front : {A : Type 0} (xs ys : List (ℕ × A)) (k m n : ℕ) (x : A) → AreFrom m ys → slice_get (xs ++ ys) k ≡ Some (n, x) → n < m → slice_get xs k ≡ Some (n, x)
-place_in_front {A = A} [] ys k m n x from at lt = absurd (behind ys k from at)
-  where
-    behind : (ys : List (ℕ × A)) (k : ℕ) → AreFrom m ys → slice_get ys k ≡ Some (n, x) → ⊥
-    behind [] k from at = cc
-    behind (y ∷ ys) zero from at = let same : y ≡ (n, x) = cc in let e : y.0 ≡ n = ap (λ (d : ℕ × A). d.0) same in omega (arith, from.0, e, lt)
-    behind (y ∷ ys) (suc k) from at = behind ys k from.1 at
-place_in_front (z ∷ xs) ys zero m n x from at lt = at
-place_in_front (z ∷ xs) ys (suc k) m n x from at lt = place_in_front xs ys k m n x from at lt
-
-pub contained_in_front : {A : Type 0} (xs ys : List (ℕ × A)) (m n : ℕ) (x : A) → AreFrom m ys → Contains (xs ++ ys) (n, x) → n < m → Contains xs (n, x)
+pub contained_in_front : {A : Type 0} (xs ys : List (ℕ × A)) (m n : ℕ) (x : A) → IsLeast m ys → Contains (xs ++ ys) (n, x) → n < m → Contains xs (n, x)
 contained_in_front {A = A} [] ys m n x from has lt = absurd (behind ys from has)
   where
-    behind : (ys : List (ℕ × A)) → AreFrom m ys → Contains ys (n, x) → ⊥
+    behind : (ys : List (ℕ × A)) → IsLeast m ys → Contains ys (n, x) → ⊥
     behind [] from has = let below = has.1 in omega arith
     behind (y ∷ ys) from (zero, below, is) = let e : y.0 ≡ n = ap (λ (d : ℕ × A). d.0) is in omega (arith, from.0, e, lt)
     behind (y ∷ ys) from (suc k, below, is) = behind ys from.1 (k, omega arith, is)
@@ -107,7 +93,7 @@ contained_in_front (z ∷ xs) ys m n x from (zero, below, is) lt = (0, omega ari
 contained_in_front (z ∷ xs) ys m n x from (suc k, below, is) lt = contains-more xs z (n, x) (contained_in_front xs ys m n x from (k, omega arith, is) lt)
 
 -- of two cuts, the one with all below m is the shorter one
-pub shorter_front : {A : Type 0} (m : ℕ) (xs rest front later : List (ℕ × A)) → xs ++ rest ≡ front ++ later → AllByRecursion (λ x. x.0 < m) xs → AreFrom m later → IsPrefix xs front
+pub shorter_front : {A : Type 0} (m : ℕ) (xs rest front later : List (ℕ × A)) → xs ++ rest ≡ front ++ later → AllByRecursion (λ x. x.0 < m) xs → IsLeast m later → IsPrefix xs front
 shorter_front m [] rest front later e below from = (front, refl)
 shorter_front m (x ∷ xs) rest [] [] e below from = cc
 shorter_front {A = A} m (x ∷ xs) rest [] (y ∷ later) e below from =

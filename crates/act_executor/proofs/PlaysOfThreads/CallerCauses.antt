@@ -5,7 +5,8 @@ use Rattle.act_executor.proofs.Common.{sending_refusal, Change, Copied, Released
 use Rattle.act_executor.proofs.Common.{copy_refusal, answer_at-front, whole_front, Deed, IsReplyGiven, IsAllowed, IsCaused, owner_after, owner_by, deeds_of}
 use Rattle.act_executor.proofs.Common.{ActorStep, DeathTold, call_run, log_of_steps, CallerStep, ChangeMade, KillAsked, owner_after_steps, MayChange}
 use Rattle.act_executor.proofs.Common.{CallerMayDo, CallerMayDoAll, CallerThreads, ActorThreads, opened_by, log_left, IsReplyGivenBy, AreTraced}
-use Rattle.act_executor.proofs.Lists.Cuts.{contains_mid, AreFrom, place_in_front}
+use Rattle.act_executor.proofs.Lists.Cuts.{contains_mid}
+use Rattle.act_causes.proofs.Merging.{IsLeast, place_in_front}
 use Rattle.act_executor.proofs.PlaysOfThreads.FoundSteps.{found_append, found_from, found_is}
 use Rattle.act_executor.proofs.PlaysOfThreads.Threads.{deed_of_caller}
 use Rattle.act_executor.proofs.PlaysOfThreads.MayDo.{caller_named, caller_may, caller_may_at}
@@ -14,7 +15,7 @@ use Rattle.act_executor.proofs.PlaysOfThreads.Seen.{IsCallerFront, IsSeen}
 -- ---- what an actor ran
 
 -- a call that ran with a lower stamp stands at its place in the front
-ran_in_front : (whole front later : List (ℕ × ActorStep)) (m n place : ℕ) (item : RunItem) → whole ≡ front ++ later → AreFrom m later → slice_get (found_in call_run whole) place ≡ Some (n, item) → n < m
+ran_in_front : (whole front later : List (ℕ × ActorStep)) (m n place : ℕ) (item : RunItem) → whole ≡ front ++ later → IsLeast m later → slice_get (found_in call_run whole) place ≡ Some (n, item) → n < m
     → slice_get (log_of_steps (steps_in front)) place ≡ Some item
 ran_in_front whole front later m n place item e from at lt =
     let split : slice_get (found_in call_run front ++ found_in call_run later) place ≡ Some (n, item) =

@@ -2,7 +2,8 @@
 use Rattle.act_executor.proofs.Common.{◌≡◌, ℕ, ◌<◌, List, [], ◌∷◌, ◌++◌, Some, refl, ap, sym, ◌∙◌, subst, Contains, map, slice_get, list_any, map-append}
 use Rattle.act_executor.proofs.Common.{steps_in, IsPrefix, under, Deed, changes_by, log_by, is_dead_by, is_retired_by, deeds_of, IsCutAt, ActorStep}
 use Rattle.act_executor.proofs.Common.{is_retirement, log_of_steps, has_died_in, CallerStep, changes_made, CallerThreads, ActorThreads, contains_map}
-use Rattle.act_executor.proofs.Lists.Cuts.{contains_under, IsCutOf, cut_of, AreFrom, later_from}
+use Rattle.act_executor.proofs.Lists.Cuts.{contains_under, IsCutOf, cut_of, later_from}
+use Rattle.act_causes.proofs.Merging.{IsLeast}
 use Rattle.act_executor.proofs.PlaysOfThreads.Threads.{caller_key, actor_key, deed_of_caller, deed_of_actor, as_deeds, all_threads, deeds_of_caller, deeds_of_actor}
 use Rattle.act_executor.proofs.PlaysOfThreads.Projections.{deeds_in_order, IsKeyed, changes_are, log_is, death_is, retirement_is}
 
@@ -24,13 +25,13 @@ pub record CallerSeen (callers : CallerThreads) (before : List Deed) (m c : ℕ)
   pub front : List (ℕ × CallerStep)
   pub later : List (ℕ × CallerStep)
   pub is : IsCallerFront callers before c front later
-  pub from : AreFrom m later
+  pub from : IsLeast m later
 
 pub record ActorSeen (actors : ActorThreads) (before : List Deed) (m a : ℕ) : Type 0 where
   pub front : List (ℕ × ActorStep)
   pub later : List (ℕ × ActorStep)
   pub is : IsActorFront actors before a front later
-  pub from : AreFrom m later
+  pub from : IsLeast m later
 
 -- before a step with stamp m stand these deeds
 pub record IsSeen (callers : CallerThreads) (actors : ActorThreads) (before : List Deed) (m : ℕ) : Type 0 where
@@ -67,13 +68,13 @@ actor_front actors xs a front later keyed whole is = record {
 
 -- behind the front of a thread nothing has a stamp below m
 steps_from : {S : Type 0} (f : S → Deed) (m : ℕ) (steps front later : List (ℕ × S)) (seen : List (ℕ × Deed)) → steps ≡ front ++ later → seen ≡ as_deeds f front
-    → ((k n : ℕ) (y : Deed) → slice_get (as_deeds f steps) k ≡ Some (n, y) → n < m → slice_get seen k ≡ Some (n, y)) → AreFrom m later
+    → ((k n : ℕ) (y : Deed) → slice_get (as_deeds f steps) k ≡ Some (n, y) → n < m → slice_get seen k ≡ Some (n, y)) → IsLeast m later
 steps_from {S = S} f m steps front later seen whole is places = stamps later (later_from m (as_deeds f front) (as_deeds f later) place)
   where
     place : (k n : ℕ) (y : Deed) → slice_get (as_deeds f front ++ as_deeds f later) k ≡ Some (n, y) → n < m → slice_get (as_deeds f front) k ≡ Some (n, y)
     place k n y at lt = subst (λ (l : List (ℕ × Deed)). slice_get l k ≡ Some (n, y)) is (places k n y (ap (λ (l : List (ℕ × Deed)). slice_get l k) (ap (as_deeds f) whole ∙ map-append (λ (step : ℕ × S). (step.0, f step.1)) front later) ∙ at) lt)
 
-    stamps : (later : List (ℕ × S)) → AreFrom m (as_deeds f later) → AreFrom m later
+    stamps : (later : List (ℕ × S)) → IsLeast m (as_deeds f later) → IsLeast m later
     stamps [] from = tt
     stamps (step ∷ later) from = (from.0, stamps later from.1)
 
