@@ -170,6 +170,14 @@ class Trying(Scratch):
         self.assertIn("src/few.rt:15:9", *self.own(said, OF_TRAIT, True))
         self.assertEqual(self.own(said, OF_TRAIT, False), [])
 
+    def test_the_line_that_cannot_stand_is_no_refusal(self):
+        name = trying.NO_ANSWER
+        error = f"./proofs/few/Few/len/Answers.antt:9:3: error: `{name}`: `{name}-asked` is not in scope"
+        for may_rest in (True, False):
+            self.assertEqual(self.own([error, f"fn {LEN}: not proved"], GOOD, may_rest), [])
+            self.assertIn("src/few.rt:5:5", *self.own([error, *SAID], GOOD, may_rest))
+        self.assertFalse(trying.is_told_elsewhere([error, *SAID], self.places(GOOD)))
+
     def test_an_error_elsewhere_is_seen(self):
         self.assertFalse(trying.is_told_elsewhere(SAID, self.places(GOOD)))
         self.assertTrue(trying.is_told_elsewhere(SAID, self.places(OF_TRAIT)))
@@ -296,6 +304,16 @@ class Bare(Scratch):
         self.assertEqual([*texts], [f"{folder}/{name}" for folder in folders for name in names])
         self.assertIn("use Rattle.low.proofs.few.first.Statement.{statement}", texts["proofs/few/first/Proof.antt"])
         self.assertIsNone(texts["proofs/few/first/Answers.antt"])
+
+    def test_answers_of_an_edited_function_have_a_line_that_cannot_stand(self):
+        proofs = self.crate / "proofs/few/Few/len"
+        proofs.mkdir(parents=True)
+        proofs.joinpath("Answers.antt").write_text("returns c = refl\n")
+        texts = self.trial().unfilled({}, [LEN, FIRST])
+        written = {"few/Few/len": "returns c = refl\n", "few/first": ""}
+        self.assertEqual(texts, {f"proofs/{at}/Answers.antt": text + trying.UNFILLED for at, text in written.items()})
+        proofs.joinpath("Proof.antt").touch()
+        self.assertEqual(self.trial().unfilled({}, [LEN]), {})
 
     def test_a_function_with_no_body_ends_where_it_does(self):
         law = "fn law()\n    ensures { A ≡ record {\n      b = c;\n    } }\n{}\n"

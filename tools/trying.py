@@ -11,8 +11,9 @@ Two edits of one function are tried in one check, too: the second is made in a c
 with what is written of its proof. So is one that changes what a function promises. As a control, each function that is
 copied is copied once as it stands, too, and accepted.
 
-What is written of an edited function's proof has a line more, which can't stand. Of such a function the prover prints no
-answers to fill in. To print them takes as long as to look for its proof, and which goals aren't proved is told anyway.
+What is written of an edited function's proof has a line more, which can't stand. Of such a function the prover prints
+no answers to fill in, which takes as long as to look for its proof. It tells all the same which goals aren't proved. No
+function that has to be accepted has such a line.
 
 An edit counts as refused where its own function has a message that tells of a goal; one that has others alone is
 refused by its shape, and counts for nothing (tools/refusals.py). Each message of the check has to name a function that
