@@ -2,12 +2,11 @@
 pub use Rattle.act_actor.specs.Actor.{arrival_at, note_arrival_at, packet_of_item}
 pub use Rattle.act_actor.specs.View.{ActorView, RetiredView}
 pub use Rattle.act_actor.specs.declared.cast.Cast.{Cast}
-pub use Rattle.act_causes.specs.Deeds.{AreCaused, AskedKill, Changed, Deed, HasRunAllCalls, IsCaused, IsLastNote, IsNamed, IsNextCall, IsReplyGiven, IsSentCall}
-pub use Rattle.act_causes.specs.Deeds.{Ran, Retired, ToldDeath, TookCall, TookKill, TookNote, change_of, changes_by, is_dead_by, is_end_of, is_ended_by}
-pub use Rattle.act_causes.specs.Deeds.{is_kill_taken, item_of_deed, log_by, owner_after, owner_by}
-pub use Rattle.act_causes.specs.Merge.{AreApart, IsMergeOf, NeverFall, Thread, deeds_in, deeds_of}
+pub use Rattle.act_causes.specs.Deeds.{AreCaused, Deed, IsActorCaused, IsCallerCaused, IsCaused, IsGiven, IsLastNote, IsNamed, IsReplyGiven, IsSentCall}
+pub use Rattle.act_causes.specs.Deeds.{IsSentTo, OfActor, OfCaller, actor_step, actor_steps, caller_step, caller_steps, left_by, opened_of, owner_by}
+pub use Rattle.act_causes.specs.Merge.{ActorThreads, AreApart, CallerThreads, IsFrontBelow, IsMergeOf, NeverFall, Thread, trace_in, trace_of}
 pub use Rattle.act_causes.specs.Plays.{IsEventOf, IsPlayOfDeeds, SpecsFit}
-pub use Rattle.act_handles.proofs.Lookups.{copies-with_copy-other, copies-with_number, copies-without_copy-other}
+pub use Rattle.act_drive.specs.CallerSteps.{CallerMayDo, CallerStep, ChangeMade, KillAsked, change_made, changes_made, owner_after_steps}
 pub use Rattle.act_handles.specs.Handles.{copies_in, or_else, with_copy, without_copy}
 pub use Rattle.act_inbox.proofs.Lanes.{one_more}
 pub use Rattle.act_inbox.proofs.Opening.{no_notes, opened, opened_is_inbox}
@@ -16,36 +15,34 @@ pub use Rattle.act_inbox.proofs.Taking.{next_taken, sound_then}
 pub use Rattle.act_inbox.specs.Inbox.{InboxView, IsNextTaken, IsOpened, arrival_of, handed_of, is_lane_of, lane_at_first, lane_of, next_of, note_of, with_held}
 pub use Rattle.act_inbox.specs.View.{IsInbox}
 pub use Rattle.act_inbox.specs.declared.inbox.Lane.{Lane}
-pub use Rattle.act_lists.proofs.Lists.{place_in, slice_get_pushed}
+pub use Rattle.act_lists.proofs.Lists.{slice_get_pushed}
+pub use Rattle.act_mailbox.specs.Traces.{found_in, steps_in}
+pub use Rattle.act_mailbox.specs.declared.mail.Letter.TheVariants.{Call, Note}
 pub use Rattle.act_owner.proofs.Life.{after_all-append, packet_stays_all, places_all, step}
 pub use Rattle.act_owner.proofs.Told.{sent_stays_all}
 pub use Rattle.act_owner.specs.Life.{Change, Copied, Noticed, Released, Sent, Submitted, after_change, after_changes, is_known_at}
-pub use Rattle.act_owner.specs.Owner.{OwnerView, address_at, after_reply_that, is_known_dead, is_of_call, is_sent, opened_under, opened_with, owner_limit}
-pub use Rattle.act_owner.specs.Owner.{packet_at, packet_for, pending, refusal_to_submit, release_note, sending_refusal, with_death, with_handles, with_sent}
-pub use Rattle.act_owner.specs.Owner.{with_submission}
+pub use Rattle.act_owner.specs.Owner.{OwnerView, address_at, after_reply_that, is_known_dead, is_of_call, is_sent, opened_under, opened_with, packet_at}
+pub use Rattle.act_owner.specs.Owner.{packet_for, refusal_to_submit, release_note, sending_refusal, with_death, with_handles, with_sent, with_submission}
 pub use Rattle.act_owner.specs.declared.owner.Collected.TheVariants.{First, Late, Stray}
 pub use Rattle.act_plans.specs.Runs.{cast_at, limits_naming}
 pub use Rattle.act_rules.proofs.Ended.{contains_more, needs-none, under-push}
 pub use Rattle.act_rules.proofs.Events.{run_collected}
 pub use Rattle.act_rules.proofs.Finding.{find-None, find-Some, find-tells, position_or_len-Some}
 pub use Rattle.act_rules.proofs.Growth.{Grows, added_grows}
-pub use Rattle.act_rules.proofs.Kept.{answer_at-front}
-pub use Rattle.act_rules.proofs.Letters.{IsSoundLetter, calls_to-number, has_front, has_last, letter_is}
-pub use Rattle.act_rules.proofs.Lists.{All-two, AllPairs-map, All_at, All_more, more_front, option_map-none, option_or-none, slice_get_front, whole_front}
+pub use Rattle.act_rules.proofs.Letters.{IsSoundLetter, calls_to-number, has_front, has_last}
+pub use Rattle.act_rules.proofs.Lists.{All-two, AllPairs-map, All_at, All_more, more_front, option_map-none, slice_get_front, whole_front}
 pub use Rattle.act_rules.proofs.Posts.{next_item_caller}
 pub use Rattle.act_rules.proofs.RanAll.{AllNamed, named_call}
-pub use Rattle.act_rules.proofs.Retired.{calls_to-push, gone_step, times-push}
+pub use Rattle.act_rules.proofs.Retired.{gone_step, times-push}
 pub use Rattle.act_rules.proofs.Steps.{IsKept, outcomes-append}
 pub use Rattle.act_rules.specs.Consistent.{IsPrefix}
-pub use Rattle.act_rules.specs.History.{ActorSpec, History, actors_naming, answer_of, calls_of, cast_of, contains, copies_of, count_pairs, first_answer}
-pub use Rattle.act_rules.specs.History.{has_letter, is_caller, is_dead, is_ended, is_letter, is_retired, kept_of, names, next_item, opening, ran_count}
-pub use Rattle.act_rules.specs.History.{run_item, runs_of, under}
+pub use Rattle.act_rules.specs.History.{ActorSpec, History, answer_of, calls_of, cast_of, contains, copies_of, count_pairs, first_answer, has_letter, is_caller}
+pub use Rattle.act_rules.specs.History.{is_dead, is_ended, is_retired, kept_of, names, next_item, opening, ran_count, run_item, runs_of, under}
 pub use Rattle.act_rules.specs.Laws.{history}
 pub use Rattle.act_rules.specs.Rules.{Outcome, add_event, after, after_by, after_run, and_also, did, is_last, outcome_by, outcome_of, outcomes, refusal_of}
 pub use Rattle.act_rules.specs.Rules.{was_sent}
 pub use Rattle.act_rules.specs.RunList.{Answer, after_item, answer_at, has_terminated, items_of}
-pub use Rattle.act_rules.specs.Submissions.{calls_to, copies_held, copy_refusal, handle_refusal, is_known, kept_at, limit_refusal, needs, number_of}
-pub use Rattle.act_rules.specs.Submissions.{send_refusal, submit_refusal}
+pub use Rattle.act_rules.specs.Submissions.{calls_to, copies_held, copy_refusal, handle_refusal, is_known, kept_at, needs, number_of, send_refusal}
 pub use Rattle.act_rules.specs.declared.event.Event.{Event}
 pub use Rattle.act_rules.specs.declared.event.Event.TheVariants.{AskKill, Collect, Copy, Deliver, Release, Retire, Run, Send, Submit, TakeKill, Tell}
 pub use Rattle.act_rules.specs.declared.history.Letter.{Letter}
@@ -61,6 +58,8 @@ pub use Rattle.act_rules.specs.declared.outcome.HandleRefusal.TheVariants.{NoAct
 pub use Rattle.act_rules.specs.declared.outcome.SendRefusal.TheVariants.{NotReady}
 pub use Rattle.act_rules.specs.declared.outcome.WorldRefusal.{WorldRefusal}
 pub use Rattle.act_rules.specs.declared.outcome.WorldRefusal.TheVariants.{Handle, NoCaller, NoReply}
+pub use Rattle.act_serve.specs.ActorSteps.{ActorMayDo, ActorStep, CallRun, DeathTold, KillTaken, LetterTaken, Retirement, call_run, has_died_in, has_ended_in}
+pub use Rattle.act_serve.specs.ActorSteps.{is_kill_step, is_retirement, log_of_steps}
 pub use Rattle.act_types.specs.KindState.{CounterAt, KindState}
 pub use Rattle.act_types.specs.declared.call.Arg.{Arg}
 pub use Rattle.act_types.specs.declared.call.Arg.TheVariants.{Plain}
@@ -78,7 +77,7 @@ pub use Rattle.act_world.proofs.Copying.{copy_follows}
 pub use Rattle.act_world.proofs.Delivering.{deliver_follows}
 pub use Rattle.act_world.proofs.Frames.{not_owner, still_lives}
 pub use Rattle.act_world.proofs.Killing.{contains-last, kill_follows}
-pub use Rattle.act_world.proofs.Lawful.{IsLawful, IsNamedLetter, has_letter-more, lawful_step, named_caller, world_lawful}
+pub use Rattle.act_world.proofs.Lawful.{IsLawful, IsNamedLetter, lawful_step, named_caller, world_lawful}
 pub use Rattle.act_world.proofs.Lists.{contains-more, get_set-other, get_set-same}
 pub use Rattle.act_world.proofs.NextCall.{item_is, next_is}
 pub use Rattle.act_world.proofs.OneCaller.{needs_holds}
@@ -100,14 +99,14 @@ pub use Rattle.act_world.specs.declared.network.MailEntry.{MailEntry}
 pub use Rattle.act_world.specs.declared.network.Posted.{Posted}
 pub use Rattle.std.proofs.Common.{All, AllPairs, Bool, Contains, IfSome, IsOk, List, None, Ok, Option, Some, [], ap, arith, cond, false, filter, filter_map}
 pub use Rattle.std.proofs.Common.{find, get_or, inl, inr, is_some, length, map, nat_le, nat_lt, option_and_then, option_map, pos, position, refl, replicate}
-pub use Rattle.std.proofs.Common.{slice_get, slice_index_or, slice_set, subst, suc, sym, take, true, unwrap_or, zero, ℕ, ◌&&◌, ◌++◌, ◌+◌, ◌-◌, ◌<◌, ◌==◌, ◌||◌}
-pub use Rattle.std.proofs.Common.{◌∙◌, ◌∷◌, ◌≡◌, ◌≢◌, ◌≤◌, ◌⊎◌}
+pub use Rattle.std.proofs.Common.{slice_get, slice_index_or, slice_set, subst, suc, sym, true, unwrap_or, zero, ℕ, ◌&&◌, ◌++◌, ◌+◌, ◌-◌, ◌<◌, ◌==◌, ◌||◌, ◌∙◌}
+pub use Rattle.std.proofs.Common.{◌∷◌, ◌≡◌, ◌≢◌, ◌≤◌, ◌⊎◌}
 pub use Rattle.std.proofs.Math.Bool.{or-false}
 pub use Rattle.std.proofs.lemmas.Bool.{and_parts, eq-eqb, eqb-true, leb-false, leb-true, ltb-true, ne_eqb}
 pub use Rattle.std.proofs.lemmas.Bool.Decides.{eqb_tells, leb_tells}
-pub use Rattle.std.proofs.lemmas.List.{append-nil, append_assoc, get_or-set_same, length-set, map-append}
-pub use Rattle.std.proofs.lemmas.List.Elements.{All-cons, All-contains, All-from_recursion, All-head, All-nil, All-tail, Contains-append_left}
-pub use Rattle.std.proofs.lemmas.List.Elements.{Contains-push_cases, filter-append, filter_map-append, recursion_from_All}
+pub use Rattle.std.proofs.lemmas.List.{append-nil, append_assoc, get_or-set_same, length-set}
+pub use Rattle.std.proofs.lemmas.List.Elements.{All-cons, All-contains, All-from_recursion, All-head, All-nil, All-tail, Contains-push_cases, filter_map-append}
+pub use Rattle.std.proofs.lemmas.List.Elements.{recursion_from_All}
 pub use Rattle.std.proofs.lemmas.List.Folds.{find-set, find_past, list_any-append}
 pub use Rattle.std.proofs.lemmas.List.FromFn.{get_or-map-range_with_len, length-map-range_with_len}
 pub use Rattle.std.proofs.lemmas.List.Kept.{AllPairs-cons}

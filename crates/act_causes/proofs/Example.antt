@@ -1,10 +1,14 @@
 -- Deeds of each sort that meet all premises: one caller, a counter that ran its call and retired, and one that died.
 use Rattle.act_causes.proofs.Common.{◌≡◌, ◌≢◌, ℕ, zero, suc, ◌≤◌, Bool, true, false, List, [], ◌∷◌, ◌++◌, length, None, Ok, All, AllPairs, refl, subst, arith}
-use Rattle.act_causes.proofs.Common.{Contains, take, ◌==◌, ◌||◌, pos, eqb-true, All-nil, All-cons, CounterAt, Plain, Good, Answered, Death, Reply, ReleaseNote}
-use Rattle.act_causes.proofs.Common.{RunItem, ActorSpec, items_of, All-two, Copied, Released, Submitted, Sent, Noticed, packet_of_item, Deed, Changed}
-use Rattle.act_causes.proofs.Common.{AskedKill, TookCall, TookNote, Ran, TookKill, ToldDeath, Retired, changes_by, AreCaused, SpecsFit}
+use Rattle.act_causes.proofs.Common.{Contains, ◌==◌, ◌||◌, pos, eqb-true, All-nil, All-cons, CounterAt, Plain, Good, Answered, Death, Reply, ReleaseNote}
+use Rattle.act_causes.proofs.Common.{RunItem, ActorSpec, items_of, All-two, Copied, Released, Submitted, Sent, Noticed, packet_of_item, Deed, AreCaused}
+use Rattle.act_causes.proofs.Common.{SpecsFit, IsActorCaused, IsCallerCaused, IsGiven, IsSentTo, OfActor, OfCaller, actor_steps, owner_by, CallerMayDo}
+use Rattle.act_causes.proofs.Common.{CallerStep, ChangeMade, KillAsked, Call, Note, Change, cast_at, contains, ActorMayDo, ActorStep}
+use Rattle.act_causes.proofs.Common.{CallRun, DeathTold, KillTaken, LetterTaken, Retirement, Some}
 use Rattle.act_types.specs.declared.call.Method.TheVariants as method
 use Rattle.act_types.specs.declared.call.Value.TheVariants as value
+use Rattle.act_actor.specs.Actor.{note_after_calls}
+use Rattle.act_mailbox.specs.declared.control.Asked.{Asked}
 
 -- a counter that this caller may call
 abbrev counter : ℕ → ActorSpec
@@ -22,14 +26,21 @@ reply = record { actor = 1; caller = 1; future = 0; place = 0; answer = Ok (valu
 abbrev note : ReleaseNote
 note = record { caller = 1; actor = 1; after = 1 }
 
+-- somebody asked it
+abbrev kill : Asked
+kill = record { asker = 0; note = record { caller = 1; actor = 2 } }
+
+abbrev by_one : Change → Deed
+by_one change = OfCaller 1 (ChangeMade change)
+
 abbrev front : List Deed
 front =
-    Changed 1 (Submitted 1 method.Add (Plain (value.Int (pos 5)) ∷ [])) ∷ Changed 1 (Copied 1) ∷ AskedKill 1 2 ∷ Changed 1 (Sent 0) ∷
-    TookCall 1 (packet_of_item 1 item) ∷ TookKill 2 ∷ Ran 1 item ∷ ToldDeath 2 1 ∷ Changed 1 (Noticed (Answered reply)) ∷
-    Changed 1 (Released 1) ∷ Changed 1 (Released 1) ∷ Changed 1 (Noticed (Death 2)) ∷ TookNote 1 note ∷ []
+    by_one (Submitted 1 method.Add (Plain (value.Int (pos 5)) ∷ [])) ∷ by_one (Copied 1) ∷ OfCaller 1 (KillAsked 2) ∷ by_one (Sent 0) ∷
+    OfActor 1 (LetterTaken (Call (packet_of_item 1 item))) ∷ OfActor 2 (KillTaken kill) ∷ OfActor 1 (CallRun item) ∷ OfActor 2 (DeathTold 1) ∷
+    by_one (Noticed (Answered reply)) ∷ by_one (Released 1) ∷ by_one (Released 1) ∷ by_one (Noticed (Death 2)) ∷ OfActor 1 (LetterTaken (Note note)) ∷ []
 
 abbrev deeds : List Deed
-deeds = front ++ Retired 1 ∷ []
+deeds = front ++ OfActor 1 Retirement ∷ []
 
 -- what holds of one element holds of all of a list of it alone
 pub all_one : {A : Type 0} (P : A → Type 0) (x : A) → P x → All P (x ∷ [])
@@ -65,35 +76,47 @@ only_one c e = go (1 == c) refl e
     go true is e = eqb-true 1 c is
     go false is e = cc
 
+-- a step of the caller that collects nothing, and one of an actor that takes nothing
+alone : {before : List Deed} (step : CallerStep) → CallerMayDo (owner_by casts 1 before) step → IsGiven casts before 1 step → IsCallerCaused casts before 1 step
+alone step may given = record { named = refl; may = may; given = given }
+
+takes : {before : List Deed} (a : ℕ) (step : ActorStep) → cast_at a casts ≡ Some (counter a) → ActorMayDo a (1 ∷ []) (actor_steps a before) step
+    → IsSentTo casts before a step → IsActorCaused casts before a step
+takes a step at may sent = record { cast = counter a; at = at; may = may; sent = sent }
+
+-- the counter has the note of each caller that it knows
+all_noted : (c : ℕ) → contains c (1 ∷ []) ≡ true → Contains (actor_steps 1 front) (LetterTaken (Note (note_after_calls c 1 (length (items_of c (item ∷ []))))))
+all_noted c named = subst (λ (x : ℕ). Contains (actor_steps 1 front) (LetterTaken (Note (note_after_calls x 1 (length (items_of x (item ∷ []))))))) (only_one c named) (2, omega arith, refl)
+
 pub caused : AreCaused casts [] deeds
 caused = (
-  (refl, refl),
+  alone _ refl tt,
   (
-    (refl, refl),
+    alone _ refl tt,
     (
-      (refl, refl),
+      alone _ refl tt,
       (
-        (refl, refl),
+        alone _ refl tt,
         (
-          record { lives = refl; to = refl; changes = changes_by 1 (take 4 front); first = ([], refl); sent = (2, omega arith, refl); is = refl },
+          takes 1 _ refl refl (record { to = refl; sent = (3, omega arith, refl); is = refl }),
           (
-            (refl, 1, (2, omega arith, refl)),
+            takes 2 _ refl refl (1, (2, omega arith, refl)),
             (
-              record { lives = refl; took = (4, omega arith, refl); number = refl },
+              takes 1 _ refl (refl, (0, omega arith, refl), refl) tt,
               (
-                (refl, refl),
+                takes 2 _ refl (refl, refl) tt,
                 (
-                  (refl, record { caller = refl; log = item ∷ []; first = ([], refl); item = item; ran = refl; for_caller = refl; future = refl; cast = counter 1; at = refl; answered = refl }),
+                  alone _ tt (record { caller = refl; item = item; ran = refl; for_caller = refl; future = refl; cast = counter 1; at = refl; answered = refl }),
                   (
-                    (refl, refl),
+                    alone _ refl tt,
                     (
-                      (refl, refl),
+                      alone _ refl tt,
                       (
-                        (refl, (7, omega arith, refl)),
+                        alone _ tt (7, omega arith, refl),
                         (
-                          record { lives = refl; to = refl; named = refl; changes = changes_by 1 (take 11 front); first = (Noticed (Death 2) ∷ [], refl); gone = refl; counts = refl },
+                          takes 1 _ refl refl (record { to = refl; named = refl; gone = refl; counts = refl }),
                           (
-                            record { lives = refl; cast = refl; notes = λ c named. subst (λ (x : ℕ). Contains front (TookNote 1 (record { caller = x; actor = 1; after = length (items_of x (item ∷ [])) }))) (only_one c named) (12, omega arith, refl) },
+                            takes 1 _ refl (refl, all_noted) tt,
                             tt,
                           ),
                         ),

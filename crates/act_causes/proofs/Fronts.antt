@@ -1,9 +1,9 @@
 -- What each front of a play keeps of the same front of the deeds that it stands for, and what it collects and delivers.
 use Rattle.act_causes.proofs.Common.{◌≡◌, ℕ, zero, suc, Bool, true, false, List, [], ◌∷◌, ◌++◌, Option, Some, None, refl, ap, sym, ◌∙◌, subst, filter_map}
 use Rattle.act_causes.proofs.Common.{slice_get, unwrap_or, replicate, list_any, cons_option, append-nil, append_assoc, Answered, Death, Event, Letter, Post}
-use Rattle.act_causes.proofs.Common.{RunItem, ActorSpec, History, kept_of, next_item, history, add_event, after_run, and_also, is_known_dead, Change, Copied}
-use Rattle.act_causes.proofs.Common.{Released, Submitted, Sent, Noticed, is_death_to, Deed, Changed, AskedKill, TookCall, TookNote, Ran, TookKill, ToldDeath}
-use Rattle.act_causes.proofs.Common.{Retired, owner_by, owner_after, IsEventOf, IsPlayOfDeeds, run_collected}
+use Rattle.act_causes.proofs.Common.{RunItem, ActorSpec, History, kept_of, next_item, history, add_event, after_run, and_also, is_known_dead, Noticed}
+use Rattle.act_causes.proofs.Common.{is_death_to, Deed, owner_by, IsEventOf, IsPlayOfDeeds, run_collected, OfActor, OfCaller, left_by, opened_of, CallerStep}
+use Rattle.act_causes.proofs.Common.{ChangeMade, Call, Note, CallRun, LetterTaken}
 use Rattle.act_rules.specs.declared.history.Letter.TheVariants.{Call as CallLetter, Note as NoteLetter}
 use Rattle.act_rules.specs.declared.history.Post.TheVariants.{Reply as ReplyPost, Death as DeathPost}
 use Rattle.act_causes.proofs.Keeping.{Keeps, told_of, owner_of, is_named}
@@ -16,30 +16,15 @@ pub record KeepsAnswers (casts : List ActorSpec) (deeds : List Deed) (events : L
 
 -- what is collected in a deed
 abbrev pub post_of : Deed → Option Post
-post_of (Changed c (Copied a)) = None
-post_of (Changed c (Released a)) = None
-post_of (Changed c (Submitted a method args)) = None
-post_of (Changed c (Sent k)) = None
-post_of (Changed c (Noticed (Answered reply))) = Some (ReplyPost c reply.actor reply.place)
-post_of (Changed c (Noticed (Death a))) = Some (DeathPost c a)
-post_of (AskedKill c a) = None
-post_of (TookCall a packet) = None
-post_of (TookNote a note) = None
-post_of (Ran a item) = None
-post_of (TookKill a) = None
-post_of (ToldDeath a c) = None
-post_of (Retired a) = None
+post_of (OfCaller c (ChangeMade (Noticed (Answered reply)))) = Some (ReplyPost c reply.actor reply.place)
+post_of (OfCaller c (ChangeMade (Noticed (Death a)))) = Some (DeathPost c a)
+post_of deed = None
 
 -- the letter that arrives in a deed
 abbrev pub letter_of : Deed → Option Letter
-letter_of (Changed c change) = None
-letter_of (AskedKill c a) = None
-letter_of (TookCall a packet) = Some (CallLetter packet.caller a packet.number)
-letter_of (TookNote a note) = Some (NoteLetter note.caller a note.after)
-letter_of (Ran a item) = None
-letter_of (TookKill a) = None
-letter_of (ToldDeath a c) = None
-letter_of (Retired a) = None
+letter_of (OfActor a (LetterTaken (Call packet))) = Some (CallLetter packet.caller a packet.number)
+letter_of (OfActor a (LetterTaken (Note note))) = Some (NoteLetter note.caller a note.after)
+letter_of deed = None
 
 -- the play collected, and brought, what the deeds did, in their order
 pub record IsInOrder (casts : List ActorSpec) (deeds : List Deed) (events : List Event) : Type 0 where
@@ -82,7 +67,7 @@ keeps_answers casts deeds events keeps = record {
         sym (is.deaths a) ∙ known
     go c a known false stranger =
         let same = keeps.strangers c stranger in
-        let bad : is_known_dead (owner_after casts c []) a ≡ true = sym (ap (λ (changes : List Change). is_known_dead (owner_after casts c changes) a) same) ∙ known in
+        let bad : is_known_dead (opened_of c casts) a ≡ true = sym (ap (λ (steps : List CallerStep). is_known_dead (left_by casts c steps) a) same) ∙ known in
         absurd (none_known a bad)
 
 pub one_front : (casts : List ActorSpec) (before : List Deed) (first : List Event) (deeds : List Deed) (events : List Event) (deed : Deed) (event : Event)
@@ -101,35 +86,23 @@ one_front casts before first (one ∷ deeds) (other ∷ events) deed event front
 -- ---- what is collected and what arrives
 
 pub collected_more : (h : History) (deed : Deed) (event : Event) → IsEventOf h deed event → (add_event h event).collected ≡ h.collected ++ cons_option (post_of deed) []
-collected_more h (Changed c (Copied a)) event is = ap (λ (e : Event). (add_event h e).collected) is ∙ sym (append-nil h.collected)
-collected_more h (Changed c (Released a)) event is = ap (λ (e : Event). (add_event h e).collected) is ∙ sym (append-nil h.collected)
-collected_more h (Changed c (Submitted a method args)) event is = ap (λ (e : Event). (add_event h e).collected) is ∙ sym (append-nil h.collected)
-collected_more h (Changed c (Sent k)) event is = ap (λ (e : Event). (add_event h e).collected) is ∙ sym (append-nil h.collected)
-collected_more h (Changed c (Noticed (Answered reply))) event is = ap (λ (e : Event). (add_event h e).collected) is.1 ∙ ap (and_also h.collected) is.2
-collected_more h (Changed c (Noticed (Death a))) event is = ap (λ (e : Event). (add_event h e).collected) is.1 ∙ ap (and_also h.collected) is.2
-collected_more h (AskedKill c a) event is = ap (λ (e : Event). (add_event h e).collected) is ∙ sym (append-nil h.collected)
-collected_more h (TookCall a packet) event is = ap (λ (e : Event). (add_event h e).collected) is.1 ∙ sym (append-nil h.collected)
-collected_more h (TookNote a note) event is = ap (λ (e : Event). (add_event h e).collected) is.1 ∙ sym (append-nil h.collected)
-collected_more h (Ran a item) event is = ap (λ (e : Event). (add_event h e).collected) is ∙ run_collected a item.caller h (next_item a item.caller h) ∙ sym (append-nil h.collected)
-collected_more h (TookKill a) event is = ap (λ (e : Event). (add_event h e).collected) is ∙ sym (append-nil h.collected)
-collected_more h (ToldDeath a c) event is = ap (λ (e : Event). (add_event h e).collected) is ∙ sym (append-nil h.collected)
-collected_more h (Retired a) event is = ap (λ (e : Event). (add_event h e).collected) is ∙ sym (append-nil h.collected)
+collected_more h (OfCaller c (ChangeMade (Noticed (Answered reply)))) event is = ap (λ (e : Event). (add_event h e).collected) is.1 ∙ ap (and_also h.collected) is.2
+collected_more h (OfCaller c (ChangeMade (Noticed (Death a)))) event is = ap (λ (e : Event). (add_event h e).collected) is.1 ∙ ap (and_also h.collected) is.2
+collected_more h (OfActor a (LetterTaken (Call packet))) event is = ap (λ (e : Event). (add_event h e).collected) is.1 ∙ sym (append-nil h.collected)
+collected_more h (OfActor a (LetterTaken (Note note))) event is = ap (λ (e : Event). (add_event h e).collected) is.1 ∙ sym (append-nil h.collected)
+collected_more h (OfActor a (CallRun item)) event is =
+    ap (λ (e : Event). (add_event h e).collected) is ∙ run_collected a item.caller h (next_item a item.caller h) ∙ sym (append-nil h.collected)
+collected_more h deed event is = ap (λ (e : Event). (add_event h e).collected) is ∙ sym (append-nil h.collected)
 
 run_arrived : (a c : ℕ) (h : History) (o : Option RunItem) → (after_run a c h o).arrived ≡ h.arrived
 run_arrived a c h None = refl
 run_arrived a c h (Some item) = refl
 
 pub arrived_more : (h : History) (deed : Deed) (event : Event) → IsEventOf h deed event → (add_event h event).arrived ≡ h.arrived ++ cons_option (letter_of deed) []
-arrived_more h (Changed c (Copied a)) event is = ap (λ (e : Event). (add_event h e).arrived) is ∙ sym (append-nil h.arrived)
-arrived_more h (Changed c (Released a)) event is = ap (λ (e : Event). (add_event h e).arrived) is ∙ sym (append-nil h.arrived)
-arrived_more h (Changed c (Submitted a method args)) event is = ap (λ (e : Event). (add_event h e).arrived) is ∙ sym (append-nil h.arrived)
-arrived_more h (Changed c (Sent k)) event is = ap (λ (e : Event). (add_event h e).arrived) is ∙ sym (append-nil h.arrived)
-arrived_more h (Changed c (Noticed (Answered reply))) event is = ap (λ (e : Event). (add_event h e).arrived) is.1 ∙ sym (append-nil h.arrived)
-arrived_more h (Changed c (Noticed (Death a))) event is = ap (λ (e : Event). (add_event h e).arrived) is.1 ∙ sym (append-nil h.arrived)
-arrived_more h (AskedKill c a) event is = ap (λ (e : Event). (add_event h e).arrived) is ∙ sym (append-nil h.arrived)
-arrived_more h (TookCall a packet) event is = ap (λ (e : Event). (add_event h e).arrived) is.1 ∙ ap (and_also h.arrived) is.2
-arrived_more h (TookNote a note) event is = ap (λ (e : Event). (add_event h e).arrived) is.1 ∙ ap (and_also h.arrived) is.2
-arrived_more h (Ran a item) event is = ap (λ (e : Event). (add_event h e).arrived) is ∙ run_arrived a item.caller h (next_item a item.caller h) ∙ sym (append-nil h.arrived)
-arrived_more h (TookKill a) event is = ap (λ (e : Event). (add_event h e).arrived) is ∙ sym (append-nil h.arrived)
-arrived_more h (ToldDeath a c) event is = ap (λ (e : Event). (add_event h e).arrived) is ∙ sym (append-nil h.arrived)
-arrived_more h (Retired a) event is = ap (λ (e : Event). (add_event h e).arrived) is ∙ sym (append-nil h.arrived)
+arrived_more h (OfCaller c (ChangeMade (Noticed (Answered reply)))) event is = ap (λ (e : Event). (add_event h e).arrived) is.1 ∙ sym (append-nil h.arrived)
+arrived_more h (OfCaller c (ChangeMade (Noticed (Death a)))) event is = ap (λ (e : Event). (add_event h e).arrived) is.1 ∙ sym (append-nil h.arrived)
+arrived_more h (OfActor a (LetterTaken (Call packet))) event is = ap (λ (e : Event). (add_event h e).arrived) is.1 ∙ ap (and_also h.arrived) is.2
+arrived_more h (OfActor a (LetterTaken (Note note))) event is = ap (λ (e : Event). (add_event h e).arrived) is.1 ∙ ap (and_also h.arrived) is.2
+arrived_more h (OfActor a (CallRun item)) event is =
+    ap (λ (e : Event). (add_event h e).arrived) is ∙ run_arrived a item.caller h (next_item a item.caller h) ∙ sym (append-nil h.arrived)
+arrived_more h deed event is = ap (λ (e : Event). (add_event h e).arrived) is ∙ sym (append-nil h.arrived)

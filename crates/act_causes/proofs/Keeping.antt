@@ -1,16 +1,14 @@
 -- What a history keeps of the deeds that its events stand for, and one deed more.
 use Rattle.act_causes.proofs.Common.{◌≡◌, ℕ, ◌≤◌, true, List, [], ◌∷◌, ◌++◌, length, Option, Some, None, Ok, inl, inr, refl, ap, sym, ◌∙◌, subst, Contains}
-use Rattle.act_causes.proofs.Common.{cond, Bool, false, map, find, slice_get, ◌==◌, cons_option, list_any, enumerate_from, eqb-true, append-nil}
-use Rattle.act_causes.proofs.Common.{Contains-push_cases, filter_map-append, Packet, Event, Submit, Copy, Release, Send, Deliver, Run, Collect, AskKill}
-use Rattle.act_causes.proofs.Common.{TakeKill, Tell, Retire, Did, WorldRefusal, Letter, RunItem, Submission, AllNamed, IsPrefix, ActorSpec, History, contains}
-use Rattle.act_causes.proofs.Common.{cast_of, names, is_caller, has_letter, next_item, calls_of, kept_of, first_answer, refusal_of, outcome_by, outcome_of}
-use Rattle.act_causes.proofs.Common.{add_event, after_run, after_by, after, whole_front, more_front, added_grows, contains_more, IsInbox, packet_at, is_sent}
-use Rattle.act_causes.proofs.Common.{Change, Copied, Released, Submitted, Sent, Noticed, is_known_at, cast_at, is_owner, SlotView, Runs, WorldView, IsOwnerOf}
-use Rattle.act_causes.proofs.Common.{IsOwnerAt, Refines, IsLawful, lawful_step, named_caller, Deed, Changed, AskedKill, TookCall, TookNote}
-use Rattle.act_causes.proofs.Common.{Ran, TookKill, ToldDeath, Retired, IsNamed, owner_by, change_of, changes_by, owner_after, IsEventOf, named_call}
+use Rattle.act_causes.proofs.Common.{cond, Bool, false, map, find, slice_get, ◌==◌, cons_option, list_any, enumerate_from, eqb-true, Contains-push_cases}
+use Rattle.act_causes.proofs.Common.{filter_map-append, Packet, Event, Run, AskKill, Did, WorldRefusal, Letter, RunItem, Submission, AllNamed, IsPrefix}
+use Rattle.act_causes.proofs.Common.{ActorSpec, History, contains, cast_of, names, is_caller, has_letter, next_item, calls_of, kept_of, first_answer}
+use Rattle.act_causes.proofs.Common.{refusal_of, outcome_by, outcome_of, add_event, after_run, after_by, after, whole_front, more_front, added_grows}
+use Rattle.act_causes.proofs.Common.{contains_more, IsInbox, packet_at, is_sent, Sent, is_known_at, cast_at, is_owner, SlotView, Runs, WorldView, IsOwnerOf}
+use Rattle.act_causes.proofs.Common.{IsOwnerAt, Refines, IsLawful, lawful_step, named_caller, Deed, IsNamed, owner_by, IsEventOf, named_call, OfActor, OfCaller}
+use Rattle.act_causes.proofs.Common.{caller_step, caller_steps, left_by, CallerStep, ChangeMade, KillAsked, Call, Note, DeathTold, LetterTaken}
 use Rattle.act_rules.specs.declared.history.Letter.TheVariants.{Call as CallLetter, Note as NoteLetter}
 use Rattle.act_rules.specs.declared.history.Post.TheVariants.{Death as DeathPost}
-use Rattle.act_causes.proofs.Unrefused.{IsUnrefused, AreUnrefused, unrefused_more}
 use Rattle.act_causes.proofs.Made.{known_on, sent_on, AreActorsOf}
 use Rattle.act_causes.proofs.Marks.{HasPost, AreReplied, AreNoted, post_stays, replied_step, noted_step}
 use Rattle.act_rules.proofs.Letters.{has_front}
@@ -34,54 +32,36 @@ pub record HasCome (casts : List ActorSpec) (deeds : List Deed) (h : History) (a
 
 -- what the deed leaves is there: a call sent, a letter arrived, a kill asked, or a death posted
 abbrev pub HasLeft : List ActorSpec → List Deed → History → Deed → Type 0
-HasLeft casts deeds h (Changed c (Copied a)) = Unit {0}
-HasLeft casts deeds h (Changed c (Released a)) = Unit {0}
-HasLeft casts deeds h (Changed c (Submitted a method args)) = Unit {0}
-HasLeft casts deeds h (Changed c (Sent k)) = WasSent casts deeds c k
-HasLeft casts deeds h (Changed c (Noticed notice)) = Unit {0}
-HasLeft casts deeds h (AskedKill c a) = (names c (cast_at a casts) ≡ true) × (contains a h.asked ≡ true)
-HasLeft casts deeds h (TookCall a packet) = HasCome casts deeds h a packet
-HasLeft casts deeds h (TookNote a note) = has_letter (NoteLetter note.caller a note.after) h.arrived ≡ true
-HasLeft casts deeds h (Ran a item) = Unit {0}
-HasLeft casts deeds h (TookKill a) = Unit {0}
-HasLeft casts deeds h (ToldDeath a c) = HasPost h (DeathPost c a)
-HasLeft casts deeds h (Retired a) = Unit {0}
+HasLeft casts deeds h (OfCaller c (ChangeMade (Sent k))) = WasSent casts deeds c k
+HasLeft casts deeds h (OfCaller c (KillAsked a)) = (names c (cast_at a casts) ≡ true) × (contains a h.asked ≡ true)
+HasLeft casts deeds h (OfActor a (LetterTaken (Call packet))) = HasCome casts deeds h a packet
+HasLeft casts deeds h (OfActor a (LetterTaken (Note note))) = has_letter (NoteLetter note.caller a note.after) h.arrived ≡ true
+HasLeft casts deeds h (OfActor a (DeathTold c)) = HasPost h (DeathPost c a)
+HasLeft casts deeds h deed = Unit {0}
 
 asked_grows : (h : History) (event : Event) → IsPrefix h.asked (add_event h event).asked
-asked_grows h (Submit c a method args) = whole_front h.asked
-asked_grows h (Copy c a) = whole_front h.asked
-asked_grows h (Release c a) = whole_front h.asked
-asked_grows h (Send c k) = whole_front h.asked
-asked_grows h (Deliver i) = whole_front h.asked
 asked_grows h (Run a c) = go (next_item a c h)
   where
     go : (o : Option RunItem) → IsPrefix h.asked (after_run a c h o).asked
     go None = whole_front h.asked
     go (Some item) = whole_front h.asked
-asked_grows h (Collect j) = whole_front h.asked
 asked_grows h (AskKill c a) = more_front h.asked (a ∷ [])
-asked_grows h (TakeKill a) = whole_front h.asked
-asked_grows h (Tell a c) = whole_front h.asked
-asked_grows h (Retire a) = whole_front h.asked
+asked_grows h event = whole_front h.asked
 
 arrived_stays : (h : History) (event : Event) (letter : Letter) → has_letter letter h.arrived ≡ true → has_letter letter (add_event h event).arrived ≡ true
 arrived_stays h event letter has = has_front letter h.arrived (add_event h event).arrived (added_grows h event).arrived has
 
 -- what a deed has left stays
 left_stays : (casts : List ActorSpec) (deeds : List Deed) (deed : Deed) (h : History) (event : Event) (one : Deed) → HasLeft casts deeds h one → HasLeft casts (deeds ++ deed ∷ []) (add_event h event) one
-left_stays casts deeds deed h event (Changed c (Copied a)) has = tt
-left_stays casts deeds deed h event (Changed c (Released a)) has = tt
-left_stays casts deeds deed h event (Changed c (Submitted a method args)) has = tt
-left_stays casts deeds deed h event (Changed c (Sent k)) has = record {
+left_stays casts deeds deed h event (OfCaller c (ChangeMade (Sent k))) has = record {
   named = has.named;
   known = (known_on casts c k deeds (deed ∷ []) has.known).0;
   sent = sent_on casts c k deeds (deed ∷ []) has.sent;
 }
-left_stays casts deeds deed h event (Changed c (Noticed notice)) has = tt
-left_stays casts deeds deed h event (AskedKill c a) has =
+left_stays casts deeds deed h event (OfCaller c (KillAsked a)) has =
     let front = asked_grows h event in
     (has.0, subst (λ (l : List ℕ). contains a l ≡ true) front.1 (contains_more a h.asked front.0 has.1))
-left_stays casts deeds deed h event (TookCall a packet) has =
+left_stays casts deeds deed h event (OfActor a (LetterTaken (Call packet))) has =
     let stays = known_on casts packet.caller packet.future deeds (deed ∷ []) has.known in
     record {
       to = has.to;
@@ -91,69 +71,32 @@ left_stays casts deeds deed h event (TookCall a packet) has =
       came = arrived_stays h event (CallLetter packet.caller a packet.number) has.came;
       listed = has.listed;
     }
-left_stays casts deeds deed h event (TookNote a note) has = arrived_stays h event (NoteLetter note.caller a note.after) has
-left_stays casts deeds deed h event (Ran a item) has = tt
-left_stays casts deeds deed h event (TookKill a) has = tt
-left_stays casts deeds deed h event (ToldDeath a c) has = post_stays h (add_event h event) (DeathPost c a) (added_grows h event).posts has
-left_stays casts deeds deed h event (Retired a) has = tt
-
--- ---- nothing refuses a change
-
--- a caller of the casts makes the change, and nothing refuses it
-abbrev pub IsFree : List ActorSpec → List Deed → Deed → Type 0
-IsFree casts deeds (Changed c change) = IsNamed casts c × IsUnrefused (owner_by casts c deeds) change
-IsFree casts deeds (AskedKill c a) = Unit {0}
-IsFree casts deeds (TookCall a packet) = Unit {0}
-IsFree casts deeds (TookNote a note) = Unit {0}
-IsFree casts deeds (Ran a item) = Unit {0}
-IsFree casts deeds (TookKill a) = Unit {0}
-IsFree casts deeds (ToldDeath a c) = Unit {0}
-IsFree casts deeds (Retired a) = Unit {0}
-
-unrefused_on : (casts : List ActorSpec) (deeds : List Deed) (deed : Deed) → IsFree casts deeds deed → ((c : ℕ) → AreUnrefused (owner_after casts c []) (changes_by c deeds))
-    → (c : ℕ) → AreUnrefused (owner_after casts c []) (changes_by c (deeds ++ deed ∷ []))
-unrefused_on casts deeds deed free all c = subst (AreUnrefused (owner_after casts c [])) (sym (filter_map-append (change_of c) deeds (deed ∷ []))) (by_deed deed free)
-  where
-    as_before : AreUnrefused (owner_after casts c []) (changes_by c deeds ++ [])
-    as_before = subst (AreUnrefused (owner_after casts c [])) (sym (append-nil (changes_by c deeds))) (all c)
-
-    by_change : (d : ℕ) (change : Change) → IsUnrefused (owner_by casts d deeds) change → (b : Bool) → (d == c) ≡ b → AreUnrefused (owner_after casts c []) (changes_by c deeds ++ cons_option (cond b (Some change) None) [])
-    by_change d change free true is = unrefused_more (owner_after casts c []) (changes_by c deeds) change (all c) (subst (λ (n : ℕ). IsUnrefused (owner_by casts n deeds) change) (eqb-true d c is) free)
-    by_change d change free false is = as_before
-
-    by_deed : (one : Deed) → IsFree casts deeds one → AreUnrefused (owner_after casts c []) (changes_by c deeds ++ changes_by c (one ∷ []))
-    by_deed (Changed d change) free = by_change d change free.1 (d == c) refl
-    by_deed (AskedKill d a) free = as_before
-    by_deed (TookCall a packet) free = as_before
-    by_deed (TookNote a note) free = as_before
-    by_deed (Ran a item) free = as_before
-    by_deed (TookKill a) free = as_before
-    by_deed (ToldDeath a d) free = as_before
-    by_deed (Retired a) free = as_before
+left_stays casts deeds deed h event (OfActor a (LetterTaken (Note note))) has = arrived_stays h event (NoteLetter note.caller a note.after) has
+left_stays casts deeds deed h event (OfActor a (DeathTold c)) has = post_stays h (add_event h event) (DeathPost c a) (added_grows h event).posts has
+left_stays casts deeds deed h event one has = tt
 
 -- ---- who is no caller does nothing
 
 abbrev pub is_named : List ActorSpec → ℕ → Bool
 is_named casts c = list_any (λ (cast : ActorSpec). contains c cast.callers) casts
 
-strangers_on : (casts : List ActorSpec) (deeds : List Deed) (deed : Deed) → IsFree casts deeds deed → ((c : ℕ) → is_named casts c ≡ false → changes_by c deeds ≡ [])
-    → (c : ℕ) → is_named casts c ≡ false → changes_by c (deeds ++ deed ∷ []) ≡ []
-strangers_on casts deeds deed free none c stranger =
-    filter_map-append (change_of c) deeds (deed ∷ []) ∙ ap (λ (changes : List Change). changes ++ changes_by c (deed ∷ [])) (none c stranger) ∙ by_deed deed free
-  where
-    by_change : (d : ℕ) (change : Change) → IsNamed casts d → (b : Bool) → (d == c) ≡ b → cons_option (cond b (Some change) None) [] ≡ []
-    by_change d change named true is = let bad : true ≡ false = sym named ∙ ap (is_named casts) (eqb-true d c is) ∙ stranger in cc
-    by_change d change named false is = refl
+-- a deed of a caller's is that of one which some cast names
+abbrev pub IsByNamed : List ActorSpec → Deed → Type 0
+IsByNamed casts (OfCaller c step) = IsNamed casts c
+IsByNamed casts (OfActor a step) = Unit {0}
 
-    by_deed : (one : Deed) → IsFree casts deeds one → changes_by c (one ∷ []) ≡ []
-    by_deed (Changed d change) free = by_change d change free.0 (d == c) refl
-    by_deed (AskedKill d a) free = refl
-    by_deed (TookCall a packet) free = refl
-    by_deed (TookNote a note) free = refl
-    by_deed (Ran a item) free = refl
-    by_deed (TookKill a) free = refl
-    by_deed (ToldDeath a d) free = refl
-    by_deed (Retired a) free = refl
+strangers_on : (casts : List ActorSpec) (deeds : List Deed) (deed : Deed) → IsByNamed casts deed → ((c : ℕ) → is_named casts c ≡ false → caller_steps c deeds ≡ [])
+    → (c : ℕ) → is_named casts c ≡ false → caller_steps c (deeds ++ deed ∷ []) ≡ []
+strangers_on casts deeds deed named none c stranger =
+    filter_map-append (caller_step c) deeds (deed ∷ []) ∙ ap (λ (steps : List CallerStep). steps ++ caller_steps c (deed ∷ [])) (none c stranger) ∙ by_deed deed named
+  where
+    by_step : (d : ℕ) (step : CallerStep) → IsNamed casts d → (b : Bool) → (d == c) ≡ b → cons_option (cond b (Some step) None) [] ≡ []
+    by_step d step named true is = let bad : true ≡ false = sym named ∙ ap (is_named casts) (eqb-true d c is) ∙ stranger in cc
+    by_step d step named false is = refl
+
+    by_deed : (one : Deed) → IsByNamed casts one → caller_steps c (one ∷ []) ≡ []
+    by_deed (OfCaller d step) named = by_step d step named (d == c) refl
+    by_deed (OfActor a step) named = refl
 
 -- ---- the world of the deeds
 
@@ -179,8 +122,7 @@ pub record Keeps (casts : List ActorSpec) (deeds : List Deed) (h : History) : Ty
   pub reached : IsWorldOf casts deeds h world
   pub actors : AreActorsOf deeds h
   pub left : (deed : Deed) → Contains deeds deed → HasLeft casts deeds h deed
-  pub unrefused : (c : ℕ) → AreUnrefused (owner_after casts c []) (changes_by c deeds)
-  pub strangers : (c : ℕ) → is_named casts c ≡ false → changes_by c deeds ≡ []
+  pub strangers : (c : ℕ) → is_named casts c ≡ false → caller_steps c deeds ≡ []
 
 -- an event stands for one deed more
 pub record GoesOn (casts : List ActorSpec) (deeds : List Deed) (h : History) (deed : Deed) : Type 0 where
@@ -197,14 +139,14 @@ told_done h event told e = go (refusal_of h event) refl e
     go None is e = is
     go (Some refusal) is e = cc
 
--- an accepted event stands for the deed that it is, if that is free and leaves world and history as the deeds then tell
-pub go_on : (casts : List ActorSpec) (deeds : List Deed) (h : History) (deed : Deed) (event : Event) (told : Did) (world : WorldView) → Keeps casts deeds h → IsEventOf h deed event → IsFree casts deeds deed
+-- an accepted event stands for the deed that it is, if that leaves world and history as the deeds then tell
+pub go_on : (casts : List ActorSpec) (deeds : List Deed) (h : History) (deed : Deed) (event : Event) (told : Did) (world : WorldView) → Keeps casts deeds h → IsEventOf h deed event → IsByNamed casts deed
     → (Ok told ≡ outcome_of h event) × Refines (after h event) world
     → ((c : ℕ) → IsNamed casts c → find (is_owner c) world.network.owners ≡ Some (owner_by casts c (deeds ++ deed ∷ [])))
     → ((a : ℕ) → HasInbox (slice_get world.slots a)) → 9 ≤ length world.network.asked
     → AreActorsOf (deeds ++ deed ∷ []) (add_event h event) → HasLeft casts (deeds ++ deed ∷ []) (add_event h event) deed
     → GoesOn casts deeds h deed
-go_on casts deeds h deed event told world keeps is free follows owners inboxes room actors new =
+go_on casts deeds h deed event told world keeps is named follows owners inboxes room actors new =
     let accepted = told_done h event told follows.0 in
     record {
       event = event;
@@ -227,8 +169,7 @@ go_on casts deeds h deed event told world keeps is free follows owners inboxes r
           | inl was ↦ left_stays casts deeds deed h event one (keeps.left one was)
           | inr last ↦ subst (HasLeft casts (deeds ++ deed ∷ []) (add_event h event)) last new
         ];
-        unrefused = unrefused_on casts deeds deed free keeps.unrefused;
-        strangers = strangers_on casts deeds deed free keeps.strangers;
+        strangers = strangers_on casts deeds deed named keeps.strangers;
       };
     }
 
@@ -272,6 +213,6 @@ told_of casts deeds h c keeps = go (is_named casts c) refl
         let none = stranger_calls h c keeps.lawful.retires.named (ap (λ (l : List ActorSpec). is_named l c) keeps.casts_are ∙ stranger) in
         let same = keeps.strangers c stranger in
         record {
-          calls = none ∙ sym (ap (λ (changes : List Change). (owner_after casts c changes).calls) same);
-          kept = ap (λ (calls : List Submission). map (first_answer h c) (enumerate_from 0 calls)) none ∙ sym (ap (λ (changes : List Change). (owner_after casts c changes).kept) same);
+          calls = none ∙ sym (ap (λ (steps : List CallerStep). (left_by casts c steps).calls) same);
+          kept = ap (λ (calls : List Submission). map (first_answer h c) (enumerate_from 0 calls)) none ∙ sym (ap (λ (steps : List CallerStep). (left_by casts c steps).kept) same);
         }

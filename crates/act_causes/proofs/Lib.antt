@@ -1,6 +1,6 @@
 pub mod Common
+pub mod Found
 pub mod Merging
-pub mod Unrefused
 pub mod Made
 pub mod Places
 pub mod Marks
@@ -16,4 +16,3 @@ pub mod Opening
 pub mod Fronts
 pub mod Replaying
 pub mod Example
-pub mod ByPlaces

@@ -178,7 +178,6 @@ keeps_opening casts fitting = record {
     room = omega arith;
   };
   actors = record { runs = λ a. refl; killed = λ a. refl; retired = λ a. refl };
-  unrefused = λ c. tt;
   strangers = λ c stranger. refl;
   left = λ deed has. All-contains (λ (one : Deed). HasLeft casts [] (opening casts) one) [] deed (λ i d within. absurd (omega arith)) has;
 }

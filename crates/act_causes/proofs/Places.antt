@@ -1,5 +1,5 @@
 -- Where something stands in a list, once it was found there.
-use Rattle.act_causes.proofs.Common.{◌≡◌, ◌≢◌, ℕ, ◌<◌, Bool, List, [], length, Option, Some, None, refl, sym, ◌∙◌, get_or}
+use Rattle.act_causes.proofs.Common.{◌≡◌, ◌≢◌, ℕ, ◌<◌, Bool, List, length, Option, Some, None, refl, sym, ◌∙◌, get_or}
 use Rattle.act_causes.proofs.Common.{find, position, slice_set, eqb-true, eq-eqb, find-set, find_past, position-Some}
 use Rattle.act_causes.proofs.Common.{find-Some, find-None, position_or_len-Some, OwnerView, is_owner, not_owner}
 

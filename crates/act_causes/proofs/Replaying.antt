@@ -2,8 +2,9 @@
 use Rattle.act_causes.proofs.Common.{◌≡◌, List, [], ◌∷◌, ◌++◌, None, refl, ap, sym, ◌∙◌, subst, Option, IsOk, AllByRecursion, AllZip, cons_option, append-nil}
 use Rattle.act_causes.proofs.Common.{append_assoc, All-from_recursion, filter_map-append, Answered, Death, Event, Letter, Post, WorldRefusal, ActorSpec}
 use Rattle.act_causes.proofs.Common.{History, opening, history, Outcome, outcome_by, outcome_of, outcomes, add_event, after_by, Grows, added_grows, All_more}
-use Rattle.act_causes.proofs.Common.{slice_get_front, outcomes-append, Copied, Released, Submitted, Sent, Noticed, Deed, Changed, AskedKill, TookCall, TookNote}
-use Rattle.act_causes.proofs.Common.{Ran, TookKill, ToldDeath, Retired, IsCaused, AreCaused, SpecsFit, IsEventOf}
+use Rattle.act_causes.proofs.Common.{slice_get_front, outcomes-append, Copied, Released, Submitted, Sent, Noticed, Deed, IsCaused, AreCaused, SpecsFit}
+use Rattle.act_causes.proofs.Common.{IsEventOf, OfActor, OfCaller, ChangeMade, KillAsked, Call, Note, names, CallRun, DeathTold, KillTaken, LetterTaken}
+use Rattle.act_causes.proofs.Common.{Retirement}
 use Rattle.act_rules.specs.declared.history.Letter.TheVariants.{Call as CallLetter, Note as NoteLetter}
 use Rattle.act_rules.specs.declared.history.Post.TheVariants.{Reply as ReplyPost, Death as DeathPost}
 use Rattle.act_rules.proofs.Steps.{after_all-append}
@@ -19,35 +20,29 @@ use Rattle.act_causes.proofs.Taking.{took_call, took_note}
 
 -- a deed that is caused is an event that a play takes
 goes_on : (casts : List ActorSpec) (deeds : List Deed) (h : History) (deed : Deed) → SpecsFit casts → Keeps casts deeds h → IsCaused casts deeds deed → GoesOn casts deeds h deed
-goes_on casts deeds h (Changed c (Copied a)) fitting keeps caused = copied casts deeds h c keeps caused.0 a caused.1
-goes_on casts deeds h (Changed c (Released a)) fitting keeps caused = released casts deeds h c keeps caused.0 a caused.1
-goes_on casts deeds h (Changed c (Submitted a method args)) fitting keeps caused = submitted casts deeds h c keeps caused.0 a method args caused.1
-goes_on casts deeds h (Changed c (Sent k)) fitting keeps caused = sent casts deeds h c keeps caused.0 k caused.1
-goes_on casts deeds h (Changed c (Noticed (Answered reply))) fitting keeps caused = heard_reply casts deeds h c keeps caused.0 reply caused.1
-goes_on casts deeds h (Changed c (Noticed (Death a))) fitting keeps caused = heard_death casts deeds h c keeps caused.0 a fitting.actors caused.1
-goes_on casts deeds h (AskedKill c a) fitting keeps caused = asked casts deeds h c keeps caused.0 a fitting.actors caused.1
-goes_on casts deeds h (TookCall a packet) fitting keeps caused = took_call casts deeds h keeps a packet caused
-goes_on casts deeds h (TookNote a note) fitting keeps caused = took_note casts deeds h keeps a note caused
-goes_on casts deeds h (Ran a item) fitting keeps caused = ran casts deeds h a item keeps caused
-goes_on casts deeds h (TookKill a) fitting keeps caused = took_kill casts deeds h a keeps caused.0 caused.1 caused.2
-goes_on casts deeds h (ToldDeath a c) fitting keeps caused = told_death casts deeds h a keeps c caused.0 caused.1
-goes_on casts deeds h (Retired a) fitting keeps caused = retired casts deeds h a keeps caused
+goes_on casts deeds h (OfCaller c (ChangeMade (Copied a))) fitting keeps caused = copied casts deeds h c keeps caused.named a caused.may
+goes_on casts deeds h (OfCaller c (ChangeMade (Released a))) fitting keeps caused = released casts deeds h c keeps caused.named a caused.may
+goes_on casts deeds h (OfCaller c (ChangeMade (Submitted a method args))) fitting keeps caused = submitted casts deeds h c keeps caused.named a method args caused.may
+goes_on casts deeds h (OfCaller c (ChangeMade (Sent k))) fitting keeps caused = sent casts deeds h c keeps caused.named k caused.may
+goes_on casts deeds h (OfCaller c (ChangeMade (Noticed (Answered reply)))) fitting keeps caused = heard_reply casts deeds h c keeps caused.named reply caused.given
+goes_on casts deeds h (OfCaller c (ChangeMade (Noticed (Death a)))) fitting keeps caused = heard_death casts deeds h c keeps caused.named a fitting.actors caused.given
+goes_on casts deeds h (OfCaller c (KillAsked a)) fitting keeps caused = asked casts deeds h c keeps caused.named a fitting.actors caused.may
+goes_on casts deeds h (OfActor a (LetterTaken (Call packet))) fitting keeps caused = took_call casts deeds h keeps a packet caused.may caused.sent
+goes_on casts deeds h (OfActor a (LetterTaken (Note note))) fitting keeps caused = took_note casts deeds h keeps a note caused.may caused.sent
+goes_on casts deeds h (OfActor a (CallRun item)) fitting keeps caused = ran casts deeds h a item keeps caused.cast.callers caused.may
+goes_on casts deeds h (OfActor a (KillTaken kill)) fitting keeps caused = took_kill casts deeds h a keeps kill caused.may caused.sent.0 caused.sent.1
+goes_on casts deeds h (OfActor a (DeathTold c)) fitting keeps caused = told_death casts deeds h a keeps c caused.may.0 (ap (names c) caused.at ∙ caused.may.1)
+goes_on casts deeds h (OfActor a Retirement) fitting keeps caused = retired casts deeds h a keeps caused.cast caused.at caused.may
 
 -- what is found by its place stays there
 event_stays : (h g : History) (deed : Deed) (event : Event) → Grows h g → IsEventOf h deed event → IsEventOf g deed event
-event_stays h g (Changed c (Copied a)) event grows is = is
-event_stays h g (Changed c (Released a)) event grows is = is
-event_stays h g (Changed c (Submitted a method args)) event grows is = is
-event_stays h g (Changed c (Sent k)) event grows is = is
-event_stays h g (Changed c (Noticed (Answered reply))) event grows is = (is.0, is.1, slice_get_front h.posts g.posts is.0 (ReplyPost c reply.actor reply.place) grows.posts is.2)
-event_stays h g (Changed c (Noticed (Death a))) event grows is = (is.0, is.1, slice_get_front h.posts g.posts is.0 (DeathPost c a) grows.posts is.2)
-event_stays h g (AskedKill c a) event grows is = is
-event_stays h g (TookCall a packet) event grows is = (is.0, is.1, slice_get_front h.mail g.mail is.0 (CallLetter packet.caller a packet.number) grows.mail is.2)
-event_stays h g (TookNote a note) event grows is = (is.0, is.1, slice_get_front h.mail g.mail is.0 (NoteLetter note.caller a note.after) grows.mail is.2)
-event_stays h g (Ran a item) event grows is = is
-event_stays h g (TookKill a) event grows is = is
-event_stays h g (ToldDeath a c) event grows is = is
-event_stays h g (Retired a) event grows is = is
+event_stays h g (OfCaller c (ChangeMade (Noticed (Answered reply)))) event grows is =
+    (is.0, is.1, slice_get_front h.posts g.posts is.0 (ReplyPost c reply.actor reply.place) grows.posts is.2)
+event_stays h g (OfCaller c (ChangeMade (Noticed (Death a)))) event grows is = (is.0, is.1, slice_get_front h.posts g.posts is.0 (DeathPost c a) grows.posts is.2)
+event_stays h g (OfActor a (LetterTaken (Call packet))) event grows is =
+    (is.0, is.1, slice_get_front h.mail g.mail is.0 (CallLetter packet.caller a packet.number) grows.mail is.2)
+event_stays h g (OfActor a (LetterTaken (Note note))) event grows is = (is.0, is.1, slice_get_front h.mail g.mail is.0 (NoteLetter note.caller a note.after) grows.mail is.2)
+event_stays h g deed event grows is = is
 
 steps_stay : (h g : History) (deeds : List Deed) (events : List Event) → Grows h g → AllZip (IsEventOf h) deeds events → AllZip (IsEventOf g) deeds events
 steps_stay h g [] [] grows steps = tt
@@ -118,12 +113,14 @@ play_of casts deeds fitting caused =
       record {
         play = record {
           steps = all.steps;
-          accepted = All-from_recursion IsOk (outcomes (opening casts) all.events) all.accepted;
-          calls = λ c. (told_of casts deeds (history casts all.events) c all.keeps).calls;
-          kept = λ c. (told_of casts deeds (history casts all.events) c all.keeps).kept;
-          runs = all.keeps.actors.runs;
-          dead = λ a. dead_is deeds (history casts all.events) a all.keeps.actors;
-          retired = all.keeps.actors.retired;
+          leaves = record {
+            accepted = All-from_recursion IsOk (outcomes (opening casts) all.events) all.accepted;
+            calls = λ c. (told_of casts deeds (history casts all.events) c all.keeps).calls;
+            kept = λ c. (told_of casts deeds (history casts all.events) c all.keeps).kept;
+            runs = all.keeps.actors.runs;
+            dead = λ a. dead_is deeds (history casts all.events) a all.keeps.actors;
+            retired = all.keeps.actors.retired;
+          };
         };
         fronts = all.fronts;
         in_order = all.in_order;

@@ -1,5 +1,5 @@
 -- What the threads of a run did, one step after another, and what must stand before each step.
-use Rattle.std.specs.Prelude.{◌≡◌, ℕ, ◌==◌, Bool, true, List, [], ◌∷◌, ◌++◌, length, filter_map, slice_get, Option, Some, None, if◌then◌else◌, Contains}
+use Rattle.std.specs.Prelude.{◌≡◌, ℕ, ◌==◌, true, List, [], ◌∷◌, ◌++◌, length, filter_map, slice_get, Option, Some, None, if◌then◌else◌, Contains}
 use Rattle.std.specs.List.{list_any}
 use Rattle.act_types.specs.declared.call.Packet.{Packet}
 use Rattle.act_types.specs.declared.call.ReleaseNote.{ReleaseNote}
