@@ -99,17 +99,8 @@ event_ahead : (specs : List ActorSpec) (plans : ℕ → List Step) (other : Even
     → IsAhead before early → Matches before.history early.history late.history
     → Matches (add_event before.history other) early.history late.history → (a : ℕ)
     → IsPrefix (runs_of a (add_event before.history other)) (runs_of a early.history)
-event_ahead specs plans (event.Submit c b method args) before early late w ahead was m a = ahead.runs a
-event_ahead specs plans (event.Copy c b) before early late w ahead was m a = ahead.runs a
-event_ahead specs plans (event.Release c b) before early late w ahead was m a = ahead.runs a
-event_ahead specs plans (event.Send c k) before early late w ahead was m a = ahead.runs a
-event_ahead specs plans (event.Deliver i) before early late w ahead was m a = ahead.runs a
 event_ahead specs plans (event.Run b c) before early late w ahead was m a = run_ahead specs plans b c before early late w ahead was m a
-event_ahead specs plans (event.Collect j) before early late w ahead was m a = ahead.runs a
-event_ahead specs plans (event.AskKill c b) before early late w ahead was m a = ahead.runs a
-event_ahead specs plans (event.TakeKill b) before early late w ahead was m a = ahead.runs a
-event_ahead specs plans (event.Tell b c) before early late w ahead was m a = ahead.runs a
-event_ahead specs plans (event.Retire b) before early late w ahead was m a = ahead.runs a
+event_ahead specs plans other before early late w ahead was m a = ahead.runs a
 
 -- ---- all of it
 

@@ -1,6 +1,6 @@
 -- The kills that are asked are those of the steps that callers are done with.
 use Rattle.act_early.proofs.Common.{◌≡◌, ℕ, Bool, true, false, cond, List, [], ◌∷◌, Some, None, refl, ap, sym, ◌∙◌, subst, Option, ◌==◌, ◌||◌, list_any}
-use Rattle.act_early.proofs.Common.{eqb-true, eq-eqb, list_any-append, Event, RunItem, Step, Submit, Copy, Release, Kill, Await, is_kill_of, ActorSpec, History}
+use Rattle.act_early.proofs.Common.{eqb-true, eq-eqb, list_any-append, Event, RunItem, Step, Kill, is_kill_of, ActorSpec, History}
 use Rattle.act_early.proofs.Common.{contains, is_dead, next_item, add_event, after_run, IsKept, contains_more, dead_stays, At, next_step, after_step, taken}
 use Rattle.act_early.proofs.Common.{IsPlay, Opens, Takes, Skips, Closes, Happens, or_left}
 use Rattle.act_rules.specs.declared.event.Event.TheVariants as event
@@ -11,21 +11,13 @@ use Rattle.act_early.proofs.Progress.{free_idle}
 -- ---- asked or dead, for good
 
 asked_stays : (a : ℕ) (h : History) (other : Event) → contains a h.asked ≡ true → contains a (add_event h other).asked ≡ true
-asked_stays a h (event.Submit c b method args) e = e
-asked_stays a h (event.Copy c b) e = e
-asked_stays a h (event.Release c b) e = e
-asked_stays a h (event.Send c k) e = e
-asked_stays a h (event.Deliver i) e = e
 asked_stays a h (event.Run b c) e = go (next_item b c h)
   where
     go : (o : Option RunItem) → contains a (after_run b c h o).asked ≡ true
     go None = e
     go (Some item) = e
-asked_stays a h (event.Collect j) e = e
 asked_stays a h (event.AskKill c b) e = contains_more a h.asked (b ∷ []) e
-asked_stays a h (event.TakeKill b) e = e
-asked_stays a h (event.Tell b c) e = e
-asked_stays a h (event.Retire b) e = e
+asked_stays a h other e = e
 
 abbrev pub IsAskedOrDead : ℕ → History → Type 0
 IsAskedOrDead a h = (contains a h.asked || is_dead a h) ≡ true
@@ -47,11 +39,8 @@ step_asks c d a step h e = go (c == d) step e
   where
     go : (same : Bool) (step : Step) → list_any (is_kill_of a) (cond same (step ∷ []) []) ≡ true → contains a (after_step c step h).asked ≡ true
     go false step e = cc
-    go true (Submit b method args) e = cc
-    go true (Copy b) e = cc
-    go true (Release b) e = cc
     go true (Kill b) e = contains_push a b h.asked ∙ or_second (contains a h.asked) (b == a) (either_of (b == a) false ((b == a) ≡ true) e (λ x. x) (λ x. cc))
-    go true (Await k) e = cc
+    go true step e = cc
 
 done_any : (plans : ℕ → List Step) (c d a : ℕ) (step : Step) (at : At) → next_step plans c at ≡ Some step
     → list_any (is_kill_of a) (done_steps plans d (taken c step at))
@@ -90,11 +79,8 @@ IsAskedBy plans a at = (c : ℕ) × (list_any (is_kill_of a) (done_steps plans c
 
 -- what a step asks, it says
 step_asked : (c a : ℕ) (step : Step) (h : History) → contains a (after_step c step h).asked ≡ true → (contains a h.asked || is_kill_of a step) ≡ true
-step_asked c a (Submit b method args) h e = or_left (contains a h.asked) false e
-step_asked c a (Copy b) h e = or_left (contains a h.asked) false e
-step_asked c a (Release b) h e = or_left (contains a h.asked) false e
 step_asked c a (Kill b) h e = sym (contains_push a b h.asked) ∙ e
-step_asked c a (Await k) h e = or_left (contains a h.asked) false e
+step_asked c a step h e = or_left (contains a h.asked) false e
 
 any_one : (same : Bool) (a : ℕ) (step : Step) → same ≡ true → is_kill_of a step ≡ true → list_any (is_kill_of a) (cond same (step ∷ []) []) ≡ true
 any_one true a step e is = rw is refl

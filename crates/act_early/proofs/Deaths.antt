@@ -22,11 +22,6 @@ told_to_named h a c e =
     (needs-none (names c (cast_of a h)) (Handle NoActor) (needs (is_dead a h) NotDead None) first.1).0
 
 named_deaths_step : (specs : List ActorSpec) → IsKept (AreNamedDeaths specs)
-named_deaths_step specs h (event.Submit c a method args) s accepted = record { casts = s.casts; posts = s.posts; collected = s.collected }
-named_deaths_step specs h (event.Copy c a) s accepted = record { casts = s.casts; posts = s.posts; collected = s.collected }
-named_deaths_step specs h (event.Release c a) s accepted = record { casts = s.casts; posts = s.posts; collected = s.collected }
-named_deaths_step specs h (event.Send c k) s accepted = record { casts = s.casts; posts = s.posts; collected = s.collected }
-named_deaths_step specs h (event.Deliver i) s accepted = record { casts = s.casts; posts = s.posts; collected = s.collected }
 named_deaths_step specs h (event.Run a c) s accepted = go (next_item a c h)
   where
     go : (o : Option RunItem) → AreNamedDeaths specs (after_run a c h o)
@@ -42,15 +37,13 @@ named_deaths_step specs h (event.Collect j) s accepted = go (slice_get h.posts j
       collected =
           All_more (IsNamedDeath specs) h.collected post s.collected (All_at (IsNamedDeath specs) h.posts j post s.posts e);
     }
-named_deaths_step specs h (event.AskKill c a) s accepted = record { casts = s.casts; posts = s.posts; collected = s.collected }
-named_deaths_step specs h (event.TakeKill a) s accepted = record { casts = s.casts; posts = s.posts; collected = s.collected }
 named_deaths_step specs h (event.Tell a c) s accepted = record {
   casts = s.casts;
   posts = All_more (IsNamedDeath specs) h.posts (DeathPost c a) s.posts
       (ap (λ (l : List ActorSpec). names c (find (λ (cast : ActorSpec). cast.actor == a) l)) (sym s.casts) ∙ told_to_named h a c accepted);
   collected = s.collected;
 }
-named_deaths_step specs h (event.Retire a) s accepted = record { casts = s.casts; posts = s.posts; collected = s.collected }
+named_deaths_step specs h other s accepted = record { casts = s.casts; posts = s.posts; collected = s.collected }
 
 contained : {A : Type 0} (P : A → Type 0) (xs : List A) (x : A) → AllByRecursion P xs → Contains xs x → P x
 contained P [] x all has = absurd (let below = has.1 in omega arith)

@@ -55,15 +55,9 @@ earlier_step c (Await k) h sound may = earlier_same h
 -- a step runs nothing
 pub step_runs : (c : ℕ) (step : Step) (h : History) → (after_step c step h).ran ≡ h.ran
 step_runs c (Submit a method args) h = refl
-step_runs c (Copy a) h = refl
-step_runs c (Release a) h = refl
-step_runs c (Kill a) h = refl
-step_runs c (Await k) h = refl
+step_runs c step h = refl
 
 -- a caller's step adds none to the actors that took a kill
 pub step_kills : (c : ℕ) (step : Step) (h : History) → (after_step c step h).killed ≡ h.killed
 step_kills c (Submit a method args) h = refl
-step_kills c (Copy a) h = refl
-step_kills c (Release a) h = refl
-step_kills c (Kill a) h = refl
-step_kills c (Await k) h = refl
+step_kills c step h = refl

@@ -1,7 +1,7 @@
 -- A list of events that keeps to plans is a play of them.
 use Rattle.act_early.proofs.Common.{◌≡◌, ℕ, suc, Bool, true, false, List, [], ◌∷◌, ◌++◌, drop, Option, Some, None, inl, inr, refl, ap, sym, ◌∙◌, subst, arith}
 use Rattle.act_early.proofs.Common.{append_assoc, All, Contains, ◌==◌, slice_get, is_some, IsOk, AllByRecursion, eqb-true, eq-eqb, append-nil, Event}
-use Rattle.act_early.proofs.Common.{WorldRefusal, Step, Submit, Copy, Release, Kill, Await, kept_at, ActorSpec, History, opening, contains, kept_of, history}
+use Rattle.act_early.proofs.Common.{WorldRefusal, Step, Kill, Await, kept_at, ActorSpec, History, opening, contains, kept_of, history}
 use Rattle.act_early.proofs.Common.{refusal_of, outcome_by, outcome_of, outcomes, after, At, opened, steps_of, next_step, taken, skipped, with_event, is_free}
 use Rattle.act_early.proofs.Common.{IsPlay, Opens, Happens, is_step_by, DoesStepBy, DoesStepsBy, KeepsToPlans}
 use Rattle.act_rules.specs.declared.event.Event.TheVariants as event
@@ -65,12 +65,6 @@ finish specs plans c before [] closing p play is left does = (
     others = λ d differ. refl;
   },
 )
-finish specs plans c before (Submit a method args ∷ steps) closing p play is left does = let s =
-    silent_step specs c (Submit a method args) (steps ++ closings closing) before does in absurd (no_event s.does)
-finish specs plans c before (Copy a ∷ steps) closing p play is left does = let s =
-    silent_step specs c (Copy a) (steps ++ closings closing) before does in absurd (no_event s.does)
-finish specs plans c before (Release a ∷ steps) closing p play is left does = let s =
-    silent_step specs c (Release a) (steps ++ closings closing) before does in absurd (no_event s.does)
 finish specs plans c before (Kill a ∷ steps) closing p play is left does =
     let s = silent_step specs c (Kill a) (steps ++ closings closing) before does in
     let silent = leaves_out specs plans c a before p play is (next_is plans c p (Kill a) steps left) (left_out s.does) in
@@ -105,6 +99,8 @@ finish specs plans c before (Await k ∷ steps) closing p play is left does =
             λ d differ. next.1.others d differ ∙ silent.one.others d differ;
       },
     )
+finish specs plans c before (step ∷ steps) closing p play is left does = let s =
+    silent_step specs c (step) (steps ++ closings closing) before does in absurd (no_event s.does)
 
 -- what another caller still does stays
 left_stays : (specs : List ActorSpec) (plans : ℕ → List Step) (before later : List Event) (p q : At) (d : ℕ) → steps_of d q ≡ steps_of d p
@@ -155,10 +151,6 @@ record IsWholePlay (specs : List ActorSpec) (plans : ℕ → List Step) (events 
 -- who has a step left is listed
 left_listed : (specs : List ActorSpec) (plans : ℕ → List Step) (before : List Event) (q : At) (d : ℕ) (step : Step) (steps : List Step)
     → IsPlay specs plans q → q.history ≡ history specs before → DoesStepsBy specs d (step ∷ steps) before [] → contains d (all_callers specs) ≡ true
-left_listed specs plans before q d (Submit a method args) steps play is does = let s =
-    silent_step specs d (Submit a method args) steps before does in absurd (no_event s.does)
-left_listed specs plans before q d (Copy a) steps play is does = let s = silent_step specs d (Copy a) steps before does in absurd (no_event s.does)
-left_listed specs plans before q d (Release a) steps play is does = let s = silent_step specs d (Release a) steps before does in absurd (no_event s.does)
 left_listed specs plans before q d (Kill a) steps play is does = go (silent_step specs d (Kill a) steps before does).does
   where
     go : DoesStepBy specs d (Kill a) before [] → contains d (all_callers specs) ≡ true
@@ -169,6 +161,7 @@ left_listed specs plans before q d (Kill a) steps play is does = go (silent_step
 left_listed specs plans before q d (Await k) steps play is does =
     let s = silent_step specs d (Await k) steps before does in
     may_listed specs q.history d (Await k) (world specs plans q play) (ap (λ (h : History). is_some (kept_at (kept_of d h) k)) is ∙ s.does.1)
+left_listed specs plans before q d step steps play is does = let s = silent_step specs d step steps before does in absurd (no_event s.does)
 
 whole : (specs : List ActorSpec) (plans : ℕ → List Step) (before : List Event) (p : At) → IsPlay specs plans p → p.history ≡ history specs before
     → ((d : ℕ) → Left specs plans before [] p d) → (q : At) × IsWholePlay specs plans before q
@@ -251,22 +244,10 @@ one_on specs plans before (event.Copy c a) events p play is accepted left =
     own_on specs plans c before (event.Copy c a) events p (λ d. refl) play is accepted left
 one_on specs plans before (event.Release c a) events p play is accepted left =
     own_on specs plans c before (event.Release c a) events p (λ d. refl) play is accepted left
-one_on specs plans before (event.Send c k) events p play is accepted left =
-    free_on specs plans before (event.Send c k) events p refl (λ d. refl) play is accepted left
-one_on specs plans before (event.Deliver i) events p play is accepted left =
-    free_on specs plans before (event.Deliver i) events p refl (λ d. refl) play is accepted left
-one_on specs plans before (event.Run a c) events p play is accepted left =
-    free_on specs plans before (event.Run a c) events p refl (λ d. refl) play is accepted left
-one_on specs plans before (event.Collect j) events p play is accepted left =
-    free_on specs plans before (event.Collect j) events p refl (λ d. refl) play is accepted left
 one_on specs plans before (event.AskKill c a) events p play is accepted left =
     own_on specs plans c before (event.AskKill c a) events p (λ d. refl) play is accepted left
-one_on specs plans before (event.TakeKill a) events p play is accepted left =
-    free_on specs plans before (event.TakeKill a) events p refl (λ d. refl) play is accepted left
-one_on specs plans before (event.Tell a c) events p play is accepted left =
-    free_on specs plans before (event.Tell a c) events p refl (λ d. refl) play is accepted left
-one_on specs plans before (event.Retire a) events p play is accepted left =
-    free_on specs plans before (event.Retire a) events p refl (λ d. refl) play is accepted left
+one_on specs plans before other events p play is accepted left =
+    free_on specs plans before other events p refl (λ d. refl) play is accepted left
 
 all_on : (specs : List ActorSpec) (plans : ℕ → List Step) (before events : List Event) (p : At) → IsPlay specs plans p → p.history ≡ history specs before
     → All IsOk (outcomes (history specs before) events)

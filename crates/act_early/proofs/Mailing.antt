@@ -1,7 +1,7 @@
 -- Each letter can be sent and delivered.
 use Rattle.act_early.proofs.Common.{◌≡◌, ℕ, zero, suc, ◌<◌, ◌≤◌, Bool, true, false, List, [], ◌∷◌, ◌++◌, length, Option, Some, None, inl, inr, ◌⊎◌, refl, ap}
 use Rattle.act_early.proofs.Common.{sym, ◌∙◌, subst, arith, ◌||◌, not, slice_get, option_map, is_some, AllByRecursion, list_all, cases_lt, slice_get_past}
-use Rattle.act_early.proofs.Common.{Letter, Submission, Step, Submit, Copy, Release, Kill, Await, Answer, NoCaller, Sending, calls_to, kept_at, is_known, needs}
+use Rattle.act_early.proofs.Common.{Letter, Submission, Step, Submit, Answer, NoCaller, Sending, calls_to, kept_at, is_known, needs}
 use Rattle.act_early.proofs.Common.{send_refusal, ActorSpec, History, under, is_caller, calls_of, copies_of, kept_of, is_ended, has_letter, refusal_of}
 use Rattle.act_early.proofs.Common.{add_event, and_also, letter_actor, call_letter, was_sent, deliver_refusal, slice_get_last, added_grows, At, MayTake}
 use Rattle.act_early.proofs.Common.{with_event, Happens}
@@ -60,17 +60,11 @@ mailing specs plans = record {
 
 send_may : (d j c : ℕ) (step : Step) (h : History) → MayTake c step (add_event h (event.Send d j)) → MayTake c step h
 send_may d j c (Submit a method args) h may = may
-send_may d j c (Copy a) h may = may
-send_may d j c (Release a) h may = may
-send_may d j c (Kill a) h may = may
-send_may d j c (Await k) h may = may
+send_may d j c step h may = may
 
 deliver_may : (i c : ℕ) (step : Step) (h : History) → MayTake c step (add_event h (event.Deliver i)) → MayTake c step h
 deliver_may i c (Submit a method args) h may = may
-deliver_may i c (Copy a) h may = may
-deliver_may i c (Release a) h may = may
-deliver_may i c (Kill a) h may = may
-deliver_may i c (Await k) h may = may
+deliver_may i c step h may = may
 
 send_on : (specs : List ActorSpec) (plans : ℕ → List Step) (d j : ℕ) (p : At) → IsOpen specs plans p → refusal_of p.history (event.Send d j) ≡ None
     → MailsOn specs plans p (with_event (event.Send d j) p)

@@ -61,23 +61,16 @@ release_sends h d b c a n e f = go ((d == c) && (b == a)) refl
 -- where there was a copy, the event is the last release
 sends_last : (h : History) (other : Event) (c a n : ℕ) → copies_of c a h ≡ Some (suc n) → copies_of c a (add_event h other) ≡ Some 0
     → has_letter (NoteLetter c a (length (calls_to a (calls_of c (add_event h other))))) (add_event h other).mail ≡ true
-sends_last h (event.Submit d b method args) c a n e f = absurd (same_copies (copies_of c a h) n e f)
 sends_last h (event.Copy d b) c a n e f =
     absurd (differ_copy (names c (cast_of a h)) (count_pairs c a h.copied) (count_pairs c a h.released) (cond ((d == c) && (b == a)) 1 0) n e
     (ap (λ (m : ℕ). cond (names c (cast_of a h)) (Some ((1 + m) - count_pairs c a h.released)) None) (sym (times-push c a d b h.copied)) ∙ f))
 sends_last h (event.Release d b) c a n e f = release_sends h d b c a n e f
-sends_last h (event.Send d k) c a n e f = absurd (same_copies (copies_of c a h) n e f)
-sends_last h (event.Deliver i) c a n e f = absurd (same_copies (copies_of c a h) n e f)
 sends_last h (event.Run b d) c a n e f = absurd (same_copies (copies_of c a h) n e (go (next_item b d h) f))
   where
     go : (o : Option RunItem) → copies_of c a (after_run b d h o) ≡ Some 0 → copies_of c a h ≡ Some 0
     go None f = f
     go (Some item) f = f
-sends_last h (event.Collect j) c a n e f = absurd (same_copies (copies_of c a h) n e f)
-sends_last h (event.AskKill d b) c a n e f = absurd (same_copies (copies_of c a h) n e f)
-sends_last h (event.TakeKill b) c a n e f = absurd (same_copies (copies_of c a h) n e f)
-sends_last h (event.Tell b d) c a n e f = absurd (same_copies (copies_of c a h) n e f)
-sends_last h (event.Retire b) c a n e f = absurd (same_copies (copies_of c a h) n e f)
+sends_last h other c a n e f = absurd (same_copies (copies_of c a h) n e f)
 
 stranger : (x y : Bool) (m n : ℕ) → cond x (Some m) None ≡ None → y ≡ x → cond y (Some n) None ≡ Some 0 → ⊥
 stranger true y m n e same f = cc

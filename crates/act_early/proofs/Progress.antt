@@ -1,7 +1,7 @@
 -- What a caller submitted, copied and released is what the steps say that it is done with.
 use Rattle.act_early.proofs.Common.{◌≡◌, ℕ, ◌+◌, Bool, true, false, cond, List, [], ◌∷◌, ◌++◌, length, Some, None, refl, ap, sym, ◌∙◌, subst, arith}
 use Rattle.act_early.proofs.Common.{length-append, Option, ◌==◌, ◌&&◌, filter, filter_map, eqb-true, append-nil, filter-append, filter_map-append, Event}
-use Rattle.act_early.proofs.Common.{RunItem, Submission, Step, Submit, Copy, Release, Kill, Await, ActorSpec, History, count_pairs, calls_of, next_item}
+use Rattle.act_early.proofs.Common.{RunItem, Submission, Step, Submit, Copy, Release, Kill, ActorSpec, History, count_pairs, calls_of, next_item}
 use Rattle.act_early.proofs.Common.{add_event, after_run, under-push, times-push, At, next_step, after_step, taken, skipped, with_event, is_free, IsPlay, Opens}
 use Rattle.act_early.proofs.Common.{Takes, Skips, Closes, Happens}
 use Rattle.act_rules.specs.declared.event.Event.TheVariants as event
@@ -12,26 +12,17 @@ use Rattle.act_early.proofs.Counting.{done_steps, done-push, other_next}
 -- the call that a step submits, where it submits one
 abbrev pub submission_in : Step → Option Submission
 submission_in (Submit a method args) = Some (record { actor = a; method = method; args = args })
-submission_in (Copy a) = None
-submission_in (Release a) = None
-submission_in (Kill a) = None
-submission_in (Await k) = None
+submission_in step = None
 
 -- whether the step copies the actor's handle
 abbrev pub is_copy_of : ℕ → Step → Bool
-is_copy_of a (Submit b method args) = false
 is_copy_of a (Copy b) = b == a
-is_copy_of a (Release b) = false
-is_copy_of a (Kill b) = false
-is_copy_of a (Await k) = false
+is_copy_of a step = false
 
 -- whether the step releases a copy of the actor's handle
 abbrev pub is_release_of : ℕ → Step → Bool
-is_release_of a (Submit b method args) = false
-is_release_of a (Copy b) = false
 is_release_of a (Release b) = b == a
-is_release_of a (Kill b) = false
-is_release_of a (Await k) = false
+is_release_of a step = false
 
 -- ---- what one step adds
 
@@ -60,30 +51,21 @@ submitted_one c d (Submit a method args) h = under-push d c h.submitted (record 
         ++ filter_map submission_in (cond same (Submit a method args ∷ []) [])
     go true = refl
     go false = refl
-submitted_one c d (Copy a) h = no_call (calls_of d h) (c == d) (Copy a) refl
-submitted_one c d (Release a) h = no_call (calls_of d h) (c == d) (Release a) refl
-submitted_one c d (Kill a) h = no_call (calls_of d h) (c == d) (Kill a) refl
-submitted_one c d (Await k) h = no_call (calls_of d h) (c == d) (Await k) refl
+submitted_one c d step h = no_call (calls_of d h) (c == d) step refl
 
 -- to the copies that a caller made of a handle a step adds one if it is this caller's and copies that, else none
 pub copied_one : (c d a : ℕ) (step : Step) (h : History)
     → count_pairs d a (after_step c step h).copied ≡ count_pairs d a h.copied + length (filter (is_copy_of a) (cond (c == d) (step ∷ []) []))
-copied_one c d a (Submit b method args) h = no_pair _ (c == d) (is_copy_of a) (Submit b method args) refl
 copied_one c d a (Copy b) h = times-push d a c b h.copied
     ∙ ap (λ (n : ℕ). count_pairs d a h.copied + n) (one_pair (c == d) (b == a) (is_copy_of a) (Copy b) refl)
-copied_one c d a (Release b) h = no_pair _ (c == d) (is_copy_of a) (Release b) refl
-copied_one c d a (Kill b) h = no_pair _ (c == d) (is_copy_of a) (Kill b) refl
-copied_one c d a (Await k) h = no_pair _ (c == d) (is_copy_of a) (Await k) refl
+copied_one c d a step h = no_pair _ (c == d) (is_copy_of a) step refl
 
 -- to the copies that a caller released of a handle a step adds one if it is this caller's and releases that, else none
 pub released_one : (c d a : ℕ) (step : Step) (h : History)
     → count_pairs d a (after_step c step h).released ≡ count_pairs d a h.released + length (filter (is_release_of a) (cond (c == d) (step ∷ []) []))
-released_one c d a (Submit b method args) h = no_pair _ (c == d) (is_release_of a) (Submit b method args) refl
-released_one c d a (Copy b) h = no_pair _ (c == d) (is_release_of a) (Copy b) refl
 released_one c d a (Release b) h = times-push d a c b h.released
     ∙ ap (λ (n : ℕ). count_pairs d a h.released + n) (one_pair (c == d) (b == a) (is_release_of a) (Release b) refl)
-released_one c d a (Kill b) h = no_pair _ (c == d) (is_release_of a) (Kill b) refl
-released_one c d a (Await k) h = no_pair _ (c == d) (is_release_of a) (Await k) refl
+released_one c d a step h = no_pair _ (c == d) (is_release_of a) step refl
 
 -- ---- what no step adds
 
@@ -98,18 +80,13 @@ pub free_idle : (h : History) (other : Event) → is_free other ≡ true → IsI
 free_idle h (event.Submit c a method args) free = cc
 free_idle h (event.Copy c a) free = cc
 free_idle h (event.Release c a) free = cc
-free_idle h (event.Send c k) free = record { submitted = refl; copied = refl; released = refl; asked = refl }
-free_idle h (event.Deliver i) free = record { submitted = refl; copied = refl; released = refl; asked = refl }
 free_idle h (event.Run a c) free = go (next_item a c h)
   where
     go : (o : Option RunItem) → IsIdle h (after_run a c h o)
     go None = record { submitted = refl; copied = refl; released = refl; asked = refl }
     go (Some item) = record { submitted = refl; copied = refl; released = refl; asked = refl }
-free_idle h (event.Collect j) free = record { submitted = refl; copied = refl; released = refl; asked = refl }
 free_idle h (event.AskKill c a) free = cc
-free_idle h (event.TakeKill a) free = record { submitted = refl; copied = refl; released = refl; asked = refl }
-free_idle h (event.Tell a c) free = record { submitted = refl; copied = refl; released = refl; asked = refl }
-free_idle h (event.Retire a) free = record { submitted = refl; copied = refl; released = refl; asked = refl }
+free_idle h other free = record { submitted = refl; copied = refl; released = refl; asked = refl }
 
 -- ---- all of it
 

@@ -49,17 +49,11 @@ quiesces_trans specs plans p q r one two = record {
 
 -- what an event leaves that is no choice, and collects nothing
 abbrev pub is_quiet : Event → Bool
-is_quiet (event.Submit c a method args) = true
-is_quiet (event.Copy c a) = true
-is_quiet (event.Release c a) = true
-is_quiet (event.Send c k) = true
-is_quiet (event.Deliver i) = true
 is_quiet (event.Run a c) = false
 is_quiet (event.Collect j) = false
-is_quiet (event.AskKill c a) = true
 is_quiet (event.TakeKill a) = false
-is_quiet (event.Tell a c) = true
 is_quiet (event.Retire a) = false
+is_quiet other = true
 
 record IsQuiet (h g : History) : Type 0 where
   ran : g.ran ≡ h.ran
@@ -68,17 +62,11 @@ record IsQuiet (h g : History) : Type 0 where
   retired : g.retired ≡ h.retired
 
 quiet : (h : History) (other : Event) → is_quiet other ≡ true → IsQuiet h (add_event h other)
-quiet h (event.Submit c a method args) e = record { ran = refl; collected = refl; killed = refl; retired = refl }
-quiet h (event.Copy c a) e = record { ran = refl; collected = refl; killed = refl; retired = refl }
-quiet h (event.Release c a) e = record { ran = refl; collected = refl; killed = refl; retired = refl }
-quiet h (event.Send c k) e = record { ran = refl; collected = refl; killed = refl; retired = refl }
-quiet h (event.Deliver i) e = record { ran = refl; collected = refl; killed = refl; retired = refl }
 quiet h (event.Run a c) e = cc
 quiet h (event.Collect j) e = cc
-quiet h (event.AskKill c a) e = record { ran = refl; collected = refl; killed = refl; retired = refl }
 quiet h (event.TakeKill a) e = cc
-quiet h (event.Tell a c) e = record { ran = refl; collected = refl; killed = refl; retired = refl }
 quiet h (event.Retire a) e = cc
+quiet h other e = record { ran = refl; collected = refl; killed = refl; retired = refl }
 
 -- a play of which only the history and the callers' places changed
 pub quiet_quiesces : (specs : List ActorSpec) (plans : ℕ → List Step) (other : Event) (p q : At) → IsPlay specs plans p → p.history.retired ≡ []

@@ -1,8 +1,8 @@
 -- Replies and deaths, and what is collected.
 use Rattle.act_early.proofs.Common.{◌≡◌, ◌≢◌, ℕ, zero, suc, ◌+◌, ◌≤◌, true, false, List, [], ◌∷◌, ◌++◌, length, Option, Some, None, refl, ap, ◌∙◌, subst}
 use Rattle.act_early.proofs.Common.{arith, Contains, length-append, ◌==◌, ◌&&◌, filter_map, slice_get, Ok, Err, cons_option, eq-eqb, and_from}
-use Rattle.act_early.proofs.Common.{Fault, NoMethod, BadArgs, Overflow, NoKey, BadAmount, Insufficient, NoItems, NoItem, KindFull, Dependency}
-use Rattle.act_early.proofs.Common.{ActorDied, Own, Submission, Answer, kept_at, History, calls_of, kept_of, answer_in, IsPrefix}
+use Rattle.act_early.proofs.Common.{Fault}
+use Rattle.act_early.proofs.Common.{ActorDied, Submission, Answer, kept_at, History, calls_of, kept_of, answer_in, IsPrefix}
 use Rattle.act_early.proofs.Common.{kept_at_is, kept_by, is_reply}
 use Rattle.act_rules.specs.declared.history.Post.TheVariants.{Death as DeathPost}
 
@@ -18,18 +18,8 @@ pub reply_alive : (answer : Answer) → is_reply (Some answer) ≡ true → answ
 reply_alive answer e died = let bad : is_reply (Some (Err ActorDied)) ≡ true = subst (λ (x : Answer). is_reply (Some x) ≡ true) died e in cc
 
 fault_died : (fault : Fault) → is_reply (Some (Err fault)) ≡ false → fault ≡ ActorDied
-fault_died NoMethod e = cc
-fault_died BadArgs e = cc
-fault_died Overflow e = cc
-fault_died NoKey e = cc
-fault_died BadAmount e = cc
-fault_died Insufficient e = cc
-fault_died NoItems e = cc
-fault_died NoItem e = cc
-fault_died KindFull e = cc
-fault_died (Dependency k) e = cc
 fault_died ActorDied e = refl
-fault_died (Own name) e = cc
+fault_died fault e = cc
 
 -- an answer that is no reply is a death
 pub reply_died : (answer : Answer) → is_reply (Some answer) ≡ false → answer ≡ Err ActorDied

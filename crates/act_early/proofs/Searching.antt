@@ -178,20 +178,11 @@ event_seen : (casts : List ActorSpec) (plans : ℕ → List Step) (may_lose : �
     → IsWholeSearch casts plans may_lose Seen → IsPlay casts plans before → IsPlay casts plans late → LosesOnly may_lose late.history
     → refusal_of before.history other ≡ None → IsEarlier before.history late.history → IsEarlier (add_event before.history other) late.history
     → IsSeen Seen before late.history → IsSeen Seen (with_event other before) late.history
-event_seen casts plans may_lose Seen (event.Submit c b method args) before late search is ends losing may was later s =
-    same_seen Seen before _ late.history refl refl s
-event_seen casts plans may_lose Seen (event.Copy c b) before late search is ends losing may was later s = same_seen Seen before _ late.history refl refl s
-event_seen casts plans may_lose Seen (event.Release c b) before late search is ends losing may was later s = same_seen Seen before _ late.history refl refl s
-event_seen casts plans may_lose Seen (event.Send c k) before late search is ends losing may was later s = same_seen Seen before _ late.history refl refl s
-event_seen casts plans may_lose Seen (event.Deliver i) before late search is ends losing may was later s = same_seen Seen before _ late.history refl refl s
 event_seen casts plans may_lose Seen (event.Run b c) before late search is ends losing may was later s =
     run_seen casts plans may_lose Seen b c before late search is ends losing may was later s
-event_seen casts plans may_lose Seen (event.Collect j) before late search is ends losing may was later s = same_seen Seen before _ late.history refl refl s
-event_seen casts plans may_lose Seen (event.AskKill c b) before late search is ends losing may was later s = same_seen Seen before _ late.history refl refl s
 event_seen casts plans may_lose Seen (event.TakeKill b) before late search is ends losing may was later s =
     kill_seen casts plans may_lose Seen b before late search is ends may was s
-event_seen casts plans may_lose Seen (event.Tell b c) before late search is ends losing may was later s = same_seen Seen before _ late.history refl refl s
-event_seen casts plans may_lose Seen (event.Retire b) before late search is ends losing may was later s = same_seen Seen before _ late.history refl refl s
+event_seen casts plans may_lose Seen other before late search is ends losing may was later s = same_seen Seen before _ late.history refl refl s
 
 -- ---- all of it
 

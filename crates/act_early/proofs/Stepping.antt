@@ -18,10 +18,7 @@ use Rattle.act_rules.proofs.Table.{first_answer-same}
 
 pub step_casts : (c : ℕ) (step : Step) (h : History) → (after_step c step h).casts ≡ h.casts
 step_casts c (Submit a method args) h = refl
-step_casts c (Copy a) h = refl
-step_casts c (Release a) h = refl
-step_casts c (Kill a) h = refl
-step_casts c (Await k) h = refl
+step_casts c step h = refl
 
 calls_other : (c d : ℕ) (step : Step) (h : History) → (c == d) ≡ false → calls_of d (after_step c step h) ≡ calls_of d h
 calls_other c d step h e = submitted_one c d step h ∙ ap (λ (same : Bool). calls_of d h ++ filter_map submission_in (cond same (step ∷ []) [])) e
@@ -61,10 +58,7 @@ alike_other c d step h e = record {
   where
     caller : (c : ℕ) (step : Step) (h : History) → is_caller d h ≡ is_caller d (after_step c step h)
     caller c (Submit a method args) h = refl
-    caller c (Copy a) h = refl
-    caller c (Release a) h = refl
-    caller c (Kill a) h = refl
-    caller c (Await k) h = refl
+    caller c step h = refl
 
 -- so what it may do, it might do before
 pub may_before : (c d : ℕ) (step later : Step) (h : History) → IsSound h → (c == d) ≡ false → MayTake d later (after_step c step h) → MayTake d later h
@@ -119,10 +113,7 @@ others_wait plans c d step p sound e s = record {
   where
     dead : (c : ℕ) (step : Step) (h : History) (a : ℕ) → is_dead a (after_step c step h) ≡ is_dead a h
     dead c (Submit b method args) h a = refl
-    dead c (Copy b) h a = refl
-    dead c (Release b) h a = refl
-    dead c (Kill b) h a = refl
-    dead c (Await k) h a = refl
+    dead c step h a = refl
 
 others_wait_on : (plans : ℕ → List Step) (c d : ℕ) (p : At) → (c == d) ≡ false → IsStuck plans d p → IsStuck plans d (skipped c p)
 others_wait_on plans c d p e s = record {

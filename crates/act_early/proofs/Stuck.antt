@@ -167,20 +167,11 @@ event_near : (casts : List ActorSpec) (plans : ℕ → List Step) (other : Event
     → IsPlay casts plans early → IsPlay casts plans before → IsFrontOf early.history late.history
     → refusal_of before.history other ≡ None → IsEarlier before.history late.history → IsEarlier (add_event before.history other) late.history
     → IsCovered before.history early.history → IsNear (add_event before.history other) early late
-event_near casts plans (event.Submit c b method args) before early late both goes is f may was later cov =
-    inl (same_covered before.history _ early.history refl refl cov)
-event_near casts plans (event.Copy c b) before early late both goes is f may was later cov = inl (same_covered before.history _ early.history refl refl cov)
-event_near casts plans (event.Release c b) before early late both goes is f may was later cov = inl (same_covered before.history _ early.history refl refl cov)
-event_near casts plans (event.Send c k) before early late both goes is f may was later cov = inl (same_covered before.history _ early.history refl refl cov)
-event_near casts plans (event.Deliver i) before early late both goes is f may was later cov = inl (same_covered before.history _ early.history refl refl cov)
 event_near casts plans (event.Run b c) before early late both goes is f may was later cov =
     run_near casts plans b c before early late both is f may was later cov
-event_near casts plans (event.Collect j) before early late both goes is f may was later cov = inl (same_covered before.history _ early.history refl refl cov)
-event_near casts plans (event.AskKill c b) before early late both goes is f may was later cov = inl (same_covered before.history _ early.history refl refl cov)
 event_near casts plans (event.TakeKill b) before early late both goes is f may was later cov =
     kill_near casts plans b before early late both goes is f may was later cov
-event_near casts plans (event.Tell b c) before early late both goes is f may was later cov = inl (same_covered before.history _ early.history refl refl cov)
-event_near casts plans (event.Retire b) before early late both goes is f may was later cov = inl (same_covered before.history _ early.history refl refl cov)
+event_near casts plans other before early late both goes is f may was later cov = inl (same_covered before.history _ early.history refl refl cov)
 
 -- ---- all of it
 

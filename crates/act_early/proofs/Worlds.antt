@@ -93,14 +93,7 @@ retired_run h b c live accepted a retired = go (next_item b c h) refl retired
         subst (λ (items : List RunItem). (contains a h.killed || has_terminated items) ≡ false) (sym same') (live a r)
 
 pub retired_live_step : IsKept RetiredLive
-retired_live_step h (event.Submit c b method args) live accepted a retired = live a retired
-retired_live_step h (event.Copy c b) live accepted a retired = live a retired
-retired_live_step h (event.Release c b) live accepted a retired = live a retired
-retired_live_step h (event.Send c k) live accepted a retired = live a retired
-retired_live_step h (event.Deliver i) live accepted a retired = live a retired
 retired_live_step h (event.Run b c) live accepted a retired = retired_run h b c live accepted a retired
-retired_live_step h (event.Collect j) live accepted a retired = live a retired
-retired_live_step h (event.AskKill c b) live accepted a retired = live a retired
 retired_live_step h (event.TakeKill b) live accepted a retired = go (b == a) refl
   where
     go : (same : Bool) → (b == a) ≡ same → (contains a (h.killed ++ b ∷ []) || has_terminated (runs_of a h)) ≡ false
@@ -114,10 +107,10 @@ retired_live_step h (event.TakeKill b) live accepted a retired = go (b == a) ref
         more : (x y : Bool) → (x || y) ≡ false → ((x || false) || y) ≡ false
         more false y e = e
         more true y e = cc
-retired_live_step h (event.Tell b c) live accepted a retired = live a retired
 retired_live_step h (event.Retire b) live accepted a retired =
     either_of (contains a h.retired) (b == a) (is_dead a h ≡ false) (sym (contains_push a b h.retired) ∙ retired) (live a)
     (λ e. not_dead a h (subst (λ (x : ℕ). is_ended x h ≡ false) (eqb-true b a e) (retire_needs h b accepted).1))
+retired_live_step h other live accepted a retired = live a retired
 
 -- ---- a retired actor has a cast
 
@@ -125,23 +118,15 @@ abbrev pub RetiredCast : History → Type 0
 RetiredCast h = (a : ℕ) → is_retired a h ≡ true → is_some (cast_of a h) ≡ true
 
 pub retired_cast_step : IsKept RetiredCast
-retired_cast_step h (event.Submit c b method args) cast accepted a retired = cast a retired
-retired_cast_step h (event.Copy c b) cast accepted a retired = cast a retired
-retired_cast_step h (event.Release c b) cast accepted a retired = cast a retired
-retired_cast_step h (event.Send c k) cast accepted a retired = cast a retired
-retired_cast_step h (event.Deliver i) cast accepted a retired = cast a retired
 retired_cast_step h (event.Run b c) cast accepted a retired = go (next_item b c h) retired
   where
     go : (o : Option RunItem) → is_retired a (after_run b c h o) ≡ true → is_some (cast_of a (after_run b c h o)) ≡ true
     go None r = cast a r
     go (Some item) r = cast a r
-retired_cast_step h (event.Collect j) cast accepted a retired = cast a retired
-retired_cast_step h (event.AskKill c b) cast accepted a retired = cast a retired
-retired_cast_step h (event.TakeKill b) cast accepted a retired = cast a retired
-retired_cast_step h (event.Tell b c) cast accepted a retired = cast a retired
 retired_cast_step h (event.Retire b) cast accepted a retired =
     either_of (contains a h.retired) (b == a) (is_some (cast_of a h) ≡ true) (sym (contains_push a b h.retired) ∙ retired) (cast a)
     (λ e. subst (λ (x : ℕ). is_some (cast_of x h) ≡ true) (eqb-true b a e) (retire_needs h b accepted).0)
+retired_cast_step h other cast accepted a retired = cast a retired
 
 -- ---- all of it
 

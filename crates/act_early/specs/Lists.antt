@@ -18,14 +18,8 @@ abbrev pub is_step_by : ℕ → Event → Bool
 is_step_by c (event.Submit d a method args) = d == c
 is_step_by c (event.Copy d a) = d == c
 is_step_by c (event.Release d a) = d == c
-is_step_by c (event.Send d k) = false
-is_step_by c (event.Deliver i) = false
-is_step_by c (event.Run a d) = false
-is_step_by c (event.Collect j) = false
 is_step_by c (event.AskKill d a) = d == c
-is_step_by c (event.TakeKill a) = false
-is_step_by c (event.Tell a d) = false
-is_step_by c (event.Retire a) = false
+is_step_by c other = false
 
 -- none of the events is a step of the caller's
 abbrev pub AreOthers : ℕ → List Event → Type 0

@@ -62,14 +62,8 @@ abbrev pub is_free : Event → Bool
 is_free (event.Submit c a method args) = false
 is_free (event.Copy c a) = false
 is_free (event.Release c a) = false
-is_free (event.Send c k) = true
-is_free (event.Deliver i) = true
-is_free (event.Run a c) = true
-is_free (event.Collect j) = true
 is_free (event.AskKill c a) = false
-is_free (event.TakeKill a) = true
-is_free (event.Tell a c) = true
-is_free (event.Retire a) = true
+is_free other = true
 
 -- ---- all of it
 
