@@ -1,7 +1,7 @@
 -- Each call ran as it was submitted, with its arguments as the kept answers settle them.
 use Rattle.act_rules.proofs.Common.{◌≡◌, ℕ, zero, suc, ◌+◌, Bool, true, false, cond, List, [], ◌∷◌, Some, None, refl, ap, sym, ◌∙◌, subst, arith, Option, ◌==◌}
-use Rattle.act_rules.proofs.Common.{filter, slice_get, option_map, AllByRecursion, list_all, enumerate_from, eqb-true, RunItem, Event, Submit, Copy, Release}
-use Rattle.act_rules.proofs.Common.{Send, Deliver, Run, Collect, AskKill, TakeKill, Tell, Retire, Submission, calls_to, is_known, IsAsSubmitted, History}
+use Rattle.act_rules.proofs.Common.{filter, slice_get, option_map, AllByRecursion, list_all, enumerate_from, eqb-true, RunItem, Event}
+use Rattle.act_rules.proofs.Common.{Run, Submission, calls_to, is_known, IsAsSubmitted, History}
 use Rattle.act_rules.proofs.Common.{calls_of, kept_of, ran_count, next_item, add_event, after_run}
 use Rattle.act_rules.specs.declared.history.Letter.TheVariants.{Call as CallLetter}
 use Rattle.act_rules.proofs.Lists.{slice_get_front, slice_get-enumerate_from, All_more, All_weaker}
@@ -93,11 +93,6 @@ submitted_stay : (h g : History) → Grows h g → PostsAreSound h → AreSubmit
 submitted_stay h g grows s r = All_weaker (IsSubmitted h) (IsSubmitted g) h.ran (submitted_grows h g grows s) r
 
 pub submitted_step : (h : History) (event : Event) → PostsAreSound h → LettersAreSound h → AreSubmitted h → AreSubmitted (add_event h event)
-submitted_step h (Submit c a method args) s l r = submitted_stay h _ (added_grows h (Submit c a method args)) s r
-submitted_step h (Copy c a) s l r = submitted_stay h _ (added_grows h (Copy c a)) s r
-submitted_step h (Release c a) s l r = submitted_stay h _ (added_grows h (Release c a)) s r
-submitted_step h (Send c k) s l r = submitted_stay h _ (added_grows h (Send c k)) s r
-submitted_step h (Deliver i) s l r = submitted_stay h _ (added_grows h (Deliver i)) s r
 submitted_step h (Run a c) s l r = go (next_item a c h) refl
   where
     go : (o : Option RunItem) → next_item a c h ≡ o → AreSubmitted (after_run a c h o)
@@ -106,8 +101,4 @@ submitted_step h (Run a c) s l r = go (next_item a c h) refl
         let grows = after_run_grows a c h (Some item) in
         All_more (IsSubmitted (after_run a c h (Some item))) h.ran (a, item) (submitted_stay h _ grows s r)
         (submitted_grows h _ grows s (a, item) (next_submitted a c h item l (next_item_is a c h item e)))
-submitted_step h (Collect j) s l r = submitted_stay h _ (added_grows h (Collect j)) s r
-submitted_step h (AskKill c a) s l r = submitted_stay h _ (added_grows h (AskKill c a)) s r
-submitted_step h (TakeKill a) s l r = submitted_stay h _ (added_grows h (TakeKill a)) s r
-submitted_step h (Tell a c) s l r = submitted_stay h _ (added_grows h (Tell a c)) s r
-submitted_step h (Retire a) s l r = submitted_stay h _ (added_grows h (Retire a)) s r
+submitted_step h event s l r = submitted_stay h _ (added_grows h event) s r

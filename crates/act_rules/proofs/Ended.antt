@@ -1,7 +1,7 @@
 -- Nothing runs at an actor that has ended.
 use Rattle.act_rules.proofs.Common.{◌≡◌, ℕ, Bool, true, false, cond, List, [], ◌∷◌, ◌++◌, Some, None, refl, sym, ◌∙◌, subst, Option, ◌==◌, ◌||◌, not, map}
-use Rattle.act_rules.proofs.Common.{map-append, append-nil, filter-append, list_any-append, eqb-true, not-true, RunItem, Event, Submit, Copy, Release, Send}
-use Rattle.act_rules.proofs.Common.{Deliver, Run, Collect, AskKill, TakeKill, Tell, Retire, NoCaller, Handle, ActorEnded, NoActor, has_terminated}
+use Rattle.act_rules.proofs.Common.{map-append, append-nil, filter-append, list_any-append, eqb-true, not-true, RunItem, Event}
+use Rattle.act_rules.proofs.Common.{Run, TakeKill, Retire, NoCaller, Handle, ActorEnded, NoActor, has_terminated}
 use Rattle.act_rules.proofs.Common.{NothingFollowsAnEnd, needs, History, contains, under, runs_of, is_dead, is_retired, is_ended, is_caller, names, cast_of}
 use Rattle.act_rules.proofs.Common.{next_item, refusal_of, add_event, after_run}
 use Rattle.act_rules.proofs.Growth.{added_grows}
@@ -62,11 +62,6 @@ ended_by a h items = (contains a h.killed || has_terminated items) || contains a
 
 -- each accepted event leaves an ended actor ended, and its run list as it is
 pub ended_stays : (a : ℕ) (items : List RunItem) → IsKept (HasEnded a items)
-ended_stays a items h (Submit c b method args) held accepted = record { ended = held.ended; same = held.same }
-ended_stays a items h (Copy c b) held accepted = record { ended = held.ended; same = held.same }
-ended_stays a items h (Release c b) held accepted = record { ended = held.ended; same = held.same }
-ended_stays a items h (Send c k) held accepted = record { ended = held.ended; same = held.same }
-ended_stays a items h (Deliver i) held accepted = record { ended = held.ended; same = held.same }
 ended_stays a items h (Run b c) held accepted = go (next_item b c h)
   where
     go : (o : Option RunItem) → HasEnded a items (after_run b c h o)
@@ -74,11 +69,9 @@ ended_stays a items h (Run b c) held accepted = go (next_item b c h)
     go (Some item) =
         let stays = other_run a b h item held.ended (run_needs h b c accepted).2 in
         record { ended = subst (λ (items : List RunItem). ended_by a h items ≡ true) (sym stays) held.ended; same = stays ∙ held.same }
-ended_stays a items h (Collect j) held accepted = record { ended = held.ended; same = held.same }
-ended_stays a items h (AskKill c b) held accepted = record { ended = held.ended; same = held.same }
 ended_stays a items h (TakeKill b) held accepted = record { ended = more_or (is_dead a h) (is_retired a h) (contains a (h.killed ++ b ∷ []) || has_terminated (runs_of a h)) held.ended (λ dead. more_or (contains a h.killed) (has_terminated (runs_of a h)) (contains a (h.killed ++ b ∷ [])) dead (contains_more a h.killed (b ∷ []))); same = held.same }
-ended_stays a items h (Tell b c) held accepted = record { ended = held.ended; same = held.same }
 ended_stays a items h (Retire b) held accepted = record { ended = or_retired _ _ _ held.ended (contains_more a h.retired (b ∷ [])); same = held.same }
+ended_stays a items h other held accepted = record { ended = held.ended; same = held.same }
 
 -- ---- a dead actor stays dead
 
@@ -119,18 +112,9 @@ follows_run h b c item last live a = rw (under-push a b h.ran item) (go (b == a)
 
 -- each accepted event keeps it that nothing follows an end in a run list
 pub nothing_follows_step : IsKept NothingFollows
-nothing_follows_step h (Submit c b method args) last accepted = last
-nothing_follows_step h (Copy c b) last accepted = last
-nothing_follows_step h (Release c b) last accepted = last
-nothing_follows_step h (Send c k) last accepted = last
-nothing_follows_step h (Deliver i) last accepted = last
 nothing_follows_step h (Run b c) last accepted = go (next_item b c h)
   where
     go : (o : Option RunItem) → NothingFollows (after_run b c h o)
     go None = last
     go (Some item) = follows_run h b c item last (run_needs h b c accepted).2
-nothing_follows_step h (Collect j) last accepted = last
-nothing_follows_step h (AskKill c b) last accepted = last
-nothing_follows_step h (TakeKill b) last accepted = last
-nothing_follows_step h (Tell b c) last accepted = last
-nothing_follows_step h (Retire b) last accepted = last
+nothing_follows_step h other last accepted = last

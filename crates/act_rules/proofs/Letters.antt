@@ -1,8 +1,8 @@
 -- Each call letter names a call that stands, with arguments that are known.
 use Rattle.act_rules.proofs.Common.{◌≡◌, ℕ, zero, suc, ◌+◌, Bool, true, false, cond, List, [], ◌∷◌, length, Some, None, refl, ap, sym, ◌∙◌, subst, arith}
 use Rattle.act_rules.proofs.Common.{Option, ◌==◌, ◌||◌, ◌&&◌, not, filter, slice_get, take, option_map, is_some, AllByRecursion, list_all, enumerate_from}
-use Rattle.act_rules.proofs.Common.{eq-eqb, eqb-true, and_parts, RunItem, Event, Submit, Copy, Release, Send, Deliver, Run, Collect, AskKill, TakeKill, Tell}
-use Rattle.act_rules.proofs.Common.{Retire, NoCaller, Sending, NotReady, Answered, Submission, calls_to, number_of, needs, is_known, kept_at, send_refusal}
+use Rattle.act_rules.proofs.Common.{eq-eqb, eqb-true, and_parts, RunItem, Event, Release, Send, Deliver, Run}
+use Rattle.act_rules.proofs.Common.{NoCaller, Sending, NotReady, Answered, Submission, calls_to, number_of, needs, is_known, kept_at, send_refusal}
 use Rattle.act_rules.proofs.Common.{Letter, History, calls_of, kept_of, is_caller, is_letter, has_letter, next_item, refusal_of, add_event, and_also, after_run}
 use Rattle.act_rules.proofs.Common.{call_letter, was_sent, is_last, IsPrefix, list_any-append, or_right, slice_get_last, ◌++◌}
 use Rattle.act_rules.specs.declared.history.Letter.TheVariants.{Call as CallLetter, Note as NoteLetter}
@@ -68,8 +68,6 @@ letters_stay h g grows s l mail arrived = record {
 }
 
 pub letters_step : (h : History) (event : Event) → PostsAreSound h → LettersAreSound h → refusal_of h event ≡ None → LettersAreSound (add_event h event)
-letters_step h (Submit c a method args) s l accepted = letters_stay h _ (added_grows h (Submit c a method args)) s l refl refl
-letters_step h (Copy c a) s l accepted = letters_stay h _ (added_grows h (Copy c a)) s l refl refl
 letters_step h (Release c a) s l accepted = record {
   mail = go (is_last c a h);
   arrived = All_weaker (IsSoundLetter h) (IsSoundLetter (add_event h (Release c a))) h.arrived (letter_grows h (add_event h (Release c a)) (added_grows h (Release c a)) s) l.arrived;
@@ -102,11 +100,7 @@ letters_step h (Run a c) s l accepted = go (next_item a c h)
     go : (o : Option RunItem) → LettersAreSound (after_run a c h o)
     go None = l
     go (Some item) = letters_stay h _ (after_run_grows a c h (Some item)) s l refl refl
-letters_step h (Collect j) s l accepted = letters_stay h _ (added_grows h (Collect j)) s l refl refl
-letters_step h (AskKill c a) s l accepted = letters_stay h _ (added_grows h (AskKill c a)) s l refl refl
-letters_step h (TakeKill a) s l accepted = letters_stay h _ (added_grows h (TakeKill a)) s l refl refl
-letters_step h (Tell a c) s l accepted = letters_stay h _ (added_grows h (Tell a c)) s l refl refl
-letters_step h (Retire a) s l accepted = letters_stay h _ (added_grows h (Retire a)) s l refl refl
+letters_step h event s l accepted = letters_stay h _ (added_grows h event) s l refl refl
 
 -- ---- what stands behind a letter that has arrived
 

@@ -1,7 +1,7 @@
 -- A caller's calls without an answer never are more than their actor's limit.
 use Rattle.act_rules.proofs.Common.{◌≡◌, ℕ, ◌+◌, ◌<◌, ◌≤◌, Bool, true, false, cond, List, [], ◌∷◌, ◌++◌, length, Some, None, refl, ap, sym, ◌∙◌, subst, arith}
 use Rattle.act_rules.proofs.Common.{length-append, Option, ◌==◌, filter, option_map, is_none, nat_lt, eqb-true, ltb-true, append-nil, filter-append, Arg}
-use Rattle.act_rules.proofs.Common.{Method, RunItem, Event, Submit, Copy, Release, Send, Deliver, Run, Collect, AskKill, TakeKill, Tell, Retire, PendingLimit}
+use Rattle.act_rules.proofs.Common.{Method, RunItem, Event, Submit, Run, PendingLimit}
 use Rattle.act_rules.proofs.Common.{Submission, Answer, calls_to, kept_at, submit_refusal, limit_refusal, ActorSpec, History, opening, under, is_caller}
 use Rattle.act_rules.proofs.Common.{calls_of, copies_of, limit_of, kept_of, next_item, unanswered, submission_refusal, refusal_of, add_event, after_run}
 use Rattle.act_rules.proofs.Common.{after_all}
@@ -86,20 +86,12 @@ grown h d b method args sound within accepted c a limit is =
 
 within_step : (h : History) (event : Event) → PostsAreSound h → AreWithin h → refusal_of h event ≡ None → AreWithin (add_event h event)
 within_step h (Submit c a method args) sound within accepted = grown h c a method args sound within accepted
-within_step h (Copy c a) sound within accepted = calm h (add_event h (Copy c a)) (added_grows h (Copy c a)) sound refl within
-within_step h (Release c a) sound within accepted = calm h (add_event h (Release c a)) (added_grows h (Release c a)) sound refl within
-within_step h (Send c k) sound within accepted = calm h (add_event h (Send c k)) (added_grows h (Send c k)) sound refl within
-within_step h (Deliver i) sound within accepted = calm h (add_event h (Deliver i)) (added_grows h (Deliver i)) sound refl within
 within_step h (Run a c) sound within accepted = calm h (add_event h (Run a c)) (added_grows h (Run a c)) sound (go (next_item a c h)) within
   where
     go : (o : Option RunItem) → (after_run a c h o).submitted ≡ h.submitted
     go None = refl
     go (Some item) = refl
-within_step h (Collect j) sound within accepted = calm h (add_event h (Collect j)) (added_grows h (Collect j)) sound refl within
-within_step h (AskKill c a) sound within accepted = calm h (add_event h (AskKill c a)) (added_grows h (AskKill c a)) sound refl within
-within_step h (TakeKill a) sound within accepted = calm h (add_event h (TakeKill a)) (added_grows h (TakeKill a)) sound refl within
-within_step h (Tell a c) sound within accepted = calm h (add_event h (Tell a c)) (added_grows h (Tell a c)) sound refl within
-within_step h (Retire a) sound within accepted = calm h (add_event h (Retire a)) (added_grows h (Retire a)) sound refl within
+within_step h event sound within accepted = calm h (add_event h event) (added_grows h event) sound refl within
 
 -- what a step relies on, and what it keeps
 record AreSoundWithin (h : History) : Type 0 where

@@ -1,7 +1,7 @@
 -- What an actor ran of a caller's calls is a prefix of the caller's calls to it, each as it was submitted.
 use Rattle.act_rules.proofs.Common.{◌≡◌, ℕ, ◌+◌, Bool, true, false, cond, List, [], ◌∷◌, ◌++◌, length, Some, None, refl, ap, sym, ◌∙◌, subst, arith, Option}
 use Rattle.act_rules.proofs.Common.{◌==◌, map, slice_get, option_map, enumerate_from, eqb-true, map-append, append-nil, length-map, slice_get-map, RunItem}
-use Rattle.act_rules.proofs.Common.{Event, Submit, Copy, Release, Send, Deliver, Run, Collect, AskKill, TakeKill, Tell, Retire, items_of, Submission, calls_to}
+use Rattle.act_rules.proofs.Common.{Event, Submit, Run, items_of, Submission, calls_to}
 use Rattle.act_rules.proofs.Common.{IsPrefix, History, under, runs_of, calls_of, kept_of, ran_count, has_letter, run_item, next_item, add_event, after_run}
 use Rattle.act_rules.specs.declared.history.Letter.TheVariants.{Call as CallLetter}
 use Rattle.act_rules.proofs.Lists.{front_trans, front_next, slice_get-enumerate_from, IsPrefix-map, IsPrefix-enumerate}
@@ -78,17 +78,9 @@ order_stays h g grows order ran a c =
 
 pub order_step : (h : History) (event : Event) → InOrder h → InOrder (add_event h event)
 order_step h (Submit c a method args) order = order_stays h _ (added_grows h (Submit c a method args)) order refl
-order_step h (Copy c a) order = order
-order_step h (Release c a) order = order
-order_step h (Send c k) order = order
-order_step h (Deliver i) order = order
 order_step h (Run a c) order = go (next_item a c h) refl
   where
     go : (o : Option RunItem) → next_item a c h ≡ o → InOrder (after_run a c h o)
     go None e = order
     go (Some item) e = order_run a c h item (next_item_is a c h item e) order
-order_step h (Collect j) order = order
-order_step h (AskKill c a) order = order
-order_step h (TakeKill a) order = order
-order_step h (Tell a c) order = order
-order_step h (Retire a) order = order
+order_step h event order = order

@@ -264,14 +264,8 @@ module _ (c : ℕ) (casts : List ActorSpec) (differ : Differ casts) where
         copied = agrees.copied;
         released = others c d h.released _ p.released e agrees.released;
       })
-  moves h (Send d k) p through agrees = quiet h (Send d k) p agrees (alike h _ p refl refl refl refl agrees)
-  moves h (Deliver i) p through agrees = quiet h (Deliver i) p agrees (alike h _ p refl refl refl refl agrees)
   moves h (Run a d) p through agrees = quiet h (Run a d) p agrees (run_agrees a d h p (next_item a d h) agrees)
-  moves h (Collect j) p through agrees = quiet h (Collect j) p agrees (alike h _ p refl refl refl refl agrees)
-  moves h (AskKill d a) p through agrees = quiet h (AskKill d a) p agrees (alike h _ p refl refl refl refl agrees)
-  moves h (TakeKill a) p through agrees = quiet h (TakeKill a) p agrees (alike h _ p refl refl refl refl agrees)
-  moves h (Tell a d) p through agrees = quiet h (Tell a d) p agrees (alike h _ p refl refl refl refl agrees)
-  moves h (Retire a) p through agrees = quiet h (Retire a) p agrees (alike h _ p refl refl refl refl agrees)
+  moves h event p through agrees = quiet h event p agrees (alike h _ p refl refl refl refl agrees)
 
   all_agree : (h : History) (events : List Event) (p : Progress) → Agrees c casts h p → Agrees c casts (after_all h events) (moved_all c (actors_naming c casts) p (let_through h events))
   all_agree h [] p agrees = agrees
@@ -292,14 +286,7 @@ unmoved : (c : ℕ) (actors : List ℕ) (p : Progress) (event : Event) → is_pl
 unmoved c actors p (Submit d a method args) e = rw e refl
 unmoved c actors p (Copy d a) e = rw e refl
 unmoved c actors p (Release d a) e = rw e refl
-unmoved c actors p (Send d k) e = refl
-unmoved c actors p (Deliver i) e = refl
-unmoved c actors p (Run a d) e = refl
-unmoved c actors p (Collect j) e = refl
-unmoved c actors p (AskKill d a) e = refl
-unmoved c actors p (TakeKill a) e = refl
-unmoved c actors p (Tell a d) e = refl
-unmoved c actors p (Retire a) e = refl
+unmoved c actors p event e = refl
 
 moved_all-filter : (c : ℕ) (actors : List ℕ) (p : Progress) (events : List Event) → moved_all c actors p (filter (is_planned_by c) events) ≡ moved_all c actors p events
 moved_all-filter c actors p [] = refl
@@ -317,11 +304,9 @@ either false x = refl
 -- a plan's events move what its steps do
 moved_all-events_of : (c : ℕ) (actors : List ℕ) (p : Progress) (plan : List Step) → moved_all c actors p (events_of c plan) ≡ done_by actors p plan
 moved_all-events_of c actors p [] = refl
-moved_all-events_of c actors p (step.Submit a method args ∷ plan) = let same : (c == c) ≡ true = eq-eqb c c refl in rw same (moved_all-events_of c actors (next actors p (step.Submit a method args)) plan)
-moved_all-events_of c actors p (step.Copy a ∷ plan) = let same : (c == c) ≡ true = eq-eqb c c refl in rw same (moved_all-events_of c actors (next actors p (step.Copy a)) plan)
-moved_all-events_of c actors p (step.Release a ∷ plan) = let same : (c == c) ≡ true = eq-eqb c c refl in rw same (moved_all-events_of c actors (next actors p (step.Release a)) plan)
 moved_all-events_of c actors p (step.Kill a ∷ plan) = moved_all-events_of c actors p plan ∙ ap (λ q. done_by actors q plan) (sym (either (is_refused actors p (step.Kill a)) p))
 moved_all-events_of c actors p (step.Await k ∷ plan) = moved_all-events_of c actors p plan ∙ ap (λ q. done_by actors q plan) (sym (either (is_refused actors p (step.Await k)) p))
+moved_all-events_of c actors p (other ∷ plan) = let same : (c == c) ≡ true = eq-eqb c c refl in rw same (moved_all-events_of c actors (next actors p (other)) plan)
 
 -- ---- the law
 

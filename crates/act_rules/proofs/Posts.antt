@@ -1,6 +1,6 @@
 -- Each post names a place of the run list that stands, or an actor that is dead.
 use Rattle.act_rules.proofs.Common.{◌≡◌, ℕ, Bool, true, false, cond, List, [], ◌∷◌, ◌++◌, length, Some, None, refl, ap, sym, Option, slice_get, option_map}
-use Rattle.act_rules.proofs.Common.{AllByRecursion, eq-eqb, RunItem, Event, Submit, Copy, Release, Send, Deliver, Run, Collect, AskKill, TakeKill, Tell, Retire}
+use Rattle.act_rules.proofs.Common.{AllByRecursion, eq-eqb, RunItem, Event, Run, Collect, Tell}
 use Rattle.act_rules.proofs.Common.{NoCaller, Handle, NotDead, NoActor, Submission, calls_to, needs, Post, History, under, runs_of, calls_of, kept_of, cast_of}
 use Rattle.act_rules.proofs.Common.{names, is_caller, is_dead, has_letter, ran_count, run_item, next_item, refusal_of, add_event, and_also, after_run}
 use Rattle.act_rules.proofs.Common.{slice_get_last}
@@ -57,11 +57,6 @@ posts_stay h event accepted s posts collected = record {
 
 -- each accepted event keeps the posts sound
 pub posts_step : IsKept PostsAreSound
-posts_step h (Submit c a method args) s accepted = posts_stay h (Submit c a method args) accepted s refl refl
-posts_step h (Copy c a) s accepted = posts_stay h (Copy c a) accepted s refl refl
-posts_step h (Release c a) s accepted = posts_stay h (Release c a) accepted s refl refl
-posts_step h (Send c k) s accepted = posts_stay h (Send c k) accepted s refl refl
-posts_step h (Deliver i) s accepted = posts_stay h (Deliver i) accepted s refl refl
 posts_step h (Run a c) s accepted = go (next_item a c h) refl (all_stay h (Run a c) h.posts accepted s.posts) (all_stay h (Run a c) h.collected accepted s.collected)
   where
     go : (o : Option RunItem) → next_item a c h ≡ o → AllByRecursion (IsSoundPost (after_run a c h o)) h.posts → AllByRecursion (IsSoundPost (after_run a c h o)) h.collected → PostsAreSound (after_run a c h o)
@@ -78,10 +73,8 @@ posts_step h (Collect j) s accepted = go (slice_get h.posts j) refl
       posts = s.posts;
       collected = All_more (IsSoundPost h) h.collected post s.collected (All_at (IsSoundPost h) h.posts j post s.posts e);
     }
-posts_step h (AskKill c a) s accepted = posts_stay h (AskKill c a) accepted s refl refl
-posts_step h (TakeKill a) s accepted = posts_stay h (TakeKill a) accepted s refl refl
 posts_step h (Tell a c) s accepted = record {
   posts = All_more (IsSoundPost h) h.posts (DeathPost c a) s.posts (tell_needs h a c accepted);
   collected = s.collected;
 }
-posts_step h (Retire a) s accepted = posts_stay h (Retire a) accepted s refl refl
+posts_step h other s accepted = posts_stay h other accepted s refl refl

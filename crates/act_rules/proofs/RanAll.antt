@@ -2,7 +2,7 @@
 use Rattle.act_rules.proofs.Common.{◌≡◌, ℕ, ◌+◌, ◌≤◌, Bool, true, false, cond, List, [], ◌∷◌, ◌++◌, length, Some, None, refl, ap, sym, ◌∙◌, subst, arith}
 use Rattle.act_rules.proofs.Common.{◌⊎◌, inl, inr, ⊎_elim, ◌-◌, Option, ◌==◌, ◌||◌, not, map, filter, find, slice_get, is_some, AllByRecursion}
 use Rattle.act_rules.proofs.Common.{list_all, eqb-true, and_parts, or_right, length-map}
-use Rattle.act_rules.proofs.Common.{length-enumerate_from, RunItem, Event, Submit, Copy, Release, Send, Deliver, Run, Collect, AskKill, TakeKill, Tell, Retire}
+use Rattle.act_rules.proofs.Common.{length-enumerate_from, RunItem, Event, Submit, Run, Retire}
 use Rattle.act_rules.proofs.Common.{Handle, ActorEnded, NotDrained, NoActor, items_of, Submission, calls_to, needs, ActorSpec, History}
 use Rattle.act_rules.proofs.Common.{opening, contains, callers_in, cast_of, names, calls_of, count_pairs, copies_of, runs_of, ran_count}
 use Rattle.act_rules.proofs.Common.{is_done, is_drained, is_dead, is_retired, is_ended, next_item, refusal_of, add_event, after_run, after_all}
@@ -39,20 +39,12 @@ copies_named c a h e = go (names c (cast_of a h)) ((1 + count_pairs c a h.copied
 
 pub named_step : IsKept AllNamed
 named_step h (Submit c a method args) s accepted = All_more (IsNamed h) h.submitted (c, record { actor = a; method = method; args = args }) s (copies_named c a h (submit_needs h c a method args accepted).0)
-named_step h (Copy c a) s accepted = s
-named_step h (Release c a) s accepted = s
-named_step h (Send c k) s accepted = s
-named_step h (Deliver i) s accepted = s
 named_step h (Run a c) s accepted = go (next_item a c h)
   where
     go : (o : Option RunItem) → AllNamed (after_run a c h o)
     go None = s
     go (Some item) = s
-named_step h (Collect j) s accepted = s
-named_step h (AskKill c a) s accepted = s
-named_step h (TakeKill a) s accepted = s
-named_step h (Tell a c) s accepted = s
-named_step h (Retire a) s accepted = s
+named_step h other s accepted = s
 
 -- ---- a retired actor is drained
 
@@ -92,24 +84,16 @@ retired_or (x ∷ xs) a b e = go (x == a) (retired_or xs a b) e
     go false rest e = rest e
 
 pub retired_step : IsKept RetiredDrained
-retired_step h (Submit c a method args) s accepted x retired = stays_drained h (Submit c a method args) accepted s x retired
-retired_step h (Copy c a) s accepted x retired = stays_drained h (Copy c a) accepted s x retired
-retired_step h (Release c a) s accepted x retired = stays_drained h (Release c a) accepted s x retired
-retired_step h (Send c k) s accepted x retired = stays_drained h (Send c k) accepted s x retired
-retired_step h (Deliver i) s accepted x retired = stays_drained h (Deliver i) accepted s x retired
 retired_step h (Run a c) s accepted b retired = stays_drained h (Run a c) accepted s b (go (next_item a c h) retired)
   where
     go : (o : Option RunItem) → is_retired b (after_run a c h o) ≡ true → is_retired b h ≡ true
     go None e = e
     go (Some item) e = e
-retired_step h (Collect j) s accepted x retired = stays_drained h (Collect j) accepted s x retired
-retired_step h (AskKill c a) s accepted x retired = stays_drained h (AskKill c a) accepted s x retired
-retired_step h (TakeKill a) s accepted x retired = stays_drained h (TakeKill a) accepted s x retired
-retired_step h (Tell a c) s accepted x retired = stays_drained h (Tell a c) accepted s x retired
 retired_step h (Retire b) s accepted a retired =
     ⊎_elim (λ (before : is_retired a h ≡ true). stays_drained h (Retire b) accepted s a before)
     (λ (same : b ≡ a). subst (λ (x : ℕ). is_drained x h ≡ true) same (retire_needs h b accepted))
     (retired_or h.retired a b retired)
+retired_step h other s accepted x retired = stays_drained h other accepted s x retired
 
 -- ---- all of them
 

@@ -15,27 +15,13 @@ use Rattle.act_rules.proofs.Marks.{closed_some}
 
 pub kind_reads_back : ReadsBack always kind_text (named_by kind_text all_kinds)
 kind_reads_back kind.Counter h = refl
-kind_reads_back kind.Table h = refl
-kind_reads_back kind.Account h = refl
-kind_reads_back kind.ListKind h = refl
+kind_reads_back other h = refl
 
 -- a method that a script can write is read back from its text
 pub method_reads_back : ReadsBack is_sayable_method method_text method_at
 unfolding method_at
-method_reads_back method.Add h = refl
-method_reads_back method.Get h = refl
-method_reads_back method.Put h = refl
-method_reads_back method.Del h = refl
-method_reads_back method.Size h = refl
-method_reads_back method.Deposit h = refl
-method_reads_back method.Withdraw h = refl
-method_reads_back method.Balance h = refl
-method_reads_back method.Push h = refl
-method_reads_back method.Pop h = refl
-method_reads_back method.At h = refl
-method_reads_back method.Len h = refl
-method_reads_back method.Terminate h = refl
 method_reads_back (method.Own n) h = absurd (cc h)
+method_reads_back other h = refl
 
 -- ---- numbers
 

@@ -2,7 +2,7 @@
 use Rattle.act_rules.proofs.Common.{◌≡◌, ℕ, ◌+◌, ◌-◌, Bool, true, false, cond, List, [], ◌∷◌, ◌++◌, length, Some, None, refl, ap, sym, ◌∙◌, arith}
 use Rattle.act_rules.proofs.Common.{length-append, Option, ◌==◌, ◌&&◌, slice_get, option_map, is_some, nat_lt, nat_le, AllByRecursion, list_all, eqb-true}
 use Rattle.act_rules.proofs.Common.{eq-eqb, and_parts, and_from, append-nil, filter-append, Arg, Method, RunItem, Event, Submit, Copy, Release, Send, Deliver}
-use Rattle.act_rules.proofs.Common.{Run, Collect, AskKill, TakeKill, Tell, Retire, NoActor, NoHandle, TooManyCopies, Submission, calls_to, needs, copies_held}
+use Rattle.act_rules.proofs.Common.{Run, NoActor, NoHandle, TooManyCopies, Submission, calls_to, needs, copies_held}
 use Rattle.act_rules.proofs.Common.{copy_refusal, submit_refusal, limit_refusal, is_earlier, Letter, History, cast_of, names, is_caller, calls_of, under}
 use Rattle.act_rules.proofs.Common.{count_pairs, copies_of, limit_of, next_item, unanswered, submission_refusal, refusal_of, add_event, and_also, after_run}
 use Rattle.act_rules.proofs.Common.{call_letter, is_last}
@@ -99,18 +99,12 @@ gone_step c a h (Release d b) gone accepted = record {
   gone = rw (times-push c a d b h.released) (held_less (names c (cast_of a h)) (1 + count_pairs c a h.copied) (count_pairs c a h.released) (cond ((d == c) && (b == a)) 1 0) gone);
   calls = refl;
 }
-gone_step c a h (Send d k) gone accepted = record { gone = gone; calls = refl }
-gone_step c a h (Deliver i) gone accepted = record { gone = gone; calls = refl }
 gone_step c a h (Run b d) gone accepted = go (next_item b d h)
   where
     go : (o : Option RunItem) → StaysGone c a h (after_run b d h o)
     go None = record { gone = gone; calls = refl }
     go (Some item) = record { gone = gone; calls = refl }
-gone_step c a h (Collect j) gone accepted = record { gone = gone; calls = refl }
-gone_step c a h (AskKill d b) gone accepted = record { gone = gone; calls = refl }
-gone_step c a h (TakeKill b) gone accepted = record { gone = gone; calls = refl }
-gone_step c a h (Tell b d) gone accepted = record { gone = gone; calls = refl }
-gone_step c a h (Retire b) gone accepted = record { gone = gone; calls = refl }
+gone_step c a h event gone accepted = record { gone = gone; calls = refl }
 
 -- ---- a note says how many calls there are, for good
 
@@ -172,8 +166,4 @@ notes_step h (Run a c) s accepted = go (next_item a c h)
     go : (o : Option RunItem) → NotesAreSound (after_run a c h o)
     go None = s
     go (Some item) = record { mail = s.mail; arrived = s.arrived }
-notes_step h (Collect j) s accepted = record { mail = s.mail; arrived = s.arrived }
-notes_step h (AskKill c a) s accepted = record { mail = s.mail; arrived = s.arrived }
-notes_step h (TakeKill a) s accepted = record { mail = s.mail; arrived = s.arrived }
-notes_step h (Tell a c) s accepted = record { mail = s.mail; arrived = s.arrived }
-notes_step h (Retire a) s accepted = record { mail = s.mail; arrived = s.arrived }
+notes_step h other s accepted = record { mail = s.mail; arrived = s.arrived }

@@ -46,8 +46,7 @@ do_step p (Submit a method args) = record p {
 }
 do_step p (Copy a) = record p { copied = p.copied ++ a ∷ [] }
 do_step p (Release a) = record p { released = p.released ++ a ∷ [] }
-do_step p (Kill a) = p
-do_step p (Await k) = p
+do_step p step = p
 
 -- what a plan leaves: a refused step adds nothing
 abbrev pub done_by : List ℕ → Progress → List Step → Progress
@@ -83,8 +82,7 @@ abbrev pub events_for : ℕ → Step → List Event
 events_for c (Submit a method args) = event.Submit c a method args ∷ []
 events_for c (Copy a) = event.Copy c a ∷ []
 events_for c (Release a) = event.Release c a ∷ []
-events_for c (Kill a) = []
-events_for c (Await k) = []
+events_for c step = []
 
 -- the events of a caller's plan
 abbrev pub events_of : ℕ → List Step → List Event
