@@ -100,7 +100,7 @@ finish specs plans c before (Await k ∷ steps) closing p play is left does =
       },
     )
 finish specs plans c before (step ∷ steps) closing p play is left does = let s =
-    silent_step specs c (step) (steps ++ closings closing) before does in absurd (no_event s.does)
+    silent_step specs c step (steps ++ closings closing) before does in absurd (no_event s.does)
 
 -- what another caller still does stays
 left_stays : (specs : List ActorSpec) (plans : ℕ → List Step) (before later : List Event) (p q : At) (d : ℕ) → steps_of d q ≡ steps_of d p

@@ -306,7 +306,7 @@ moved_all-events_of : (c : ℕ) (actors : List ℕ) (p : Progress) (plan : List 
 moved_all-events_of c actors p [] = refl
 moved_all-events_of c actors p (step.Kill a ∷ plan) = moved_all-events_of c actors p plan ∙ ap (λ q. done_by actors q plan) (sym (either (is_refused actors p (step.Kill a)) p))
 moved_all-events_of c actors p (step.Await k ∷ plan) = moved_all-events_of c actors p plan ∙ ap (λ q. done_by actors q plan) (sym (either (is_refused actors p (step.Await k)) p))
-moved_all-events_of c actors p (other ∷ plan) = let same : (c == c) ≡ true = eq-eqb c c refl in rw same (moved_all-events_of c actors (next actors p (other)) plan)
+moved_all-events_of c actors p (other ∷ plan) = let same : (c == c) ≡ true = eq-eqb c c refl in rw same (moved_all-events_of c actors (next actors p other) plan)
 
 -- ---- the law
 
