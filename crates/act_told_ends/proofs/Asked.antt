@@ -1,6 +1,6 @@
 -- Of a plan of which no step is refused, the kill that comes next can be asked.
 use Rattle.act_early.proofs.Common.{◌≡◌, ◌≢◌, ℕ, zero, suc, ◌+◌, ◌-◌, Bool, true, false, cond, List, [], ◌∷◌, length, take, filter, Option, Some, None, refl, ap}
-use Rattle.act_early.proofs.Common.{sym, ◌∙◌, arith, ◌==◌, find, slice_get, is_some, list_any, slice_get_within, Step, Submit, Copy, Release, Kill}
+use Rattle.act_early.proofs.Common.{sym, ◌∙◌, arith, ◌==◌, find, slice_get, is_some, list_any, slice_get_within, Step, Copy, Release, Kill}
 use Rattle.act_early.proofs.Common.{Await, handle_refusal, ActorSpec, History, names, cast_of, is_caller, count_pairs, copies_of, refusal_of, occurrences}
 use Rattle.std.specs.Prelude.{AllPairs}
 use Rattle.act_rules.specs.declared.event.Event.TheVariants as event
@@ -44,10 +44,9 @@ did_copied a p [] = omega arith
 did_copied a p (Copy b ∷ steps) = did_copied a (do_step p (Copy b)) steps
     ∙ ap (λ (n : ℕ). n + length (filter (copies a) steps)) (occurrences-push a b p.copied)
     ∙ counted (occurrences a p.copied) (b == a) (length (filter (copies a) steps)) (Copy b) (filter (copies a) steps) refl
-did_copied a p (Submit b method args ∷ steps) = did_copied a (do_step p (Submit b method args)) steps
-did_copied a p (Release b ∷ steps) = did_copied a (do_step p (Release b)) steps
 did_copied a p (Kill b ∷ steps) = did_copied a p steps
 did_copied a p (Await k ∷ steps) = did_copied a p steps
+did_copied a p (step ∷ steps) = did_copied a (do_step p step) steps
 
 did_released : (a : ℕ) (p : Progress) (steps : List Step)
     → occurrences a (did p steps).released ≡ occurrences a p.released + length (filter (releases a) steps)
@@ -55,10 +54,9 @@ did_released a p [] = omega arith
 did_released a p (Release b ∷ steps) = did_released a (do_step p (Release b)) steps
     ∙ ap (λ (n : ℕ). n + length (filter (releases a) steps)) (occurrences-push a b p.released)
     ∙ counted (occurrences a p.released) (b == a) (length (filter (releases a) steps)) (Release b) (filter (releases a) steps) refl
-did_released a p (Submit b method args ∷ steps) = did_released a (do_step p (Submit b method args)) steps
-did_released a p (Copy b ∷ steps) = did_released a (do_step p (Copy b)) steps
 did_released a p (Kill b ∷ steps) = did_released a p steps
 did_released a p (Await k ∷ steps) = did_released a p steps
+did_released a p (step ∷ steps) = did_released a (do_step p step) steps
 
 -- ---- the kill
 

@@ -13,14 +13,8 @@ abbrev step_in : ℕ → Event → Option Step
 step_in c (event.Submit d a method args) = cond (d == c) (Some (Submit a method args)) None
 step_in c (event.Copy d a) = cond (d == c) (Some (Copy a)) None
 step_in c (event.Release d a) = cond (d == c) (Some (Release a)) None
-step_in c (event.Send d k) = None
-step_in c (event.Deliver i) = None
-step_in c (event.Run a d) = None
-step_in c (event.Collect j) = None
 step_in c (event.AskKill d a) = cond (d == c) (Some (Kill a)) None
-step_in c (event.TakeKill a) = None
-step_in c (event.Tell a d) = None
-step_in c (event.Retire a) = None
+step_in c other = None
 
 -- what it does
 abbrev Does : List ActorSpec → ℕ → Event → List Event → Option Step → Type 0
@@ -41,15 +35,9 @@ does_one casts c (event.Copy d a) before = of_whom c d (Does casts c (event.Copy
     (λ same. ap (λ (x : ℕ). event.Copy x a ∷ []) same)
 does_one casts c (event.Release d a) before = of_whom c d (Does casts c (event.Release d a) before) (Release a) (λ none. none)
     (λ same. ap (λ (x : ℕ). event.Release x a ∷ []) same)
-does_one casts c (event.Send d k) before = refl
-does_one casts c (event.Deliver i) before = refl
-does_one casts c (event.Run a d) before = refl
-does_one casts c (event.Collect j) before = refl
 does_one casts c (event.AskKill d a) before = of_whom c d (Does casts c (event.AskKill d a) before) (Kill a) (λ none. none)
     (λ same. inl (ap (λ (x : ℕ). event.AskKill x a ∷ []) same))
-does_one casts c (event.TakeKill a) before = refl
-does_one casts c (event.Tell a d) before = refl
-does_one casts c (event.Retire a) before = refl
+does_one casts c other before = refl
 
 -- an event that is none of the caller's steps comes first
 comes_first : (casts : List ActorSpec) (c : ℕ) (steps : List Step) (before : List Event) (other : Event) (events : List Event) → is_step_by c other ≡ false

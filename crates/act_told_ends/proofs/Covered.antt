@@ -1,7 +1,7 @@
 -- What it means that the walk did all that a play did so far, and what follows of calls, answers and deaths.
 use Rattle.act_early.proofs.Common.{◌≡◌, ℕ, ◌≤◌, true, List, length, take, Option, Some, None, refl, ap, sym, ◌∙◌, subst, cond, ◌+◌, ◌-◌}
 use Rattle.act_early.proofs.Common.{Contains, ◌==◌, ◌||◌, filter, filter_map, find, slice_get, is_some, list_any, RunItem, Submission, Step, Submit}
-use Rattle.act_early.proofs.Common.{Copy, Release, Kill, Await, Answer, kept_at, has_terminated, ActorSpec, History, names, contains, cast_of, is_caller, count_pairs}
+use Rattle.act_early.proofs.Common.{Answer, kept_at, has_terminated, ActorSpec, History, names, contains, cast_of, is_caller, count_pairs}
 use Rattle.act_early.proofs.Common.{calls_of, runs_of, kept_of, is_dead, IsPrefix, slice_get_front, limit_of-same}
 use Rattle.act_early.proofs.Common.{Extends, At, steps_of, next_step, IsPlay, slice_get_within}
 use Rattle.act_rules.specs.declared.history.Post.TheVariants.{Reply as ReplyPost, Death as DeathPost}
@@ -42,24 +42,15 @@ pub record IsCovered (bound : ℕ → Option (List Step)) (told : Told) (done : 
 
 pub same_submission : (step : Step) → submission_in step ≡ submission_of step
 same_submission (Submit a method args) = refl
-same_submission (Copy a) = refl
-same_submission (Release a) = refl
-same_submission (Kill a) = refl
-same_submission (Await k) = refl
+same_submission step = refl
 
 pub same_copy : (a : ℕ) (step : Step) → is_copy_of a step ≡ copies a step
 same_copy a (Submit b method args) = refl
-same_copy a (Copy b) = refl
-same_copy a (Release b) = refl
-same_copy a (Kill b) = refl
-same_copy a (Await k) = refl
+same_copy a step = refl
 
 pub same_release : (a : ℕ) (step : Step) → is_release_of a step ≡ releases a step
 same_release a (Submit b method args) = refl
-same_release a (Copy b) = refl
-same_release a (Release b) = refl
-same_release a (Kill b) = refl
-same_release a (Await k) = refl
+same_release a step = refl
 
 -- ---- what stands in the play stands in what is told
 

@@ -1,7 +1,7 @@
 -- One step or event of the play: the walk did it, too, or may go on.
 use Rattle.act_early.proofs.Common.{◌≡◌, ℕ, zero, suc, ◌+◌, ◌<◌, ◌≤◌, Bool, true, false, cond, List, [], ◌∷◌, ◌++◌, length, Option, Some, None, inl, inr, ◌⊎◌, refl, ap, sym}
 use Rattle.act_early.proofs.Common.{◌∙◌, subst, arith, Contains, ◌==◌, ◌||◌, slice_get, filter_map, cases_lt, append-nil, eqb-true, eq-eqb, RunItem}
-use Rattle.act_early.proofs.Common.{Submission, Step, Submit, Copy, Release, Kill, Await, History, under, contains}
+use Rattle.act_early.proofs.Common.{Submission, Step, Submit, Kill, History, under, contains}
 use Rattle.act_early.proofs.Common.{calls_of, runs_of, is_dead, next_item, has_terminated, refusal_of, add_event, after_run}
 use Rattle.act_early.proofs.Common.{IsPrefix, slice_get_front, slice_get_last, under-push, length_push, At, steps_of}
 use Rattle.act_early.proofs.Common.{next_step, taken, skipped, with_event, after_step, MayTake, is_kill_of, Post}
@@ -26,21 +26,15 @@ Near x q = IsCovered x.bound x.told x.done q x.g ⊎ Goal x
 
 pub step_collects : (c : ℕ) (step : Step) (h : History) → (after_step c step h).collected ≡ h.collected
 step_collects c (Submit a method args) h = refl
-step_collects c (Copy a) h = refl
-step_collects c (Release a) h = refl
-step_collects c (Kill a) h = refl
-step_collects c (Await k) h = refl
+step_collects c step h = refl
 
 or_none : (y : Bool) → y ≡ (y || false)
 or_none true = refl
 or_none false = refl
 
 pub step_asks : (c a : ℕ) (step : Step) (h : History) → contains a (after_step c step h).asked ≡ (contains a h.asked || is_kill_of a step)
-step_asks c a (Submit b method args) h = or_none (contains a h.asked)
-step_asks c a (Copy b) h = or_none (contains a h.asked)
-step_asks c a (Release b) h = or_none (contains a h.asked)
 step_asks c a (Kill b) h = contains_push a b h.asked
-step_asks c a (Await k) h = or_none (contains a h.asked)
+step_asks c a step h = or_none (contains a h.asked)
 
 -- what makes a step one that the walk did
 record DidStep (x : Case) (p : At) (c : ℕ) (step : Step) : Type 0 where
@@ -108,11 +102,8 @@ bound_step x p c steps step at is next may = go (steps_on x p c steps step at is
         (there ∙ ap (λ (s : Step). Some s) (is_kill step kill)) (omega (arith, lt))))
       where
         is_kill : (s : Step) → is_kill_of a s ≡ true → s ≡ Kill a
-        is_kill (Submit b method args) e = cc
-        is_kill (Copy b) e = cc
-        is_kill (Release b) e = cc
         is_kill (Kill b) e = ap Kill (eqb-true b a e)
-        is_kill (Await k) e = cc
+        is_kill s e = cc
 
         either : (contains a x.g.asked ≡ true) ⊎ (is_dead a x.g ≡ true) → (contains a x.g.asked || is_dead a x.g) ≡ true
         either (inl e) = ap (λ (y : Bool). y || is_dead a x.g) e
@@ -152,9 +143,6 @@ free_step x p c (Submit a method args) at free may later = go (submits x p c a m
           calls = λ _. subst (λ (calls : List Submission). length calls ≤ length (calls_of c x.g)) (sym after) (omega (arith, long, more));
           asks = λ b kill _. cc;
         }))
-free_step x p c (Copy a) at free may later = idle_step x p c (Copy a) at free (at_most (length (calls_of c p.history))) (λ b. refl)
-free_step x p c (Release a) at free may later = idle_step x p c (Release a) at free (at_most (length (calls_of c p.history))) (λ b. refl)
-free_step x p c (Await k) at free may later = idle_step x p c (Await k) at free (at_most (length (calls_of c p.history))) (λ b. refl)
 free_step x p c (Kill a) at free may later = go (x.told.dead a) refl
   where
     covered : (x.told.dead a ≡ true → (contains a x.g.asked || is_dead a x.g) ≡ true) → IsCovered x.bound x.told x.done (taken c (Kill a) p) x.g
@@ -172,6 +160,7 @@ free_step x p c (Kill a) at free may later = go (x.told.dead a) refl
     go : (y : Bool) → x.told.dead a ≡ y → Near x (taken c (Kill a) p)
     go true dead = either (asks x p c a at free may dead)
     go false lives = inl (covered (λ dead. let bad : true ≡ false = sym dead ∙ lives in cc))
+free_step x p c step at free may later = idle_step x p c step at free (at_most (length (calls_of c p.history))) (λ b. refl)
 
 pub step_near : (x : Case) (p : At) (c : ℕ) (step : Step) → Here x p → next_step x.plans c p ≡ Some step → MayTake c step p.history
     → IsLater (after_step c step p.history) x.late.history → Near x (taken c step p)

@@ -1,7 +1,7 @@
 -- Where replies may stand for deaths that are told, some events end with them.
 use Rattle.act_early.proofs.Common.{◌≡◌, ℕ, Bool, true, false, cond, List, [], ◌∷◌, ◌++◌, length, map, Option, Some, None, inl, inr, refl, ap, sym, ◌∙◌}
 use Rattle.act_early.proofs.Common.{subst, append_assoc, append-nil, All, All-cons, All-nil, All-append, Contains, slice_get, is_some, IsOk, Event, RunItem}
-use Rattle.act_early.proofs.Common.{Step, Submit, Copy, Release, Kill, Await, Answer, kept_at, ActorSpec, History, opening, calls_of, runs_of, kept_of}
+use Rattle.act_early.proofs.Common.{Step, Release, Kill, Await, Answer, kept_at, ActorSpec, History, opening, calls_of, runs_of, kept_of}
 use Rattle.act_early.proofs.Common.{is_dead, is_retired, next_item, refusal_of, add_event, outcomes, Outcome, after, after_all, history, after_all-append}
 use Rattle.act_early.proofs.Common.{outcomes-append, IsSound, sound_step, world_sound, after_all_keeps, added_grows, is_step_by, AreOthers, DoesStepBy}
 use Rattle.act_early.proofs.Common.{DoesStepsBy}
@@ -92,16 +92,7 @@ extra_others x c h (event.Run a d) = go (next_item a d h)
     go : (o : Option RunItem) → AreOthers c (collect_then x d h o)
     go None = none_others c
     go (Some item) = put (is_replaced x d item.future)
-extra_others x c h (event.Submit d a method args) = none_others c
-extra_others x c h (event.Copy d a) = none_others c
-extra_others x c h (event.Release d a) = none_others c
-extra_others x c h (event.Send d k) = none_others c
-extra_others x c h (event.Deliver i) = none_others c
-extra_others x c h (event.Collect j) = none_others c
-extra_others x c h (event.AskKill d a) = none_others c
-extra_others x c h (event.TakeKill a) = none_others c
-extra_others x c h (event.Tell a d) = none_others c
-extra_others x c h (event.Retire a) = none_others c
+extra_others x c h other = none_others c
 
 others_put : (x : Open) (c : ℕ) (h : History) (events : List Event) → AreOthers c events → AreOthers c (put_all x h events)
 others_put x c h [] others = none_others c
@@ -155,9 +146,6 @@ first_along x before events s = along x (opening x.casts) [] before (opens_besid
 -- one step of a bound caller
 does_one : (x : Open) (c : ℕ) (step : Step) (before done events : List Event) → AreFirst x before events → DoesStepBy x.casts c step before done
     → DoesStepBy x.casts c step (before_of x before) (put_all x (history x.casts before) done)
-does_one x c (Submit a method args) before done events s does = ap (put_all x (history x.casts before)) does
-does_one x c (Copy a) before done events s does = ap (put_all x (history x.casts before)) does
-does_one x c (Release a) before done events s does = ap (put_all x (history x.casts before)) does
 does_one x c (Kill a) before done events s (inl asked) = inl (ap (put_all x (history x.casts before)) asked)
 does_one x c (Kill a) before done events s (inr dead) =
     let all = first_along x before events s in
@@ -171,6 +159,7 @@ does_one x c (Await k) before done events s does =
       subst (λ (g : History). is_some (kept_at (kept_of c g) k) ≡ true) (sym all.left)
           (kept_more x (history x.casts before) all.next c k all.beside.more does.1),
     )
+does_one x c step before done events s does = ap (put_all x (history x.casts before)) does
 
 before_more : (x : Open) (before more : List Event) → before_of x (before ++ more) ≡ before_of x before ++ put_all x (history x.casts before) more
 before_more x before more = put_all-append x (opening x.casts) before more

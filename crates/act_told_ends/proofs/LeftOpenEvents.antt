@@ -159,17 +159,8 @@ next_same x h posts a c b later = go (next_item a c h) refl later
 
 -- the posts that are collected after an event
 abbrev pub next_posts : History → List Post → Event → List Post
-next_posts h posts (event.Submit c a method args) = posts
-next_posts h posts (event.Copy c a) = posts
-next_posts h posts (event.Release c a) = posts
-next_posts h posts (event.Send c k) = posts
-next_posts h posts (event.Deliver i) = posts
-next_posts h posts (event.Run a c) = posts
 next_posts h posts (event.Collect j) = and_also posts (slice_get h.posts j)
-next_posts h posts (event.AskKill c a) = posts
-next_posts h posts (event.TakeKill a) = posts
-next_posts h posts (event.Tell a c) = posts
-next_posts h posts (event.Retire a) = posts
+next_posts h posts other = posts
 
 run_left : (h : History) (posts : List Post) (a c : ℕ) (o : Option RunItem)
     → after_run a c (with_collected h posts) o ≡ with_collected (after_run a c h o) posts
@@ -185,8 +176,6 @@ pub record IsThere (x : Open) (h : History) (posts : List Post) (other : Event) 
 pub event_there : (x : Open) (h : History) (posts : List Post) (other : Event) → IsBeside x h posts → refusal_of h other ≡ None
     → IsLater (add_event h other) x.last → IsThere x h posts other
 event_there x h posts (event.Submit c a method args) b may later = record { may = submit_may x h posts c a method args b.more may; left = refl; more = b.more }
-event_there x h posts (event.Copy c a) b may later = record { may = may; left = refl; more = b.more }
-event_there x h posts (event.Release c a) b may later = record { may = may; left = refl; more = b.more }
 event_there x h posts (event.Send c k) b may later = record { may = send_may x h posts c k b may; left = refl; more = b.more }
 event_there x h posts (event.Deliver i) b may later = record { may = deliver_may h posts (slice_get h.mail i) ∙ may; left = refl; more = b.more }
 event_there x h posts (event.Run a c) b may later = record {
@@ -199,10 +188,7 @@ event_there x h posts (event.Collect j) b may later = record { may = may; left =
     go : (o : Option Post) → IsMore x (and_also h.collected o) (and_also posts o)
     go None = b.more
     go (Some p) = more_both x h.collected posts p b.more
-event_there x h posts (event.AskKill c a) b may later = record { may = may; left = refl; more = b.more }
-event_there x h posts (event.TakeKill a) b may later = record { may = may; left = refl; more = b.more }
-event_there x h posts (event.Tell a c) b may later = record { may = may; left = refl; more = b.more }
-event_there x h posts (event.Retire a) b may later = record { may = may; left = refl; more = b.more }
+event_there x h posts other b may later = record { may = may; left = refl; more = b.more }
 
 -- the answer that stands for a death stays
 pub given_stays : (x : Open) (g f : History) (other : Event) (c k : ℕ) → IsSound g → refusal_of g other ≡ None → add_event g other ≡ f

@@ -28,17 +28,8 @@ collect_then x c h (Some item) = cond (is_replaced x c item.future) (event.Colle
 
 -- after the run of a call whose reply stands for a death, its reply is collected
 abbrev pub extra : Open → History → Event → List Event
-extra x h (event.Submit c a method args) = []
-extra x h (event.Copy c a) = []
-extra x h (event.Release c a) = []
-extra x h (event.Send c k) = []
-extra x h (event.Deliver i) = []
 extra x h (event.Run a c) = collect_then x c h (next_item a c h)
-extra x h (event.Collect j) = []
-extra x h (event.AskKill c a) = []
-extra x h (event.TakeKill a) = []
-extra x h (event.Tell a c) = []
-extra x h (event.Retire a) = []
+extra x h other = []
 
 -- the event and what is done then are accepted, and leave the same but for the replies
 pub record Goes (x : Open) (h : History) (posts : List Post) (other : Event) (more : List Event) (next : History) : Type 0 where
@@ -321,13 +312,4 @@ event_goes x h posts (event.Run a c) b may later = go (next_item a c h) refl
     go None e = plain x h posts (event.Run a c) b may later (λ d place other at is.
         subst (λ (o : Option RunItem). slice_get (runs_of d (after_run a c h o)) place ≡ Some other) e at)
     go (Some item) e = put item e (is_replaced x c item.future) refl
-event_goes x h posts (event.Submit c a method args) b may later = plain x h posts (event.Submit c a method args) b may later (λ d place item at is. at)
-event_goes x h posts (event.Copy c a) b may later = plain x h posts (event.Copy c a) b may later (λ d place item at is. at)
-event_goes x h posts (event.Release c a) b may later = plain x h posts (event.Release c a) b may later (λ d place item at is. at)
-event_goes x h posts (event.Send c k) b may later = plain x h posts (event.Send c k) b may later (λ d place item at is. at)
-event_goes x h posts (event.Deliver i) b may later = plain x h posts (event.Deliver i) b may later (λ d place item at is. at)
-event_goes x h posts (event.Collect j) b may later = plain x h posts (event.Collect j) b may later (λ d place item at is. at)
-event_goes x h posts (event.AskKill c a) b may later = plain x h posts (event.AskKill c a) b may later (λ d place item at is. at)
-event_goes x h posts (event.TakeKill a) b may later = plain x h posts (event.TakeKill a) b may later (λ d place item at is. at)
-event_goes x h posts (event.Tell a c) b may later = plain x h posts (event.Tell a c) b may later (λ d place item at is. at)
-event_goes x h posts (event.Retire a) b may later = plain x h posts (event.Retire a) b may later (λ d place item at is. at)
+event_goes x h posts other b may later = plain x h posts other b may later (λ d place item at is. at)

@@ -60,16 +60,8 @@ posted_step h (event.Run b c) posted may = go (next_item b c h) refl
     go : (o : Option RunItem) → next_item b c h ≡ o → RunsPosted (after_run b c h o)
     go None e = posted
     go (Some item) e = run_posted h b c item posted (next_item_caller b c h item e)
-posted_step h (event.Submit c a method args) posted may = posted
-posted_step h (event.Copy c a) posted may = posted
-posted_step h (event.Release c a) posted may = posted
-posted_step h (event.Send c k) posted may = posted
-posted_step h (event.Deliver i) posted may = posted
-posted_step h (event.Collect j) posted may = posted
-posted_step h (event.AskKill c a) posted may = posted
-posted_step h (event.TakeKill a) posted may = posted
 posted_step h (event.Tell a c) posted may = more_posted h (add_event h (event.Tell a c)) posted refl (added_grows h (event.Tell a c)).posts
-posted_step h (event.Retire a) posted may = posted
+posted_step h other posted may = posted
 
 -- whatever events leave, of each call that ran the reply is posted
 pub all_posted : (casts : List ActorSpec) (events : List Event) → RunsPosted (history casts events)

@@ -64,16 +64,7 @@ sent_step h (event.Deliver i) sent may = go (slice_get h.mail i) refl
     go : (o : Option Letter) → slice_get h.mail i ≡ o → AreSent (record h { arrived = and_also h.arrived o })
     go None e = sent
     go (Some letter) e = record { arrived = All_more (In h.mail) h.arrived letter sent.arrived (has_letter-at letter h.mail i e); ran = sent.ran }
-sent_step h (event.Submit c a method args) sent may =
-    more_sent h (add_event h (event.Submit c a method args)) sent (added_grows h (event.Submit c a method args)).mail refl refl
-sent_step h (event.Copy c a) sent may = more_sent h (add_event h (event.Copy c a)) sent (added_grows h (event.Copy c a)).mail refl refl
-sent_step h (event.Release c a) sent may = more_sent h (add_event h (event.Release c a)) sent (added_grows h (event.Release c a)).mail refl refl
-sent_step h (event.Send c k) sent may = more_sent h (add_event h (event.Send c k)) sent (added_grows h (event.Send c k)).mail refl refl
-sent_step h (event.Collect j) sent may = more_sent h (add_event h (event.Collect j)) sent (added_grows h (event.Collect j)).mail refl refl
-sent_step h (event.AskKill c a) sent may = more_sent h (add_event h (event.AskKill c a)) sent (added_grows h (event.AskKill c a)).mail refl refl
-sent_step h (event.TakeKill a) sent may = more_sent h (add_event h (event.TakeKill a)) sent (added_grows h (event.TakeKill a)).mail refl refl
-sent_step h (event.Tell a c) sent may = more_sent h (add_event h (event.Tell a c)) sent (added_grows h (event.Tell a c)).mail refl refl
-sent_step h (event.Retire a) sent may = more_sent h (add_event h (event.Retire a)) sent (added_grows h (event.Retire a)).mail refl refl
+sent_step h other sent may = more_sent h (add_event h other) sent (added_grows h other).mail refl refl
 
 pub none_sent : (casts : List ActorSpec) → AreSent (opening casts)
 none_sent casts = record { arrived = tt; ran = λ a place item e. cc }

@@ -1,7 +1,7 @@
 -- Where calls may stand for those that are told, some events end with them.
 use Rattle.act_early.proofs.Common.{◌≡◌, ℕ, suc, Bool, false, List, [], ◌∷◌, ◌++◌, length, take, map, Option, Some, None, inl, inr, ◌⊎◌, refl, ap, sym, ◌∙◌}
 use Rattle.act_early.proofs.Common.{subst, arith, append_assoc, All, All-cons, All-nil, Contains, slice_get, is_some, IsOk, Event, Submission, Step}
-use Rattle.act_early.proofs.Common.{Submit, Copy, Release, Kill, Await, Answer, WorldRefusal, kept_at, ActorSpec, History, opening, calls_of, runs_of, kept_of, is_dead}
+use Rattle.act_early.proofs.Common.{Submit, Release, Kill, Await, Answer, WorldRefusal, kept_at, ActorSpec, History, opening, calls_of, runs_of, kept_of, is_dead}
 use Rattle.act_early.proofs.Common.{is_retired, refusal_of, add_event, outcome_by, after_by, outcome_of, outcomes, after, after_all, history, after_all-append}
 use Rattle.act_early.proofs.Common.{IsPrefix, slice_get_front, slice_get_last, under-push, eq-eqb, cond, IsSound, sound_step, world_sound, is_step_by}
 use Rattle.act_early.proofs.Common.{AreOthers, DoesStepBy, DoesStepsBy, At}
@@ -113,16 +113,7 @@ step_swapped calls c h (event.Submit d a method args) = go (slice_get (calls d) 
     go : (o : Option Submission) → is_step_by c (by_call d a method args o) ≡ is_step_by c (event.Submit d a method args)
     go None = refl
     go (Some call) = refl
-step_swapped calls c h (event.Copy d a) = refl
-step_swapped calls c h (event.Release d a) = refl
-step_swapped calls c h (event.Send d k) = refl
-step_swapped calls c h (event.Deliver i) = refl
-step_swapped calls c h (event.Run a d) = refl
-step_swapped calls c h (event.Collect j) = refl
-step_swapped calls c h (event.AskKill d a) = refl
-step_swapped calls c h (event.TakeKill a) = refl
-step_swapped calls c h (event.Tell a d) = refl
-step_swapped calls c h (event.Retire a) = refl
+step_swapped calls c h other = refl
 
 others_swapped : (calls : ℕ → List Submission) (c : ℕ) (h : History) (events : List Event) → AreOthers c events → AreOthers c (swap_all calls h events)
 others_swapped calls c h [] others = none_others c
@@ -184,8 +175,6 @@ does_one x c (Submit a method args) before done own ok was ok_done later does =
     made : IsLater (add_event h (event.Submit c a method args)) x.late.history
     made = subst (λ (g : History). IsLater g x.late.history) (after_is h (event.Submit c a method args) may)
         (subst (λ (l : List Event). IsLater (after_all h l) x.late.history) does later)
-does_one x c (Copy a) before done own ok was ok_done later does = ap (swap_all x.calls (history x.casts before)) does
-does_one x c (Release a) before done own ok was ok_done later does = ap (swap_all x.calls (history x.casts before)) does
 does_one x c (Kill a) before done own ok was ok_done later (inl asked) = inl (ap (swap_all x.calls (history x.casts before)) asked)
 does_one x c (Kill a) before done own ok was ok_done later (inr dead) =
     let same = same_after x c before ok was in
@@ -196,6 +185,7 @@ does_one x c (Kill a) before done own ok was ok_done later (inr dead) =
 does_one x c (Await k) before done own ok was ok_done later does =
     let same = same_after x c before ok was in
     (ap (swap_all x.calls (history x.casts before)) does.0, ap (λ (kept : List (Option Answer)). is_some (kept_at kept k)) same.2 ∙ does.1)
+does_one x c step before done own ok was ok_done later does = ap (swap_all x.calls (history x.casts before)) does
 
 before_more : (x : Stand) (before more : List Event)
     → before_of x (before ++ more) ≡ before_of x before ++ swap_all x.calls (history x.casts before) more

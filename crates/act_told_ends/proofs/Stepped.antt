@@ -38,10 +38,7 @@ step_grows c (Await k) h = after_run_grows 0 0 h None
 
 step_retired : (c : ℕ) (step : Step) (h : History) → (after_step c step h).retired ≡ h.retired
 step_retired c (Submit a method args) h = refl
-step_retired c (Copy a) h = refl
-step_retired c (Release a) h = refl
-step_retired c (Kill a) h = refl
-step_retired c (Await k) h = refl
+step_retired c step h = refl
 
 step_dead : (c a : ℕ) (step : Step) (h : History) → is_dead a (after_step c step h) ≡ is_dead a h
 step_dead c a step h =

@@ -48,16 +48,7 @@ by_call c a method args (Some call) = event.Submit c a call.method call.args
 -- the event, with the call that stands for it
 abbrev pub swap : (ℕ → List Submission) → History → Event → Event
 swap calls h (event.Submit c a method args) = by_call c a method args (slice_get (calls c) (length (calls_of c h)))
-swap calls h (event.Copy c a) = event.Copy c a
-swap calls h (event.Release c a) = event.Release c a
-swap calls h (event.Send c k) = event.Send c k
-swap calls h (event.Deliver i) = event.Deliver i
-swap calls h (event.Run a c) = event.Run a c
-swap calls h (event.Collect j) = event.Collect j
-swap calls h (event.AskKill c a) = event.AskKill c a
-swap calls h (event.TakeKill a) = event.TakeKill a
-swap calls h (event.Tell a c) = event.Tell a c
-swap calls h (event.Retire a) = event.Retire a
+swap calls h other = other
 
 -- the history with other submissions
 abbrev pub with_subs : History → List (ℕ × Submission) → History
@@ -546,13 +537,8 @@ deliver_same h subs (Some letter) = refl
 pub event_swapped : (x : Stand) (h : History) (subs : List (ℕ × Submission)) (other : Event) → refusal_of h other ≡ None → IsLater h x.late.history
     → IsLater (add_event h other) x.late.history → AreFirst x.calls h subs → IsSwapped x h subs other
 event_swapped x h subs (event.Submit c a method args) may was later first = submit_swapped x h subs c a method args may was later first
-event_swapped x h subs (event.Copy c a) may was later first = record { may = may; next = subs; left = refl; first = first }
 event_swapped x h subs (event.Release c a) may was later first = release_swapped x h subs c a may was first
 event_swapped x h subs (event.Send c k) may was later first = send_swapped x h subs c k may was first
 event_swapped x h subs (event.Deliver i) may was later first = record { may = deliver_same h subs (slice_get h.mail i) ∙ may; next = subs; left = refl; first = first }
 event_swapped x h subs (event.Run a c) may was later first = run_swapped x h subs a c may was later first
-event_swapped x h subs (event.Collect j) may was later first = record { may = may; next = subs; left = refl; first = first }
-event_swapped x h subs (event.AskKill c a) may was later first = record { may = may; next = subs; left = refl; first = first }
-event_swapped x h subs (event.TakeKill a) may was later first = record { may = may; next = subs; left = refl; first = first }
-event_swapped x h subs (event.Tell a c) may was later first = record { may = may; next = subs; left = refl; first = first }
-event_swapped x h subs (event.Retire a) may was later first = record { may = may; next = subs; left = refl; first = first }
+event_swapped x h subs other may was later first = record { may = may; next = subs; left = refl; first = first }

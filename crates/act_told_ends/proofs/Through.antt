@@ -24,17 +24,14 @@ use Rattle.act_rules.proofs.Lists.{front_whole}
 
 event_near : (x : Case) (p : At) (other : Event) → Here x p → is_free other ≡ true → refusal_of p.history other ≡ None
     → IsLater (add_event p.history other) x.late.history → Near x (with_event other p)
-event_near x p (event.Submit c a method args) at free may later = cc
-event_near x p (event.Copy c a) at free may later = cc
-event_near x p (event.Release c a) at free may later = cc
 event_near x p (event.Send c k) at free may later = inl (idle x p (add_event p.history (event.Send c k)) at.covered refl refl refl refl refl)
 event_near x p (event.Deliver i) at free may later = inl (idle x p (add_event p.history (event.Deliver i)) at.covered refl refl refl refl refl)
 event_near x p (event.Run b c) at free may later = run_near x p b c at may later
 event_near x p (event.Collect j) at free may later = collect_near x p j at may later
-event_near x p (event.AskKill c a) at free may later = cc
 event_near x p (event.TakeKill a) at free may later = kill_near x p a at may later
 event_near x p (event.Tell a c) at free may later = inl (idle x p (add_event p.history (event.Tell a c)) at.covered refl refl refl refl refl)
 event_near x p (event.Retire a) at free may later = inl (idle x p (add_event p.history (event.Retire a)) at.covered refl refl refl refl refl)
+event_near x p other at free may later = cc
 
 then_near : (x : Case) (p q : At) → Near x p → (IsCovered x.bound x.told x.done p x.g → Near x q) → Near x q
 then_near x p q (inl cov) next = next cov

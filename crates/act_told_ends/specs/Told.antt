@@ -5,7 +5,7 @@ use Rattle.act_rules.specs.declared.event.Event.{Event}
 use Rattle.act_rules.specs.declared.history.RunItem.{RunItem}
 use Rattle.act_rules.specs.declared.history.Submission.{Submission}
 use Rattle.act_rules.specs.declared.script.Step.{Step}
-use Rattle.act_rules.specs.declared.script.Step.TheVariants.{Submit, Copy, Release, Kill, Await}
+use Rattle.act_rules.specs.declared.script.Step.TheVariants.{Submit, Copy, Release}
 use Rattle.act_rules.specs.Consistent.{IsPrefix}
 use Rattle.act_rules.specs.History.{ActorSpec, History, opening, contains, count_pairs, calls_of, copies_of, kept_of, runs_of, is_dead, is_retired}
 use Rattle.act_rules.specs.Laws.{history}
@@ -60,26 +60,17 @@ EachEndIsTold = (casts : List ActorSpec) (events : List Event) → All IsOk (out
 -- the call that a step submits
 abbrev pub submission_of : Step → Option Submission
 submission_of (Submit a method args) = Some (record { actor = a; method = method; args = args })
-submission_of (Copy a) = None
-submission_of (Release a) = None
-submission_of (Kill a) = None
-submission_of (Await k) = None
+submission_of step = None
 
 -- whether a step copies the actor's handle
 abbrev pub copies : ℕ → Step → Bool
-copies a (Submit b method args) = false
 copies a (Copy b) = b == a
-copies a (Release b) = false
-copies a (Kill b) = false
-copies a (Await k) = false
+copies a step = false
 
 -- whether a step releases it
 abbrev pub releases : ℕ → Step → Bool
-releases a (Submit b method args) = false
-releases a (Copy b) = false
 releases a (Release b) = b == a
-releases a (Kill b) = false
-releases a (Await k) = false
+releases a step = false
 
 -- the caller did the first of these steps, so many; once it did them all it may have let more handles go
 pub record DidFirst (c count : ℕ) (steps : List Step) (h : History) : Type 0 where
