@@ -42,9 +42,7 @@ no_stage world a n is none =
 in_slot : (slot : Option SlotView) (seen : SlotView) → stage_of_slot slot ≡ Some seen → slot ≡ Some seen
 in_slot None seen e = cc
 in_slot (Some Vacant) seen e = cc
-in_slot (Some (Runs live)) seen e = e
-in_slot (Some (Died dead)) seen e = e
-in_slot (Some (Ended retired)) seen e = e
+in_slot (Some view) seen e = e
 
 -- an actor that the world has
 pub one_stage : (world : WorldView) (seen : SlotView) (a n : ℕ) → a ≡ n → stage_in world a ≡ Some seen → actor_lines a (slot_log seen) (Some (standing_text seen)) ≡ stage_lines world n

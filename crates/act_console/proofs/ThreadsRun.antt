@@ -187,10 +187,8 @@ module _ (roles : List Role) (steps : List (ℕ × Step × ℕ)) (marks : List M
 
   -- the step of a bad plan has a mark
   pub has_line : (fault : RunFault) → IsFault casts plans fault → HasLine marks fault
-  has_line faults.TooMany told = tt
   has_line (faults.BadPlan c place) told = let bad = bad_line_of c place told in subst IsSome (sym bad.2) refl
-  has_line faults.NoThread told = tt
-  has_line faults.NoMemory told = tt
+  has_line fault told = tt
 
   -- what a run's fault tells is so of its script, if the roles fit: the line of the first fault, or that plans are good
   pub explains : (fault : RunFault) → AreFitting (map actor_spec_of roles) → IsFault casts plans fault → Explains marks fault (with_good_plans 16 8 (Ok (script_of roles steps)))

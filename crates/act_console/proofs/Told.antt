@@ -40,6 +40,4 @@ module _ (had left old : Option (List ℕ)) (bytes : List ℕ) (whole : IsWholeI
   pub untold : (fault : ConsoleFault) → IsThreadsOutput (Err fault) (spelled_threads bytes) → Threaded had left old old (Err fault)
   untold faults.Memory is = Keeps-refl old
   untold faults.Thread is = (bytes, whole, is.0, is.1, Keeps-refl old)
-  untold faults.Script is = absurd is
-  untold faults.Reading is = absurd is
-  untold faults.Writing is = absurd is
+  untold fault is = absurd is

@@ -14,11 +14,9 @@ AppendsPrefix (Some xs) (Some ys) bs = (front rest : List ℕ) × (bs ≡ front 
 
 -- the fault comes before anything is written
 abbrev pub IsBeforeWriting : ConsoleFault → Type 0
-IsBeforeWriting faults.Script = ⊥
 IsBeforeWriting faults.Memory = Unit {0}
-IsBeforeWriting faults.Thread = ⊥
 IsBeforeWriting faults.Reading = Unit {0}
-IsBeforeWriting faults.Writing = ⊥
+IsBeforeWriting fault = ⊥
 
 -- what was written of an answer: a report whole, and a refusal whole, which is then told as the script's fault; or a
 -- prefix of either

@@ -11,7 +11,7 @@ use Rattle.act_rules.specs.Report.{future_lines, actor_lines, summary_of, summar
 use Rattle.act_rules.specs.Grammar.{Script}
 use Rattle.act_rules.specs.Scripts.{actor_spec_of, callers_of_roles, plan_in_script, spelled_plans}
 use Rattle.act_owner.specs.Owner.{OwnerView}
-use Rattle.act_serve.specs.Served.{EndView, Killed, Retired, Starved}
+use Rattle.act_serve.specs.Served.{EndView, Retired}
 use Rattle.act_executor.specs.Joined.{IsJoined, end_of, calls_in, kept_in, log_in}
 use Rattle.act_executor.specs.Plays.{IsPlayOf}
 use Rattle.act_executor.specs.PlanPlays.{IsPlayedAsPlanned}
@@ -26,9 +26,8 @@ use Rattle.act_console.specs.Output.{AppendsPrefix}
 
 -- how an actor ended
 abbrev pub end_text : EndView → List ℕ
-end_text (Killed dead) = codes "dead"
 end_text (Retired retired) = codes "retired " ++ state_text retired.state
-end_text (Starved dead) = codes "dead"
+end_text view = codes "dead"
 
 -- how the actor of this number ended, if it is there
 abbrev pub end_text_in : List EndView → ℕ → Option (List ℕ)
@@ -81,9 +80,7 @@ IsThreadsOutput (Ok (outputs.Refusal text)) read = (fault : ℕ × Wrong) × (re
     × (string_bytes text ≡ fault_line fault)
 IsThreadsOutput (Err faults.Memory) read = Unit {0}
 IsThreadsOutput (Err faults.Thread) read = (script : Script) × (read ≡ Ok script)
-IsThreadsOutput (Err faults.Script) read = ⊥
-IsThreadsOutput (Err faults.Reading) read = ⊥
-IsThreadsOutput (Err faults.Writing) read = ⊥
+IsThreadsOutput (Err other) read = ⊥
 
 -- what a run in threads read and wrote, by its answer
 abbrev pub Threaded : Option (List ℕ) → Option (List ℕ) → Option (List ℕ) → Option (List ℕ) →
