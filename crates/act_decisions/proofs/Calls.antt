@@ -51,10 +51,7 @@ front_more calls told actor method args more next is = let call : Submission = r
 -- a step of another caller
 pub of_another : (c d line : ℕ) (s : Step) → (d == c) ≡ false → call_of c (d, s, line) ≡ []
 of_another c d line (step.Submit a m args) other = ap (λ (b : Bool). if b then record { actor = a; method = m; args = args } ∷ [] else []) other
-of_another c d line (step.Copy a) other = refl
-of_another c d line (step.Release a) other = refl
-of_another c d line (step.Kill a) other = refl
-of_another c d line (step.Await k) other = refl
+of_another c d line s other = refl
 
 -- a step of the caller's own that submits
 pub of_own : (c d line actor : ℕ) (method : Method) (args : List Arg) → (d == c) ≡ true → call_of c (d, step.Submit actor method args, line) ≡ record { actor = actor; method = method; args = args } ∷ []

@@ -9,9 +9,8 @@ use Rattle.act_walks.specs.declared.told.ToldCall.{ToldCall}
 
 -- whether a reply is told
 abbrev pub wants_reply : Left → Bool
-wants_reply left.Open = false
 wants_reply left.Reply = true
-wants_reply left.Death = false
+wants_reply other = false
 
 -- whether an answer is a death
 abbrev pub is_death : Option Answer → Bool

@@ -114,8 +114,7 @@ left_is left.Death o kept = (ap (λ (o : Option Answer). is_some o) kept, ap is_
 
 some_left : (l : Left) (o : Option Answer) → l ≢ left.Open → IsKeptSo (kept_told l true) o → is_some o ≡ true
 some_left left.Open o closed kept = absurd (closed refl)
-some_left left.Reply o closed kept = kept
-some_left left.Death o closed kept = kept
+some_left l o closed kept = kept
 
 tells_left : (call : ToldCall) (o : Option Answer) → (call.is_open ≡ true → call.left ≢ left.Open) → IsKeptSo (kept_told call.left call.is_open) o → TellsLeft call o
 tells_left call o closed kept = (

@@ -71,9 +71,8 @@ both_true true false e = cc
 both_true false y e = cc
 
 pub is_wanted : (l : Left) → wants_reply l ≡ true → l ≡ left.Reply
-is_wanted left.Open e = cc
 is_wanted left.Reply e = refl
-is_wanted left.Death e = cc
+is_wanted l e = cc
 
 -- ---- what may stand for what is kept
 

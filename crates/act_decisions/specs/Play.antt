@@ -23,10 +23,7 @@ use Rattle.act_summaries.specs.Lines.{AreTold}
 -- the call that a step submits, where it is one of the caller
 abbrev pub call_of : ℕ → ℕ × Step × ℕ → List Submission
 call_of c (d, step.Submit a m args, line) = if d == c then record { actor = a; method = m; args = args } ∷ [] else []
-call_of c (d, step.Copy a, line) = []
-call_of c (d, step.Release a, line) = []
-call_of c (d, step.Kill a, line) = []
-call_of c (d, step.Await k, line) = []
+call_of c (d, other, line) = []
 
 -- the calls that a caller's steps submit
 abbrev pub calls_of_steps : ℕ → List (ℕ × Step × ℕ) → List Submission
@@ -48,11 +45,8 @@ pub record IsNext (k actor : ℕ) (method : Method) (args : List Arg) (calls : L
 
 -- whether the step awaits an answer
 abbrev pub is_await : Step → Bool
-is_await (step.Submit a method args) = false
-is_await (step.Copy a) = false
-is_await (step.Release a) = false
-is_await (step.Kill a) = false
 is_await (step.Await k) = true
+is_await other = false
 
 -- whether the caller has a step that awaits an answer
 abbrev pub awaits : ℕ → List (ℕ × Step × ℕ) → Bool
