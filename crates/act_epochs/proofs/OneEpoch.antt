@@ -22,7 +22,7 @@ use Rattle.act_rules.proofs.Order.{numbered}
 use Rattle.act_rules.proofs.Unique.{map-slice_get}
 use Rattle.act_owner.specs.Owner.{OwnerView}
 use Rattle.act_actor.specs.View.{RetiredView}
-use Rattle.act_serve.specs.Served.{EndView, Killed, Retired, Starved, end_id, IfRetired}
+use Rattle.act_serve.specs.Served.{EndView, Retired, end_id, IfRetired}
 use Rattle.act_plans.specs.Runs.{cast_at, plan_of}
 use Rattle.act_plans.proofs.Keys.{pairs_of_map}
 use Rattle.act_plans.proofs.Matching.{numbers_differ}
@@ -50,8 +50,6 @@ record IsOf (casts : List ActorSpec) (end : EndView) (left : ActorSpec) : Type 0
   left_is : left ≡ record cast { opening = retired.state }
 
 is_of : (casts : List ActorSpec) (end : EndView) (left : ActorSpec) → cast_of_end casts end ≡ Some left → IsOf casts end left
-is_of casts (Killed dead) left e = cc
-is_of casts (Starved dead) left e = cc
 is_of casts (Retired retired) left e = go (cast_at retired.id casts) refl e
   where
     go : (o : Option ActorSpec) → cast_at retired.id casts ≡ o → option_map (λ (cast : ActorSpec). record cast { opening = retired.state }) o ≡ Some left → IsOf casts (Retired retired) left
@@ -59,6 +57,7 @@ is_of casts (Retired retired) left e = go (cast_at retired.id casts) refl e
     go (Some cast) at e =
         let same : record cast { opening = retired.state } ≡ left = cc in
         record { retired = retired; end_is = refl; cast = cast; at = at; left_is = sym same }
+is_of casts end left e = cc
 
 cast_names : (a : ℕ) (casts : List ActorSpec) (cast : ActorSpec) → cast_at a casts ≡ Some cast → cast.actor ≡ a
 cast_names a casts cast at = eqb-true cast.actor a (found_is (λ (one : ActorSpec). one.actor == a) casts cast at).passes
@@ -168,8 +167,6 @@ module _ {casts : List ActorSpec} {steps : List (ℕ × List Step)} {owners : Li
   other_is_left a end at alive = go end (all_in (λ (e : EndView). is_starved e ≡ false) ends end joined.fed (found_is (λ (e : EndView). end_id e == a) ends end at).inside) (sym (ap is_killed_end at) ∙ alive) at
     where
       go : (end : EndView) → is_starved end ≡ false → is_killed end ≡ false → end_of a ends ≡ Some end → (left : ActorSpec) × (cast_at a (filter_map (cast_of_end casts) ends) ≡ Some left)
-      go (Killed dead) fed alive at = absurd (cc)
-      go (Starved dead) fed alive at = absurd (cc)
       go (Retired retired) fed alive at =
           let found = found_is (λ (e : EndView). end_id e == a) ends (Retired retired) at in
           let id : retired.id ≡ a = eqb-true retired.id a found.passes in
@@ -180,6 +177,7 @@ module _ {casts : List ActorSpec} {steps : List (ℕ × List Step)} {owners : Li
           let names : (left.actor == a) ≡ true = eq-eqb left.actor a (cast_names retired.id casts ran.cast ran.at ∙ id) in
           let one = finds (λ (cast : ActorSpec). cast.actor == a) (filter_map (cast_of_end casts) ends) there.place left there.at names in
           (one.one, one.is)
+      go end fed alive at = absurd (cc)
 
   -- ---- calls
 
