@@ -63,9 +63,7 @@ module _ (had left old new : Option (List ℕ)) (bytes : List ℕ) (whole : IsWh
 pub unwritten : (had left old : Option (List ℕ)) (fault : CheckFault) → IsBeforeVerdict fault → Checked had left old old (Err fault)
 unwritten had left old faults.Memory is = Keeps-refl old
 unwritten had left old faults.Reading is = Keeps-refl old
-unwritten had left old faults.Mistake is = absurd is
-unwritten had left old faults.Refused is = absurd is
-unwritten had left old faults.Writing is = absurd is
+unwritten had left old fault is = absurd is
 
 -- ---- a result of which four things are said
 

@@ -50,11 +50,9 @@ IsVerdictOf script rest (verdicts.Mistake text) = Unit {0}
 
 -- the fault comes before anything is written
 abbrev pub IsBeforeVerdict : CheckFault → Type 0
-IsBeforeVerdict faults.Mistake = ⊥
-IsBeforeVerdict faults.Refused = ⊥
 IsBeforeVerdict faults.Memory = Unit {0}
 IsBeforeVerdict faults.Reading = Unit {0}
-IsBeforeVerdict faults.Writing = ⊥
+IsBeforeVerdict fault = ⊥
 
 -- what was written of a verdict, by the answer: its text whole, or a prefix of it
 abbrev pub WroteVerdict : Option (List ℕ) → Option (List ℕ) → Verdict → Result (Unit {0}) CheckFault → Type 0
