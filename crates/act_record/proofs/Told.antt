@@ -36,11 +36,8 @@ written_is script roles events (LongPlay source) text same is long = record { lo
 -- the text of a play is missed
 pub missed : (script : Script) (fault : RecordingFault) → IsMissing fault → IsAnswer (Err fault) (Ok script)
 missed script (Console faults.Memory) is = tt
-missed script (Console faults.Thread) is = absurd (cc)
-missed script (Console faults.Script) is = absurd (cc)
-missed script (Console faults.Reading) is = absurd (cc)
-missed script (Console faults.Writing) is = absurd (cc)
 missed script Unplayed is = (script, refl)
+missed script fault is = absurd (cc)
 
 -- ---- what was written
 
@@ -70,7 +67,5 @@ module _ (had left old : Option (List ℕ)) (bytes : List ℕ) (whole : IsWholeI
   pub untold : (fault : RecordingFault) → IsAnswer (Err fault) (spelled_threads bytes) → IsRecorded had left old old (Err fault)
   untold (Console faults.Memory) is = Keeps-refl old
   untold (Console faults.Thread) is = (bytes, whole, is.0, is.1, Keeps-refl old)
-  untold (Console faults.Script) is = absurd is
-  untold (Console faults.Reading) is = absurd is
-  untold (Console faults.Writing) is = absurd is
   untold Unplayed is = (bytes, whole, is.0, is.1, Keeps-refl old)
+  untold fault is = absurd is

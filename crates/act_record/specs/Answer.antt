@@ -63,9 +63,7 @@ IsAnswer (Ok (answers.Refusal text)) read = (fault : ℕ × Wrong) × (read ≡ 
 IsAnswer (Err Unplayed) read = (script : Script) × (read ≡ Ok script)
 IsAnswer (Err (Console faults.Memory)) read = Unit {0}
 IsAnswer (Err (Console faults.Thread)) read = (script : Script) × (read ≡ Ok script)
-IsAnswer (Err (Console faults.Script)) read = ⊥
-IsAnswer (Err (Console faults.Reading)) read = ⊥
-IsAnswer (Err (Console faults.Writing)) read = ⊥
+IsAnswer (Err other) read = ⊥
 
 -- what was written of an answer: a play whole, and a refusal whole, which is then told as the script's fault; or a
 -- prefix of either
