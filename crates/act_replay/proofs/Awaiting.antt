@@ -1,7 +1,7 @@
 -- No play of its plans leaves the circle of awaits.
 use Rattle.act_replay.proofs.Common.{◌≡◌, ℕ, ◌==◌, Bool, true, false, cond, List, [], ◌∷◌, ◌++◌, Some, None, inl, inr, refl, sym, ap, ◌∙◌, subst, arith}
 use Rattle.act_replay.proofs.Common.{append-nil, append_assoc, Option, map, ◌⊎◌, slice_get, is_some, AllByRecursion, recursion_from_All, Push, Method, Arg}
-use Rattle.act_replay.proofs.Common.{Event, Submit, Copy, Release, Send, Deliver, Run, Collect, AskKill, TakeKill, Tell, Retire, WorldRefusal, RunItem}
+use Rattle.act_replay.proofs.Common.{Event, Submit, Run, WorldRefusal, RunItem}
 use Rattle.act_replay.proofs.Common.{Submission, Step, Answer, kept_at, IsPrefix, Consistent, History, opening, opening_of, calls_of, runs_of, kept_of, is_dead}
 use Rattle.act_replay.proofs.Common.{next_item, history, refusal_of, add_event, after, after_by, after_run, after_all, slice_get_front, after_all_keeps}
 use Rattle.act_replay.proofs.Common.{after_all-append, under-push, dead_stays, held_submission, IsSound, world_sound, consistent, is_death, is_death-only}
@@ -25,16 +25,8 @@ quiet_added c h (Submit d a method args) e = under-push c d h.submitted (record 
     go : (b : Bool) → cond b (Some (SubmitStep a method args)) None ≡ None → calls_of c h ++ cond b (call ∷ []) [] ≡ calls_of c h
     go true e = cc
     go false e = append-nil (calls_of c h)
-quiet_added c h (Copy d a) e = refl
-quiet_added c h (Release d a) e = refl
-quiet_added c h (Send d k) e = refl
-quiet_added c h (Deliver i) e = refl
 quiet_added c h (Run b d) e = quiet_run b d c h (next_item b d h)
-quiet_added c h (Collect j) e = refl
-quiet_added c h (AskKill d a) e = refl
-quiet_added c h (TakeKill a) e = refl
-quiet_added c h (Tell a d) e = refl
-quiet_added c h (Retire a) e = refl
+quiet_added c h event e = refl
 
 quiet_after : (c : ℕ) (h : History) (event : Event) → step_of c event ≡ None → calls_of c (after h event) ≡ calls_of c h
 quiet_after c h event e = go (refusal_of h event)
