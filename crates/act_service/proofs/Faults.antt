@@ -37,9 +37,8 @@ module _ {C E : Type 0} (tells : C → SessionView → SessionView → Type 0) (
 
   -- the service failed
   pub of_service : (f : EpochFault E) → IsOfService f → IsFaultAt tells before later here f
-  of_service (Run fault) is = absurd is
   of_service (Service fault) is = tt
-  of_service (BadCodes) is = absurd is
+  of_service f is = absurd is
 
 module _ {K C E : Type 0} (state : K → KindState) (tells : C → SessionView → SessionView → Type 0) (gave : Given C) (knows : Known C) (casts : List ActorSpec) where
   -- a fault of an epoch

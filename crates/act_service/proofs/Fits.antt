@@ -2,7 +2,7 @@
 use Rattle.act_service.proofs.Common.{◌≡◌, ◌≢◌, ℕ, suc, ◌==◌, List, [], ◌∷◌, map, Option, Some, None, refl, sym, ap, ◌∙◌, subst, arith, All, AllPairs}
 use Rattle.act_service.proofs.Common.{filter_map, option_map, list_any, cons_option, eqb-true, length-map, get_or-map, All-nil, All-cons, All-map, all_of_map}
 use Rattle.act_service.proofs.Common.{AllPairs-cons, AllPairs-filter, KindState, ActorSpec, one_to, IsLimit, Cast, CallersDiffer, IsFitting, actor_spec}
-use Rattle.act_service.proofs.Common.{EndView, Killed, Retired, Starved, end_id, cast_at, actors_of_casts, found_passes, found_all, numbers_differ, cast_of_end}
+use Rattle.act_service.proofs.Common.{EndView, Retired, end_id, cast_at, actors_of_casts, found_passes, found_all, numbers_differ, cast_of_end}
 use Rattle.act_service.proofs.Common.{tail_apart}
 
 -- what casting an actor again keeps of its cast
@@ -25,8 +25,6 @@ pairs_here n ns apart k d lt = apart 0 (suc k) d (omega arith) (omega arith)
 module _ (casts : List ActorSpec) where
   -- the cast of an end is of its actor
   named : (end : EndView) (cast : ActorSpec) → cast_of_end casts end ≡ Some cast → cast.actor ≡ end_id end
-  named (Killed dead) cast is = cc
-  named (Starved dead) cast is = cc
   named (Retired retired) cast is = go (cast_at retired.id casts) refl
     where
       go : (o : Option ActorSpec) → cast_at retired.id casts ≡ o → cast.actor ≡ retired.id
@@ -37,11 +35,10 @@ module _ (casts : List ActorSpec) where
           let same : Some (record one { opening = retired.state }) ≡ Some cast = sym (ap (option_map (λ (spec : ActorSpec). record spec { opening = retired.state })) found) ∙ is in
           let cast_is : record one { opening = retired.state } ≡ cast = cc in
           sym (ap (λ (spec : ActorSpec). spec.actor) cast_is) ∙ eqb-true one.actor retired.id (found_passes (λ (spec : ActorSpec). spec.actor == retired.id) casts one found)
+  named end cast is = cc
 
   -- and is as sound as the casts
   sound : All IsSound casts → (end : EndView) (cast : ActorSpec) → cast_of_end casts end ≡ Some cast → IsSound cast
-  sound all (Killed dead) cast is = absurd (cc)
-  sound all (Starved dead) cast is = absurd (cc)
   sound all (Retired retired) cast is = go (cast_at retired.id casts) refl
     where
       go : (o : Option ActorSpec) → cast_at retired.id casts ≡ o → IsSound cast
@@ -52,6 +49,7 @@ module _ (casts : List ActorSpec) where
           let same : Some (record one { opening = retired.state }) ≡ Some cast = sym (ap (option_map (λ (spec : ActorSpec). record spec { opening = retired.state })) found) ∙ is in
           let cast_is : record one { opening = retired.state } ≡ cast = cc in
           subst IsSound cast_is (found_all IsSound (λ (spec : ActorSpec). spec.actor == retired.id) casts one all found)
+  sound all end cast is = absurd (cc)
 
   all_sound : All IsSound casts → (ends : List EndView) → All IsSound (filter_map (cast_of_end casts) ends)
   all_sound all [] = All-nil IsSound

@@ -1,6 +1,6 @@
 -- An epoch, made of a run, and the casts that it leaves.
 use Rattle.act_service.proofs.Common.{◌≡◌, ℕ, ◌==◌, List, [], ◌∷◌, ◌++◌, map, Option, Some, None, refl, sym, ap, ◌∙◌, subst, find, filter_map, option_map}
-use Rattle.act_service.proofs.Common.{cons_option, KindState, ActorSpec, find-map, Cast, actor_spec, Step, Finished, EndView, Killed, Retired, Starved}
+use Rattle.act_service.proofs.Common.{cons_option, KindState, ActorSpec, find-map, Cast, actor_spec, Step, Finished, EndView, Retired}
 use Rattle.act_service.proofs.Common.{end_view, SessionView, Joined, IsJoinedBy, IsPlayedBy, IsPlayed, Epoch, IsEpoch, cast_of_end, casts_left, are_more}
 use Rattle.act_service.proofs.Common.{left_more, Shape, shape_of, opened_in, cast_left_by, Known, Given, CarriesOver, BecomesKnown, LeadsOn}
 
@@ -16,8 +16,7 @@ module _ {K : Type 0} (state : K → KindState) (casts : List (Cast K)) where
       ap (option_map (opened_in retired.state)) (find-map (λ (shape : Shape). shape.actor == retired.id) shape_of casts)
       ∙ fused retired.state (find (λ (cast : Cast K). cast.actor == retired.id) casts)
       ∙ sym (ap (option_map (λ (cast : ActorSpec). record cast { opening = retired.state })) (find-map (λ (cast : ActorSpec). cast.actor == retired.id) (actor_spec state) casts))
-  by_shape (Killed dead) = refl
-  by_shape (Starved dead) = refl
+  by_shape end = refl
 
   pub by_shapes : (ends : List EndView) → filter_map (cast_left_by (map shape_of casts)) ends ≡ filter_map (cast_of_end (map (actor_spec state) casts)) ends
   by_shapes [] = refl

@@ -46,6 +46,5 @@ IsFaultOfCodes {C = C} state knows gave casts (BadCodes) = (codes : List (ℕ ×
 
 -- a service's own fault
 abbrev pub IsOfService : {E : Type 0} → EpochFault E → Type 0
-IsOfService (Run fault) = ⊥
 IsOfService (Service fault) = Unit {0}
-IsOfService (BadCodes) = ⊥
+IsOfService other = ⊥

@@ -4,7 +4,7 @@ use Rattle.act_types.specs.KindState.{KindState}
 use Rattle.act_rules.specs.History.{ActorSpec}
 use Rattle.act_actor.specs.declared.cast.Cast.{Cast}
 use Rattle.act_actor.specs.View.{RetiredView}
-use Rattle.act_serve.specs.Served.{EndView, Killed, Retired, Starved}
+use Rattle.act_serve.specs.Served.{EndView, Retired}
 use Rattle.act_service.specs.declared.shapes.Shape.{Shape}
 
 -- a cast without its kind
@@ -27,5 +27,4 @@ cast_of_shape shapes retired = option_map (opened_in retired.state) (find (λ sh
 -- the cast that an actor's end leaves: none where it died
 abbrev pub cast_left_by : List Shape → EndView → Option ActorSpec
 cast_left_by shapes (Retired retired) = cast_of_shape shapes retired
-cast_left_by shapes (Killed dead) = None
-cast_left_by shapes (Starved dead) = None
+cast_left_by shapes view = None
