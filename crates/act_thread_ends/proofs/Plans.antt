@@ -9,7 +9,7 @@ use Rattle.act_rules.specs.declared.event.Event.{Event}
 use Rattle.act_rules.specs.declared.event.Event.TheVariants as event
 use Rattle.act_rules.specs.declared.outcome.WorldRefusal.TheVariants.{Submit as SubmitRefused, Handle, NoCaller}
 use Rattle.act_rules.specs.declared.script.Step.{Step}
-use Rattle.act_rules.specs.declared.script.Step.TheVariants.{Submit, Copy, Release, Kill, Await}
+use Rattle.act_rules.specs.declared.script.Step.TheVariants.{Submit, Copy, Release, Kill}
 use Rattle.act_rules.specs.Submissions.{handle_refusal, copy_refusal}
 use Rattle.act_rules.specs.History.{ActorSpec, History, contains, is_caller, copies_of}
 use Rattle.act_rules.specs.Rules.{refusal_of, submission_refusal, outcome_of, outcomes, after}
@@ -33,24 +33,15 @@ other_event : (c : ℕ) (other : Event) → step_of c other ≡ None → is_step
 other_event c (event.Submit d a method args) e = no_step (d == c) (Submit a method args) e
 other_event c (event.Copy d a) e = no_step (d == c) (Copy a) e
 other_event c (event.Release d a) e = no_step (d == c) (Release a) e
-other_event c (event.Send d k) e = refl
-other_event c (event.Deliver i) e = refl
-other_event c (event.Run a d) e = refl
-other_event c (event.Collect j) e = refl
 other_event c (event.AskKill d a) e = no_step (d == c) (Kill a) e
-other_event c (event.TakeKill a) e = refl
-other_event c (event.Tell a d) e = refl
-other_event c (event.Retire a) e = refl
+other_event c other e = refl
 
 others : (c : ℕ) (events : List Event) → IsMeanwhile c events → AreOthers c events
 others c events all = All-weaker (λ other. step_of c other ≡ None) (λ other. is_step_by c other ≡ false) (other_event c) events all
 
 step_by : (casts : List ActorSpec) (c : ℕ) (step : Step) (before done : List Event) → DoesStepIn casts c step before done → DoesStepBy casts c step before done
 step_by casts c (Submit a method args) before done does = does
-step_by casts c (Copy a) before done does = does
-step_by casts c (Release a) before done does = does
-step_by casts c (Kill a) before done does = does
-step_by casts c (Await k) before done does = does
+step_by casts c step before done does = does
 
 -- who does a plan in some events does its steps in them as the law of lists asks
 pub steps_by : (casts : List ActorSpec) (c : ℕ) (plan : List Step) (before events : List Event) → DoesPlanIn casts c plan before events
@@ -78,15 +69,9 @@ step_caller c h (event.Copy d a) e is =
     same_caller c d h is (needs-none (is_caller d h) NoCaller (option_map Handle (copy_refusal (copies_of d a h))) e).0
 step_caller c h (event.Release d a) e is =
     same_caller c d h is (needs-none (is_caller d h) NoCaller (option_map Handle (handle_refusal (copies_of d a h))) e).0
-step_caller c h (event.Send d k) e is = cc
-step_caller c h (event.Deliver i) e is = cc
-step_caller c h (event.Run a d) e is = cc
-step_caller c h (event.Collect j) e is = cc
 step_caller c h (event.AskKill d a) e is =
     same_caller c d h is (needs-none (is_caller d h) NoCaller (option_map Handle (handle_refusal (copies_of d a h))) e).0
-step_caller c h (event.TakeKill a) e is = cc
-step_caller c h (event.Tell a d) e is = cc
-step_caller c h (event.Retire a) e is = cc
+step_caller c h other e is = cc
 
 -- whether some cast names the caller
 abbrev pub is_named : List ActorSpec → ℕ → Bool
