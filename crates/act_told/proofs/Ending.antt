@@ -3,7 +3,7 @@ use Rattle.act_told.proofs.Common.{◌≡◌, ℕ, ◌+◌, ◌<◌, ◌≤◌, 
 use Rattle.act_told.proofs.Common.{None, option_map, Ok, Err, IsTrue, refl, ap, sym, subst, ◌∙◌, arith, Contains, list_any, enumerate_from, eq-eqb, eqb-true}
 use Rattle.act_told.proofs.Common.{cases_lt, get_or_past, length-map, slice_get_within, slice_get-map, get_or_from_slice_get, MAX_ACTORS, MAX_CALLERS}
 use Rattle.act_told.proofs.Common.{ActorDied, ActorSpec, contains, Answer, items_of, RunItem, Submission, Step, kept_at, calls_to, element, map-slice_get}
-use Rattle.act_told.proofs.Common.{OwnerView, is_death, is_death-only, EndView, Killed, Retired, Starved, end_id, end_log, IfRetired, IsJoined, RanAll}
+use Rattle.act_told.proofs.Common.{OwnerView, is_death, is_death-only, EndView, Killed, Retired, end_id, end_log, IfRetired, IsJoined, RanAll}
 use Rattle.act_told.proofs.Common.{owner_of, end_of, calls_in, kept_in, calls_of_owner, kept_of_owner, is_killed, is_killed_end, Call, Failed, Died, Run}
 use Rattle.act_told.proofs.Common.{call_of, actor_of, calls_run, actor_place, start_of, outcome_of, calls_told, runs_told, actor_told, end_told, told_by}
 use Rattle.act_told.proofs.Common.{StandsAsItsActor}
@@ -26,8 +26,7 @@ died_is (Some (Err fault)) e = ap (λ (x : Answer). Some x) (died_by (Err fault)
 
 dead_is : (end : EndView) → is_killed end ≡ true → end_told end ≡ told.Dead
 dead_is (Killed dead) e = refl
-dead_is (Retired retired) e = absurd (cc)
-dead_is (Starved dead) e = absurd (cc)
+dead_is end e = absurd (cc)
 
 killed_there : (found : Option EndView) → IsTrue (is_killed_end found) → (end : EndView) × (found ≡ Some end) × (is_killed end ≡ true)
 killed_there None e = absurd (cc)
@@ -37,9 +36,8 @@ killed_there (Some end) e = (end, refl, e)
 if_retired : (casts : List ActorSpec) (owners : List OwnerView) (end : EndView) → end_told end ≡ told.Retired →
     IfRetired end (RanAll casts owners) → (c : ℕ) → map (λ item. item.future) (items_of c (end_log end))
     ≡ map (λ call. call.0) (calls_to (end_id end) (calls_in owners c))
-if_retired casts owners (Killed dead) e ran c = absurd (cc)
 if_retired casts owners (Retired retired) e ran c = ran.calls c
-if_retired casts owners (Starved dead) e ran c = absurd (cc)
+if_retired casts owners end e ran c = absurd (cc)
 
 -- ---- callers and actors that are there
 
