@@ -31,18 +31,7 @@ left_brought told h i left = go (refusal_of h (event.Deliver i))
 
 left_mail : (told : Told) (h : History) (d : Did) → IsLeft told h → IsLeft told (after_mail d h)
 left_mail told h (did_so.Mail i) left = left_brought told h i left
-left_mail told h (did_so.Future c k) left = left
-left_mail told h (did_so.Copies n) left = left
-left_mail told h (did_so.Arrived arrival) left = left
-left_mail told h (did_so.Ran place j) left = left
-left_mail told h did_so.Gap left = left
-left_mail told h (did_so.Kept c k) left = left
-left_mail told h (did_so.Late c k) left = left
-left_mail told h (did_so.Died n) left = left
-left_mail told h did_so.Asked left = left
-left_mail told h did_so.Dead left = left
-left_mail told h (did_so.Told j) left = left
-left_mail told h did_so.Retired left = left
+left_mail told h d left = left
 
 pub let_go : (told : Told) (h : History) → IsAtRest told h → (c a : ℕ) → refusal_of h (event.Release c a) ≡ None
     → IsAtRest told (after_post (event.Release c a) h)

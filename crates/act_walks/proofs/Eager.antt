@@ -91,18 +91,7 @@ near_brought casts bound told s done h i near = go (refusal_of h (event.Deliver 
 near_mail : (casts : List ActorSpec) (bound : ℕ → Option (List Step)) (told : Told) → SomeEnd casts bound told → (done : ℕ → ℕ) (h : History) (d : Did)
     → IsNear casts bound told done h → IsNear casts bound told done (after_mail d h)
 near_mail casts bound told s done h (did_so.Mail i) near = near_brought casts bound told s done h i near
-near_mail casts bound told s done h (did_so.Future c k) near = near
-near_mail casts bound told s done h (did_so.Copies n) near = near
-near_mail casts bound told s done h (did_so.Arrived arrival) near = near
-near_mail casts bound told s done h (did_so.Ran place j) near = near
-near_mail casts bound told s done h did_so.Gap near = near
-near_mail casts bound told s done h (did_so.Kept c k) near = near
-near_mail casts bound told s done h (did_so.Late c k) near = near
-near_mail casts bound told s done h (did_so.Died n) near = near
-near_mail casts bound told s done h did_so.Asked near = near
-near_mail casts bound told s done h did_so.Dead near = near
-near_mail casts bound told s done h (did_so.Told j) near = near
-near_mail casts bound told s done h did_so.Retired near = near
+near_mail casts bound told s done h d near = near
 
 -- ---- each thing
 

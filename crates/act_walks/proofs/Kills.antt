@@ -20,21 +20,13 @@ kept bound told h g more asked c a free dead named = more.asked a (asked c a fre
     (ap (λ (l : List ActorSpec). names c (find (λ (cast : ActorSpec). cast.actor == a) l)) (sym more.casts) ∙ named))
 
 no_less : (h : History) (other : Event) → IsNoLess h (add_event h other)
-no_less h (event.Submit c a method args) = record { casts = refl; asked = λ b has. has }
-no_less h (event.Copy c a) = record { casts = refl; asked = λ b has. has }
-no_less h (event.Release c a) = record { casts = refl; asked = λ b has. has }
-no_less h (event.Send c k) = record { casts = refl; asked = λ b has. has }
-no_less h (event.Deliver i) = record { casts = refl; asked = λ b has. has }
 no_less h (event.Run a c) = go (next_item a c h)
   where
     go : (o : Option RunItem) → IsNoLess h (after_run a c h o)
     go None = record { casts = refl; asked = λ b has. has }
     go (Some item) = record { casts = refl; asked = λ b has. has }
-no_less h (event.Collect j) = record { casts = refl; asked = λ b has. has }
 no_less h (event.AskKill c a) = record { casts = refl; asked = λ b has. contains_push b a h.asked ∙ ap (λ (y : Bool). y || (a == b)) has }
-no_less h (event.TakeKill a) = record { casts = refl; asked = λ b has. has }
-no_less h (event.Tell a c) = record { casts = refl; asked = λ b has. has }
-no_less h (event.Retire a) = record { casts = refl; asked = λ b has. has }
+no_less h other = record { casts = refl; asked = λ b has. has }
 
 -- where the kills of those told dead are asked, they still are after any event
 pub kills_event : (bound : ℕ → Option (List Step)) (told : Told) (h : History) (other : Event) → KillsAreAsked bound told h
@@ -51,18 +43,7 @@ kills_after bound told h other asked = go (refusal_of h other)
 
 kills_mail : (bound : ℕ → Option (List Step)) (told : Told) (h : History) (d : Did) → KillsAreAsked bound told h → KillsAreAsked bound told (after_mail d h)
 kills_mail bound told h (did_so.Mail i) asked = kills_after bound told h (event.Deliver i) asked
-kills_mail bound told h (did_so.Future c k) asked = asked
-kills_mail bound told h (did_so.Copies n) asked = asked
-kills_mail bound told h (did_so.Arrived arrival) asked = asked
-kills_mail bound told h (did_so.Ran place j) asked = asked
-kills_mail bound told h did_so.Gap asked = asked
-kills_mail bound told h (did_so.Kept c k) asked = asked
-kills_mail bound told h (did_so.Late c k) asked = asked
-kills_mail bound told h (did_so.Died n) asked = asked
-kills_mail bound told h did_so.Asked asked = asked
-kills_mail bound told h did_so.Dead asked = asked
-kills_mail bound told h (did_so.Told j) asked = asked
-kills_mail bound told h did_so.Retired asked = asked
+kills_mail bound told h d asked = asked
 
 pub kills_post : (bound : ℕ → Option (List Step)) (told : Told) (h : History) (other : Event) → KillsAreAsked bound told h
     → KillsAreAsked bound told (after_post other h)

@@ -237,17 +237,10 @@ paced_release casts bound done events c a all paced = go (bound c) refl
 paced_one : (casts : List ActorSpec) (bound : ℕ → Option (List Step)) (done : ℕ → ℕ) (events : List Event) (one : Event) → AreAllDone bound done
     → is_restful one ≡ true
     → IsPaced casts bound done events → IsPaced casts bound done (events ++ one ∷ [])
-paced_one casts bound done events (event.Submit c a method args) all is paced = cc
-paced_one casts bound done events (event.Copy c a) all is paced = cc
 paced_one casts bound done events (event.Release c a) all is paced = paced_release casts bound done events c a all paced
-paced_one casts bound done events (event.Send c k) all is paced = cc
 paced_one casts bound done events (event.Deliver i) all is paced = Others done events (event.Deliver i) (λ d steps is. refl) paced
-paced_one casts bound done events (event.Run a c) all is paced = cc
-paced_one casts bound done events (event.Collect j) all is paced = cc
-paced_one casts bound done events (event.AskKill c a) all is paced = cc
-paced_one casts bound done events (event.TakeKill a) all is paced = cc
-paced_one casts bound done events (event.Tell a c) all is paced = cc
 paced_one casts bound done events (event.Retire a) all is paced = Others done events (event.Retire a) (λ d steps is. refl) paced
+paced_one casts bound done events one all is paced = cc
 
 paced_more : (casts : List ActorSpec) (bound : ℕ → Option (List Step)) (done : ℕ → ℕ) (events more : List Event) → AreAllDone bound done
     → All (λ event. is_restful event ≡ true) more

@@ -42,23 +42,15 @@ copy_copies h c a may = some (copies_of c a h) (needs-none (is_caller c h) NoCal
     some (Some n) e = refl
 
 asked_step : IsKept AskedAreNamed
-asked_step h (event.Submit c b method args) named may = named
-asked_step h (event.Copy c b) named may = named
-asked_step h (event.Release c b) named may = named
-asked_step h (event.Send c k) named may = named
-asked_step h (event.Deliver i) named may = named
 asked_step h (event.Run b c) named may = go (next_item b c h)
   where
     go : (o : Option RunItem) → AskedAreNamed (after_run b c h o)
     go None = named
     go (Some item) = named
-asked_step h (event.Collect j) named may = named
 asked_step h (event.AskKill c b) named may = λ a has.
     either_of (contains a h.asked) (b == a) ((d : ℕ) × (names d (cast_of a h) ≡ true)) (sym (contains_push a b h.asked) ∙ has) (named a)
     (λ same. (c, ap (λ (n : ℕ). names c (cast_of n h)) (sym (eqb-true b a same)) ∙ copies_named c b h (ask_copies h c b may)))
-asked_step h (event.TakeKill b) named may = named
-asked_step h (event.Tell b c) named may = named
-asked_step h (event.Retire b) named may = named
+asked_step h other named may = named
 
 asked_named : (casts : List ActorSpec) (events : List Event) → AskedAreNamed (history casts events)
 asked_named casts events = after_all_keeps AskedAreNamed asked_step (opening casts) events (λ a has. cc)

@@ -45,22 +45,13 @@ run_cast h b c a (Some item) cast some none = under-push a b h.ran item ∙ go (
     go false e = append-nil (runs_of a h) ∙ cast a none
 
 cast_step : IsKept RunsAreCast
-cast_step h (event.Submit c b method args) cast may = cast
-cast_step h (event.Copy c b) cast may = cast
-cast_step h (event.Release c b) cast may = cast
-cast_step h (event.Send c k) cast may = cast
-cast_step h (event.Deliver i) cast may = cast
 cast_step h (event.Run b c) cast may = λ a none.
     run_cast h b c a (next_item b c h) cast (cast_known (cast_of b h) c (run_needs h b c may).1) (casts (next_item b c h) a none)
   where
     casts : (o : Option RunItem) (a : ℕ) → cast_of a (after_run b c h o) ≡ None → cast_of a h ≡ None
     casts None a e = e
     casts (Some item) a e = e
-cast_step h (event.Collect j) cast may = cast
-cast_step h (event.AskKill c b) cast may = cast
-cast_step h (event.TakeKill b) cast may = cast
-cast_step h (event.Tell b c) cast may = cast
-cast_step h (event.Retire b) cast may = cast
+cast_step h other cast may = cast
 
 pub no_runs : (casts : List ActorSpec) (h : History) (a : ℕ) (world : WorldView) (events : List Event) → IsBehind casts h world events → cast_of a h ≡ None → 0 ≡ length (runs_of a h)
 no_runs casts h a world events behind none =

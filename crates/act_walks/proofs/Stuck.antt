@@ -45,21 +45,14 @@ collect_posted h j was post has = go (slice_get h.posts j) refl has
         either new place.0 at (push_at h.collected new post place.0 place.1)
 
 was_posted_step : IsKept WasPosted
-was_posted_step h (event.Submit c a method args) was may = was
-was_posted_step h (event.Copy c a) was may = was
-was_posted_step h (event.Release c a) was may = was
-was_posted_step h (event.Send c k) was may = was
-was_posted_step h (event.Deliver i) was may = was
 was_posted_step h (event.Run a c) was may = more_posted h (add_event h (event.Run a c)) was (same (next_item a c h)) (added_grows h (event.Run a c)).posts
   where
     same : (o : Option RunItem) → (after_run a c h o).collected ≡ h.collected
     same None = refl
     same (Some item) = refl
 was_posted_step h (event.Collect j) was may = collect_posted h j was
-was_posted_step h (event.AskKill c a) was may = was
-was_posted_step h (event.TakeKill a) was may = was
 was_posted_step h (event.Tell a c) was may = more_posted h (add_event h (event.Tell a c)) was refl (added_grows h (event.Tell a c)).posts
-was_posted_step h (event.Retire a) was may = was
+was_posted_step h other was may = was
 
 was_posted : (casts : List ActorSpec) (bound : ℕ → Option (List Step)) (told : Told) (done : ℕ → ℕ) (h : History) → IsWalked casts bound told done h
     → WasPosted h

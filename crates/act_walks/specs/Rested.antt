@@ -15,17 +15,10 @@ use Rattle.act_walks.specs.Eager.{IsAtRest}
 
 -- whether the event is one of that time: a handle is let go, a letter is brought, or an actor retires
 abbrev pub is_restful : Event → Bool
-is_restful (event.Submit c a method args) = false
-is_restful (event.Copy c a) = false
 is_restful (event.Release c a) = true
-is_restful (event.Send c k) = false
 is_restful (event.Deliver i) = true
-is_restful (event.Run a c) = false
-is_restful (event.Collect j) = false
-is_restful (event.AskKill c a) = false
-is_restful (event.TakeKill a) = false
-is_restful (event.Tell a c) = false
 is_restful (event.Retire a) = true
+is_restful other = false
 
 -- nothing else happened since
 abbrev pub OnlyRests : List Event → List Event → Type 0
