@@ -6,7 +6,7 @@ use Rattle.actors.specs.Value.TheVariants.{Int}
 use Rattle.actors.specs.Method.TheVariants as method
 use Rattle.actors.specs.Fault.{Fault}
 use Rattle.actors.specs.Fault.TheVariants.{BadAmount, Insufficient}
-use Rattle.actors.specs.Kinds.{KindState, OwnAt, CounterAt, TableOf, AccountAt, ItemsOf, Ask, step_answer}
+use Rattle.actors.specs.Kinds.{KindState, OwnAt, Ask, step_answer}
 use Rattle.actors.specs.Rules.{ActorSpec, History}
 use Rattle.actors.specs.Rules.{runs_of}
 use Rattle.actors.specs.Actors.{state_after}
@@ -18,10 +18,7 @@ use Rattle.example_transfer.specs.Money.{IsPurse, HoldTogether}
 -- whether a kind of one's own answers a call with a value
 abbrev gives : KindState → Ask → Bool
 gives (OwnAt behaviour) ask = is_ok (behaviour.told [] ask)
-gives (CounterAt n) ask = false
-gives (TableOf pairs) ask = false
-gives (AccountAt n) ask = false
-gives (ItemsOf items) ask = false
+gives state ask = false
 
 -- the call that asks for so much
 abbrev paying : ℕ → Ask

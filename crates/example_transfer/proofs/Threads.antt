@@ -92,12 +92,11 @@ record IsLeft (a : ℕ) (actors : List PurseLeft) (purse : Purse) : Type 0 where
 -- what is found of an actor leaves its purse
 left_by : (a : ℕ) (actors : List PurseLeft) (purse : Purse) (ended : PurseEnd)
     → purse_left a actors ≡ purse_of_end ended → Leaves (end_view purse_at ended) purse → IsLeft a actors purse
-left_by a actors purse (ended.Killed dead) found l = cc
-left_by a actors purse (ended.Starved dead) found l = cc
 left_by a actors purse (ended.Retired retired) found l =
     let is : Retired (retired_view purse_at retired) ≡ Retired l.retired = l.is in
     let same : retired_view purse_at retired ≡ l.retired = cc in
     record { left = retired.state; is = found; same = same_held retired.state purse (ap (λ (r : RetiredView). r.state) same ∙ l.state) }
+left_by a actors purse end found l = cc
 
 module _ (casts : List ActorSpec) (plans : List (ℕ × List Step)) (owners : List OwnerView) (actors : List PurseLeft) where
   abbrev ends : List EndView

@@ -11,7 +11,7 @@ use Rattle.actors.specs.Threads.{IsJoined, plan_of, EndView, end_view, end_id}
 use Rattle.actors.specs.Plays.{IsPlayedAsPlanned}
 use Rattle.actors.specs.PlanEnds.{LeadsToEnd}
 use Rattle.actors.specs.Ended.{Ended}
-use Rattle.actors.specs.Ended.TheVariants.{Killed, Retired, Starved}
+use Rattle.actors.specs.Ended.TheVariants.{Retired}
 use Rattle.actors.specs.Finished.{Finished}
 use Rattle.actors.specs.RunItem.{RunItem}
 use Rattle.example_transfer.specs.declared.purse.Purse.{Purse}
@@ -63,9 +63,8 @@ ends_of actors = map (λ actor. end_view purse_at actor.ended) actors
 
 -- the purse of an actor that retired
 abbrev pub purse_of_end : PurseEnd → Option Purse
-purse_of_end (Killed dead) = None
 purse_of_end (Retired retired) = Some retired.state
-purse_of_end (Starved dead) = None
+purse_of_end end = None
 
 -- the purse with which this actor retired
 abbrev pub purse_left : ℕ → List PurseLeft → Option Purse
