@@ -13,10 +13,7 @@ IsMild call = is_mild call.method ≡ true
 
 step_mild : (p : Progress) (step : Step) → is_peaceful step ≡ true → AllByRecursion IsMild p.submitted → AllByRecursion IsMild (do_step p step).submitted
 step_mild p (Submit a m args) peace mild = All_more IsMild p.submitted (record { actor = a; method = m; args = args }) mild peace
-step_mild p (Copy a) peace mild = mild
-step_mild p (Release a) peace mild = mild
-step_mild p (Kill a) peace mild = mild
-step_mild p (Await k) peace mild = mild
+step_mild p step peace mild = mild
 
 done_mild : (actors : List ℕ) (p : Progress) (steps : List Step) → list_all is_peaceful steps ≡ true → AllByRecursion IsMild p.submitted → AllByRecursion IsMild (done_by actors p steps).submitted
 done_mild actors p [] peace mild = mild
@@ -56,19 +53,7 @@ peaceful_plan c (plan ∷ plans) peace =
 -- no call that ends its actor is mild
 end_wild : (m : Method) (args : List Settled) → is_end m args ≡ true → is_mild m ≡ true → ⊥
 end_wild method.Terminate args e mild = cc
-end_wild (method.Own n) args e mild = cc
-end_wild method.Add args e mild = cc
-end_wild method.Get args e mild = cc
-end_wild method.Put args e mild = cc
-end_wild method.Del args e mild = cc
-end_wild method.Size args e mild = cc
-end_wild method.Deposit args e mild = cc
-end_wild method.Withdraw args e mild = cc
-end_wild method.Balance args e mild = cc
-end_wild method.Push args e mild = cc
-end_wild method.Pop args e mild = cc
-end_wild method.At args e mild = cc
-end_wild method.Len args e mild = cc
+end_wild m args e mild = cc
 
 there : {A : Type 0} (o : Option A) → is_some o ≡ true → (x : A) × (o ≡ Some x)
 there None e = absurd (cc)
