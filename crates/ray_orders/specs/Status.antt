@@ -14,8 +14,5 @@ status_of stop.Refused = 5
 -- what is told on the standard error; what is wrong with a history stands on the standard output
 abbrev pub IsTold : Stop → Type 0
 IsTold stop.Mistake = ⊥
-IsTold stop.Usage = Unit {0}
-IsTold stop.NoMemory = Unit {0}
-IsTold stop.Reading = Unit {0}
-IsTold stop.Writing = Unit {0}
 IsTold stop.Refused = ⊥
+IsTold other = Unit {0}

@@ -19,25 +19,18 @@ Grows old new = (text : List ℕ) × Appends old new text
 abbrev pub StopsWriting : Stop → Type 0
 StopsWriting stop.NoMemory = Unit {0}
 StopsWriting stop.Writing = Unit {0}
-StopsWriting stop.Mistake = ⊥
-StopsWriting stop.Usage = ⊥
-StopsWriting stop.Reading = ⊥
-StopsWriting stop.Refused = ⊥
+StopsWriting other = ⊥
 
 -- and reading
 abbrev pub StopsReading : Stop → Type 0
 StopsReading stop.NoMemory = Unit {0}
 StopsReading stop.Reading = Unit {0}
-StopsReading stop.Mistake = ⊥
-StopsReading stop.Usage = ⊥
-StopsReading stop.Writing = ⊥
-StopsReading stop.Refused = ⊥
+StopsReading other = ⊥
 
 -- the reasons that are told: all, or the first alone
 abbrev pub reasons_told : {A : Type 0} → Command → List A → List A
 reasons_told command.All reasons = reasons
-reasons_told command.First reasons = take 1 reasons
-reasons_told command.Order reasons = take 1 reasons
+reasons_told other reasons = take 1 reasons
 
 -- the line of a history in order, with the number of its calls
 abbrev pub in_order_line : ℕ → List ℕ
@@ -45,9 +38,8 @@ in_order_line count = codes "in order: " ++ (decimal count ++ codes " calls\n")
 
 -- what is written of one: that line, or its order
 abbrev pub TellsInOrder : ℕ → Command → Option (List ℕ) → Option (List ℕ) → Type 0
-TellsInOrder count command.First old new = Appends old new (in_order_line count)
-TellsInOrder count command.All old new = Appends old new (in_order_line count)
 TellsInOrder count command.Order old new = Grows old new
+TellsInOrder count other old new = Appends old new (in_order_line count)
 
 -- how a history is judged, of which these runs tell another method than their calls: Ok only where it is in order, and
 -- refused only where it isn't
@@ -57,9 +49,7 @@ IsJudged told renamed command old new (Ok done) = (renamed ≡ []) × IsInOrder 
 IsJudged told renamed command old new (Err stop.Refused) = (renamed ≡ [] → IsInOrder told → ⊥) × Grows old new
 IsJudged told renamed command old new (Err stop.NoMemory) = Unit {0}
 IsJudged told renamed command old new (Err stop.Writing) = Unit {0}
-IsJudged told renamed command old new (Err stop.Mistake) = ⊥
-IsJudged told renamed command old new (Err stop.Usage) = ⊥
-IsJudged told renamed command old new (Err stop.Reading) = ⊥
+IsJudged told renamed command old new (Err other) = ⊥
 
 -- what the program read and wrote, by how it ends
 abbrev pub IsRun : Command → Option (List ℕ) → Option (List ℕ) → Option (List ℕ) → Option (List ℕ) →
