@@ -46,10 +46,9 @@ fault_breaks told (LeftOut n) order f o = f.2 ((o.ends n f.0).retired f.1)
 fault_breaks told (Spoiled n k) order f o = failed (call_of told k).outcome f.3 ((o.ends n f.0).taken f.1 k f.2)
   where
     failed : (outcome : Outcome) → HasFailed outcome → outcome ≡ out.Answered → ⊥
-    failed out.Answered has is = has
     failed out.Failed has is = absurd (cc)
     failed out.Died has is = absurd (cc)
-    failed out.Open has is = has
+    failed outcome has is = has
 fault_breaks told (Lacks one other) order f o =
     let place = place_in order one (o.causes.all one f.0) in
     let before = found_before place.0 order other ((o.causes.after place.0 one place.1).causes other f.1) in

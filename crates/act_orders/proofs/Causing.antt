@@ -59,9 +59,8 @@ mapped None u e = absurd (cc)
 mapped (Some m) u e = (m, refl, same_Some (Answered m) u (same_Some (Some (Answered m)) (Some u) e))
 
 taken_cause : (told : Told) (v : Happening) (m : ℕ) → Contains (taken_by told v) m → IsCause told (Answered m) v
-taken_cause told (Submitted n) m has = has
-taken_cause told (Ran n) m has = has
 taken_cause told (Answered n) m has = absurd (omega (arith, has.1))
+taken_cause told v m has = has
 
 submitted_before : (told : Told) (n : ℕ) (u : Happening) → call_before told n ≡ Some u → IsCause told u (Submitted n)
 submitted_before told zero u e = absurd (cc)
@@ -97,15 +96,11 @@ ran_last (Some m) u e = (m, refl, same_Some (Ran m) u e)
 
 answered_by : (told : Told) (n : ℕ) (o : Outcome) (u : Happening) → (call_of told n).outcome ≡ o →
     run_answered told o n ≡ Some u → IsCause told u (Answered n)
-answered_by told n out.Answered u is e = subst (λ w. IsCause told w (Answered n)) (same_Some (Ran n) u e)
-    (subst (λ o. RunsBefore told o n n) (sym is) refl)
-answered_by told n out.Failed u is e = subst (λ w. IsCause told w (Answered n)) (same_Some (Ran n) u e)
-    (subst (λ o. RunsBefore told o n n) (sym is) refl)
 answered_by told n out.Died u is e =
     let last = ran_last (last_call told.runs (call_of told n).actor) u e in
     subst (λ w. IsCause told w (Answered n)) last.2
     (subst (λ o. RunsBefore told o last.0 n) (sym is) (is_last told (call_of told n).actor last.0 last.1))
-answered_by told n out.Open u is e = subst (λ w. IsCause told w (Answered n)) (same_Some (Ran n) u e)
+answered_by told n outcome u is e = subst (λ w. IsCause told w (Answered n)) (same_Some (Ran n) u e)
     (subst (λ o. RunsBefore told o n n) (sym is) refl)
 
 first_is : (told : Told) (places : List (Option ℕ)) (v u : Happening) → HasPlaces told told.runs places → Happened told v →
@@ -181,53 +176,41 @@ run_slot told i a m n (Some (suc j)) turn at one next = elim (same_or_not j i) [
 ]
 
 answer_slot : (told : Told) (o : Outcome) (m n : ℕ) → RunsBefore told o m n → run_answered told o n ≡ Some (Ran m)
-answer_slot told out.Answered m n before = ap (λ k. Some (Ran k)) (sym before)
-answer_slot told out.Failed m n before = ap (λ k. Some (Ran k)) (sym before)
 answer_slot told out.Died m n before = ap (λ o. option_map (λ k. Ran k) o) (last_found told (call_of told n).actor m before)
-answer_slot told out.Open m n before = ap (λ k. Some (Ran k)) (sym before)
+answer_slot told o m n before = ap (λ k. Some (Ran k)) (sym before)
 
 pub cause_needed : (told : Told) (places : List (Option ℕ)) (u v : Happening) → HasPlaces told told.runs places → IsWhole told →
     RunsInTurn told → Happened told v → IsCause told u v → Needs (graph_of told places) v u
 cause_needed told places (Submitted m) (Submitted n) at whole turn is cause = (0, ap Some (call_slot told m n cause.0 cause.1))
 cause_needed told places (Ran m) (Submitted n) at whole turn is cause = absurd cause
-cause_needed told places (Answered m) (Submitted n) at whole turn is cause = in_taken told places (Submitted n) m cause
 cause_needed told places (Submitted m) (Ran n) at whole turn is cause = (1, ap (λ k. Some (Some (Submitted k))) (sym cause))
 cause_needed told places (Ran m) (Ran n) at whole turn is cause =
     (0, ap Some (run_slot told cause.0 cause.1 m n (place_of places n) turn (at.place n (ran_within told n whole is)) cause.2 cause.3))
-cause_needed told places (Answered m) (Ran n) at whole turn is cause = in_taken told places (Ran n) m cause
 cause_needed told places (Submitted m) (Answered n) at whole turn is cause = (0, ap (λ k. Some (Some (Submitted k))) (sym cause))
 cause_needed told places (Ran m) (Answered n) at whole turn is cause =
     (1, ap Some (answer_slot told (call_of told n).outcome m n cause))
 cause_needed told places (Answered m) (Answered n) at whole turn is cause = absurd cause
+cause_needed told places (Answered m) v at whole turn is cause = in_taken told places v m cause
 
 -- no two happenings have one number
 pub numbers_apart : (v w : Happening) → number_of v ≡ number_of w → v ≡ w
 numbers_apart (Submitted m) (Submitted n) e = let s : m ≡ n = omega arith in ap (λ k. Submitted k) s
-numbers_apart (Submitted m) (Ran n) e = absurd (omega arith)
-numbers_apart (Submitted m) (Answered n) e = absurd (omega arith)
-numbers_apart (Ran m) (Submitted n) e = absurd (omega arith)
 numbers_apart (Ran m) (Ran n) e = let s : m ≡ n = omega arith in ap (λ k. Ran k) s
-numbers_apart (Ran m) (Answered n) e = absurd (omega arith)
-numbers_apart (Answered m) (Submitted n) e = absurd (omega arith)
-numbers_apart (Answered m) (Ran n) e = absurd (omega arith)
 numbers_apart (Answered m) (Answered n) e = let s : m ≡ n = omega arith in ap (λ k. Answered k) s
+numbers_apart v w e = absurd (omega arith)
 
 -- what ran before an answer did run
 pub ran_before_answer : (told : Told) (o : Outcome) (m n : ℕ) → RunsBefore told o m n → (o ≢ out.Died → Happened told (Ran n)) →
     Happened told (Ran m)
-ran_before_answer told out.Answered m n before ran = subst (λ k. Happened told (Ran k)) (sym before) (ran (λ e. cc))
-ran_before_answer told out.Failed m n before ran = subst (λ k. Happened told (Ran k)) (sym before) (ran (λ e. cc))
 ran_before_answer told out.Died m n before ran =
     stands_in (calls_run told) before.place m (call_at told before.place (record { actor = (call_of told n).actor; call = m }) before.at)
-ran_before_answer told out.Open m n before ran = subst (λ k. Happened told (Ran k)) (sym before) (ran (λ e. cc))
+ran_before_answer told o m n before ran = subst (λ k. Happened told (Ran k)) (sym before) (ran (λ e. cc))
 
 -- so it is one of the calls
 before_answer : (told : Told) (o : Outcome) (m n : ℕ) → IsWhole told → n < length told.calls → RunsBefore told o m n →
     m < length told.calls
-before_answer told out.Answered m n whole lt before = omega arith
-before_answer told out.Failed m n whole lt before = omega arith
 before_answer told out.Died m n whole lt before = ran_within told m whole (ran_before_answer told out.Died m n before (λ d. absurd (d refl)))
-before_answer told out.Open m n whole lt before = omega arith
+before_answer told o m n whole lt before = omega arith
 
 -- a cause of what happened is a happening of one of the calls
 pub cause_within : (told : Told) (u v : Happening) → IsWhole told → Happened told v → IsCause told u v → call_in u < length told.calls
@@ -251,8 +234,7 @@ happened_within told (Answered n) whole is = is.0
 
 pub number_below : (told : Told) (v : Happening) → call_in v < length told.calls → number_of v < 3 * length told.calls
 number_below told (Submitted n) lt = omega arith
-number_below told (Ran n) lt = omega arith
-number_below told (Answered n) lt = omega arith
+number_below told v lt = omega arith
 
 -- there aren't many slots
 pub few_slots : (told : Told) (places : List (Option ℕ)) (v : Happening) → IsWhole told → call_in v < length told.calls →

@@ -88,9 +88,8 @@ good_all told n takes i far all is k has =
 -- what came and didn't fail is answered
 is_answered : (outcome : Outcome) → (HasFailed outcome → ⊥) → outcome ≢ Open → outcome ≡ out.Answered
 is_answered out.Answered good come = refl
-is_answered out.Failed good come = absurd (good (tt))
-is_answered out.Died good come = absurd (good (tt))
 is_answered out.Open good come = absurd (come refl)
+is_answered outcome good come = absurd (good (tt))
 
 taken_good : (told : Told) (n : ℕ) → n < length told.calls → Runs told n → (Happened told (Ran n) → Come told (call_of told n).takes) →
     TakesGood told n (call_of told n).takes → (call_of told n).outcome ≡ out.Answered → (k : ℕ) →

@@ -1,7 +1,7 @@
 -- What a search does next, and the circle that it may meet.
 use Rattle.act_orders.proofs.Common.{◌≡◌, ℕ, ◌+◌, ◌-◌, ◌<◌, inl, inr, List, [], ◌∷◌, ◌++◌, length, drop, sym, ap, subst, ◌∙◌, arith, Option, Some, None}
 use Rattle.act_orders.proofs.Common.{slice_get, Contains, length-append, length-drop, Contains-push_cases, slice_get_within, same_Some, Next, Finish, Pass}
-use Rattle.act_orders.proofs.Common.{Enter, Close, Happening, Told, Happened, IsCause, Graph, Needs, Standing, IsWhole, HasPlaces, graph_of, IsCircle}
+use Rattle.act_orders.proofs.Common.{Happening, Told, Happened, IsCause, Graph, Needs, Standing, IsWhole, HasPlaces, graph_of, IsCircle}
 use Rattle.act_orders.proofs.Common.{IsAtCause, IsNext, place_in, stands_in, slice_get_more, slice_get_last}
 use Rattle.act_orders.proofs.Lists.{get_pushed, get_dropped}
 use Rattle.act_orders.proofs.Causing.{needs_cause}
@@ -16,9 +16,7 @@ next_at g marks path order top m cause Pass at is = (
       let same : cause ≡ u = same_Some cause u (same_Some (Some cause) (Some u) (sym at ∙ e)) in
       subst (Contains order) same (is (subst g.IsNode (sym same) node))),
 )
-next_at g marks path order top m cause (Enter u) at is =
-    ((m - 1, at ∙ ap (λ x. Some (Some x)) (sym is.0)), is.1, is.2)
-next_at g marks path order top m cause (Close u) at is =
+next_at g marks path order top m cause next at is =
     ((m - 1, at ∙ ap (λ x. Some (Some x)) (sym is.0)), is.1, is.2)
 
 -- a slot without a cause

@@ -120,10 +120,8 @@ last_call (run ∷ runs) a = option_or (last_call runs a) (if run.actor == a the
 
 -- an answer comes after the run, and a death after the last run of the actor
 abbrev pub run_answered : Told → Outcome → ℕ → Option Happening
-run_answered told out.Answered n = Some (Ran n)
-run_answered told out.Failed n = Some (Ran n)
 run_answered told out.Died n = option_map (λ m. Ran m) (last_call told.runs (call_of told n).actor)
-run_answered told out.Open n = Some (Ran n)
+run_answered told outcome n = Some (Ran n)
 
 abbrev pub second_cause : Told → Happening → Option Happening
 second_cause told (Submitted n) = None
