@@ -2,7 +2,7 @@
 use Rattle.std.specs.Prelude.{◌≡◌, ◌⊎◌, true, ◌∷◌, ◌++◌, [], is_some}
 use Rattle.act_types.specs.declared.call.Notice.{Notice}
 use Rattle.act_rules.specs.declared.script.Step.{Step}
-use Rattle.act_rules.specs.declared.script.Step.TheVariants.{Submit, Copy, Release, Kill, Await}
+use Rattle.act_rules.specs.declared.script.Step.TheVariants.{Await}
 use Rattle.act_rules.specs.Submissions.{kept_at}
 use Rattle.act_owner.specs.Owner.{OwnerView, after_collect}
 use Rattle.act_drive.specs.declared.driver.Driver.{Driver}
@@ -15,8 +15,5 @@ IsHeard old new = ((new.owner ≡ old.owner) × (new.passes.collects ≡ old.pas
 
 -- a future that a step awaits is answered after it
 abbrev pub IsAwaited : Step → OwnerView → Type 0
-IsAwaited (Submit a method args) owner = Unit {0}
-IsAwaited (Copy a) owner = Unit {0}
-IsAwaited (Release a) owner = Unit {0}
-IsAwaited (Kill a) owner = Unit {0}
 IsAwaited (Await k) owner = is_some (kept_at owner.kept k) ≡ true
+IsAwaited step owner = Unit {0}

@@ -13,12 +13,9 @@ use Rattle.act_drive.specs.CallerTraces.{IsCallerTrace}
 
 -- the caller sends and collects meanwhile
 abbrev pub IsMeanwhile : CallerStep → Type 0
-IsMeanwhile (ChangeMade (Copied a)) = ⊥
-IsMeanwhile (ChangeMade (Released a)) = ⊥
-IsMeanwhile (ChangeMade (Submitted a method args)) = ⊥
 IsMeanwhile (ChangeMade (Sent k)) = Unit {0}
 IsMeanwhile (ChangeMade (Noticed notice)) = Unit {0}
-IsMeanwhile (KillAsked a) = ⊥
+IsMeanwhile step = ⊥
 
 -- a caller that began as `owner` and did the steps `before` does a plan's step, and its steps are then `steps`; a kill
 -- may go unasked once the actor is known to be dead, and what is awaited is answered by then

@@ -50,10 +50,7 @@ module _ (a : ℕ) (lines : List RepliesView) (log : List RunItem) (passes : Exe
     where
       go : (step : ActorStep) → letter_taken step ≡ Some letter → step ≡ LetterTaken letter
       go (LetterTaken x) e = let same_letter : x ≡ letter = cc in ap (λ (y : Letter). LetterTaken y) same_letter
-      go (CallRun item) e = absurd (cc)
-      go (KillTaken kill) e = absurd (cc)
-      go (DeathTold c) e = absurd (cc)
-      go Retirement e = absurd (cc)
+      go step e = absurd (cc)
 
 -- ---- what was given
 

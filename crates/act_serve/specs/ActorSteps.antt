@@ -21,38 +21,23 @@ pub data ActorStep : Type 0 where
 
 abbrev pub letter_taken : ActorStep → Option Letter
 letter_taken (LetterTaken letter) = Some letter
-letter_taken (CallRun item) = None
-letter_taken (KillTaken kill) = None
-letter_taken (DeathTold c) = None
-letter_taken Retirement = None
+letter_taken step = None
 
 abbrev pub call_run : ActorStep → Option RunItem
-call_run (LetterTaken letter) = None
 call_run (CallRun item) = Some item
-call_run (KillTaken kill) = None
-call_run (DeathTold c) = None
-call_run Retirement = None
+call_run step = None
 
 abbrev pub kill_taken : ActorStep → Option Asked
-kill_taken (LetterTaken letter) = None
-kill_taken (CallRun item) = None
 kill_taken (KillTaken kill) = Some kill
-kill_taken (DeathTold c) = None
-kill_taken Retirement = None
+kill_taken step = None
 
 abbrev pub is_kill_step : ActorStep → Bool
-is_kill_step (LetterTaken letter) = false
-is_kill_step (CallRun item) = false
 is_kill_step (KillTaken kill) = true
-is_kill_step (DeathTold c) = false
-is_kill_step Retirement = false
+is_kill_step step = false
 
 abbrev pub is_retirement : ActorStep → Bool
-is_retirement (LetterTaken letter) = false
-is_retirement (CallRun item) = false
-is_retirement (KillTaken kill) = false
-is_retirement (DeathTold c) = false
 is_retirement Retirement = true
+is_retirement step = false
 
 -- the calls that it ran in these steps
 abbrev pub log_of_steps : List ActorStep → List RunItem
