@@ -85,15 +85,13 @@ note_arrival inbox note =
 abbrev pub waiting_after : Arrival → Packet → InboxView → ℕ → ℕ → Option Packet
 waiting_after New packet inbox caller number = if is_packet_of caller number packet then Some packet
     else waiting_packet inbox caller number
-waiting_after Repeat packet inbox caller number = waiting_packet inbox caller number
-waiting_after Stranger packet inbox caller number = waiting_packet inbox caller number
+waiting_after arrival packet inbox caller number = waiting_packet inbox caller number
 
 -- what is held of a call after another packet came
 abbrev pub held_after : Arrival → Packet → InboxView → ℕ → ℕ → Option Packet
 held_after New packet inbox caller number = if is_packet_of caller number packet then Some packet
     else held_at inbox caller number
-held_after Repeat packet inbox caller number = held_at inbox caller number
-held_after Stranger packet inbox caller number = held_at inbox caller number
+held_after arrival packet inbox caller number = held_at inbox caller number
 
 -- what is held of a call after a packet was handed out
 abbrev pub held_without : Packet → InboxView → ℕ → ℕ → Option Packet
@@ -122,8 +120,7 @@ pub record IsNextToCome (packet : Packet) (inbox : InboxView) : Type 0 where
 -- what a caller's release note tells after a note came
 abbrev pub note_after : Arrival → ReleaseNote → InboxView → ℕ → Option ℕ
 note_after New note inbox caller = if caller == note.caller then Some note.after else note_of inbox caller
-note_after Repeat note inbox caller = note_of inbox caller
-note_after Stranger note inbox caller = note_of inbox caller
+note_after arrival note inbox caller = note_of inbox caller
 
 -- the release note came, which was this to the inbox, and nothing else changed
 pub record IsNotedIn (note : ReleaseNote) (arrival : Arrival) (old new : InboxView) : Type 0 where

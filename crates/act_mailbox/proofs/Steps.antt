@@ -14,28 +14,20 @@ use Rattle.act_mailbox.specs.Lines.{items_from, putting, taking, role, after_dea
 module _ {T N : Type 0} where
   abbrev pub IsPutting : ℕ → View T N → Type 0
   IsPutting c (Puts v) = v.number ≡ c
-  IsPutting c (Takes v) = ⊥
-  IsPutting c (Saw xs) = ⊥
-  IsPutting c Spent = ⊥
+  IsPutting c other = ⊥
 
   abbrev pub IsTaking : View T N → Type 0
-  IsTaking (Puts v) = ⊥
   IsTaking (Takes v) = Unit {0}
-  IsTaking (Saw xs) = ⊥
-  IsTaking Spent = ⊥
+  IsTaking other = ⊥
 
   abbrev pub IsCopy : View T N → Type 0
-  IsCopy (Puts v) = ⊥
-  IsCopy (Takes v) = ⊥
   IsCopy (Saw xs) = Unit {0}
-  IsCopy Spent = ⊥
+  IsCopy other = ⊥
 
   -- a taker's pass with no putter of that number yet
   abbrev pub MayDeal : ℕ → View T N → Type 0
-  MayDeal c (Puts v) = ⊥
   MayDeal c (Takes v) = Contains v.putters c → ⊥
-  MayDeal c (Saw xs) = ⊥
-  MayDeal c Spent = ⊥
+  MayDeal c other = ⊥
 
 at_new : {A : Type 0} (l : List A) (a b : A) (j : ℕ) → get_elem? (l ++ a ∷ []) j ≡ some b → (get_elem? l j ≡ some b) ⊎ ((j ≡ length l) × (a ≡ b))
 at_new [] a b zero e = inr (refl, some-injective a b e)
@@ -125,16 +117,12 @@ module _ {T N : Type 0} (putter_of : T → ℕ) where
   module _ (x : T) (note : List N) where
     puts_role : (v : View T N) → role (after_put x note v) ≡ role v
     puts_role (Puts v) = refl
-    puts_role (Takes v) = refl
-    puts_role (Saw xs) = refl
-    puts_role Spent = refl
+    puts_role v = refl
 
     -- others stay
     puts_other : (endpoint : ℕ → ℕ) (putters : List ℕ) (got items : List T) (j : ℕ) (u : View T N) → (role u ≡ Some (suc (putter_of x)) → ⊥) → Keeps endpoint putters got items j u → Keeps endpoint putters got (items ++ x ∷ []) j u
     puts_other endpoint putters got items j (Puts u) not_mine k = ((k.0.0, k.0.1 ∙ sym (snoc-other putter_of u.number got items x (λ e. not_mine (ap (λ c. Some (suc c)) (sym e)))), k.0.2), k.1)
-    puts_other endpoint putters got items j (Takes u) not_mine k = (k.0, k.1)
-    puts_other endpoint putters got items j (Saw xs) not_mine k = (k.0, k.1)
-    puts_other endpoint putters got items j Spent not_mine k = (k.0, k.1)
+    puts_other endpoint putters got items j u not_mine k = (k.0, k.1)
 
     pub puts : (n port : ℕ) (v : View T N) → IsPutting (putter_of x) v → Pushes (Lined putter_of) n port v x (λ w. w ≡ after_put x note v)
     puts n port (Puts v) mine items views room h at =
@@ -152,9 +140,7 @@ module _ {T N : Type 0} (putter_of : T → ℕ) where
           ),
           refl,
         )
-    puts n port (Takes v) mine items views room h at = absurd mine
-    puts n port (Saw xs) mine items views room h at = absurd mine
-    puts n port Spent mine items views room h at = absurd mine
+    puts n port v mine items views room h at = absurd mine
 
   -- the taker took x, whose putter has a pass
   abbrev pub TookItem : List N → View T N → T → View T N → Type 0
@@ -170,7 +156,6 @@ module _ {T N : Type 0} (putter_of : T → ℕ) where
 
     -- a take by the taker's pass keeps the rule, and the putter of the item has a pass
     pub takes : (port : ℕ) (v : View T N) → IsTaking v → Pops (Lined putter_of) port v (TookItem note v)
-    takes port (Puts v) mine x items views h at = absurd mine
     takes port (Takes v) mine x items views h at =
         let me = h.4 port (Takes v) at in
         let w : View T N = taking v.putters (v.taken ++ x ∷ []) note in
@@ -186,8 +171,7 @@ module _ {T N : Type 0} (putter_of : T → ℕ) where
           ),
           (refl, known_here putter_of h.1 h.2 items x me.0.0 h.3),
         )
-    takes port (Saw xs) mine x items views h at = absurd mine
-    takes port Spent mine x items views h at = absurd mine
+    takes port v mine x items views h at = absurd mine
 
   -- the taker makes the pass of a putter
   module _ (endpoint : ℕ → ℕ) (putters : List ℕ) (got items : List T) (c n : ℕ) (fresh : Contains putters c → ⊥) where
@@ -200,11 +184,9 @@ module _ {T N : Type 0} (putter_of : T → ℕ) where
         inside : (f r : ℕ) → Some (suc f) ≡ Some r → r ≡ suc c → f ≡ c
         inside f r e is = let g : suc f ≡ suc c = cc in omega arith
     deals_other j (Takes u) not_mine k = absurd (not_mine refl)
-    deals_other j (Saw xs) not_mine k = (k.0, λ r e. absurd (cc))
-    deals_other j Spent not_mine k = (k.0, λ r e. absurd (cc))
+    deals_other j u not_mine k = (k.0, λ r e. absurd (cc))
 
   pub deals : (port c : ℕ) (v : View T N) → MayDeal c v → Forks (Lined putter_of) port v (after_deal c v) (putting c [] [] [])
-  deals port c (Puts v) may items views h at = absurd may
   deals port c (Takes v) may items views h at =
       let me = h.4 port (Takes v) at in
       let fresh : Contains h.1 c → ⊥ = λ has. may (subst (λ (l : List ℕ). Contains l c) (sym me.0.0) has) in
@@ -225,20 +207,16 @@ module _ {T N : Type 0} (putter_of : T → ℕ) where
             ((Contains-push h.1 c, sym (none_of putter_of h.1 c fresh (h.2 ++ items) h.3), (h.2, refl)), λ r e'. new_endpoint h.0 c n r (let z : suc c ≡ r = cc in sym z)))
             (at_new old right u j e)),
       )
-  deals port c (Saw xs) may items views h at = absurd may
-  deals port c Spent may items views h at = absurd may
+  deals port c v may items views h at = absurd may
 
   copied_fits : (putters : List ℕ) (got items : List T) (v : View T N) → Fits putter_of putters got items v → Fits putter_of putters got items (copied v)
-  copied_fits putters got items (Puts v) f = tt
   copied_fits putters got items (Takes v) f = ([], append_nil v.taken ∙ f.1)
   copied_fits putters got items (Saw xs) f = f
-  copied_fits putters got items Spent f = tt
+  copied_fits putters got items v f = tt
 
   copied_role : (v : View T N) (r : ℕ) → role (copied v) ≡ Some r → ⊥
   copied_role (Puts v) r e = cc
-  copied_role (Takes v) r e = cc
-  copied_role (Saw xs) r e = cc
-  copied_role Spent r e = cc
+  copied_role v r e = cc
 
   pub copies : (port : ℕ) (v : View T N) → Forks (Lined putter_of) port v v (copied v)
   copies port v items views h at =
@@ -259,9 +237,7 @@ module _ {T N : Type 0} (putter_of : T → ℕ) where
   shown_fits endpoint putters got items port c (Puts v) (Puts w) mine theirs k f = absurd theirs
   shown_fits endpoint putters got items port c (Puts v) (Takes w) mine theirs k f = absurd theirs
   shown_fits endpoint putters got items port c (Puts v) Spent mine theirs k f = absurd theirs
-  shown_fits endpoint putters got items port c (Takes v) w mine theirs k f = absurd mine
-  shown_fits endpoint putters got items port c (Saw xs) w mine theirs k f = absurd mine
-  shown_fits endpoint putters got items port c Spent w mine theirs k f = absurd mine
+  shown_fits endpoint putters got items port c v w mine theirs k f = absurd mine
 
   pub sees : (port : ℕ) (v : View T N) (other : ℕ) (w : View T N) (c : ℕ) → IsPutting c v → IsCopy w → Merges (Lined putter_of) port v other w (shown v w) Spent
   sees port v other w c mine theirs items views h at two at' =
@@ -280,9 +256,7 @@ module _ {T N : Type 0} (putter_of : T → ℕ) where
     items_from putter_of v.number (me.0.2.0 ++ items),
     sym (me.0.1 ∙ ap (λ l. items_from putter_of v.number (l ++ items)) (sym me.0.2.1) ∙ ap (items_from putter_of v.number) (append_assoc v.seen me.0.2.0 items) ∙ of-append putter_of v.number v.seen (me.0.2.0 ++ items)),
   )
-  audits port (Takes v) items views h at = tt
-  audits port (Saw xs) items views h at = tt
-  audits port Spent items views h at = tt
+  audits port v items views h at = tt
 
 -- a pass's view by its parts
 module _ {T N : Type 0} where

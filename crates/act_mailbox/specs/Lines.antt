@@ -35,36 +35,28 @@ module _ {T N : Type 0} where
   abbrev pub role : View T N → Option ℕ
   role (Puts v) = Some (suc v.number)
   role (Takes v) = Some 0
-  role (Saw xs) = None
-  role Spent = None
+  role other = None
 
   -- the taker made the pass of putter c
   abbrev pub after_deal : ℕ → View T N → View T N
   after_deal c (Takes v) = taking (v.putters ++ c ∷ []) v.taken v.note
-  after_deal c (Puts v) = Puts v
-  after_deal c (Saw xs) = Saw xs
-  after_deal c Spent = Spent
+  after_deal c other = other
 
   -- a putter put x
   abbrev pub after_put : T → List N → View T N → View T N
   after_put x note (Puts v) = putting v.number (v.put ++ x ∷ []) note v.seen
-  after_put x note (Takes v) = Takes v
-  after_put x note (Saw xs) = Saw xs
-  after_put x note Spent = Spent
+  after_put x note other = other
 
   -- the taker took x
   abbrev pub after_take : T → List N → View T N → View T N
   after_take x note (Takes v) = taking v.putters (v.taken ++ x ∷ []) note
-  after_take x note (Puts v) = Puts v
-  after_take x note (Saw xs) = Saw xs
-  after_take x note Spent = Spent
+  after_take x note other = other
 
   -- what a copy of the taker's pass knows
   abbrev pub copied : View T N → View T N
   copied (Takes v) = Saw v.taken
-  copied (Puts v) = Spent
   copied (Saw xs) = Saw xs
-  copied Spent = Spent
+  copied other = Spent
 
   -- a putter takes in what a copy knows
   abbrev pub shown : View T N → View T N → View T N
@@ -75,27 +67,20 @@ module _ {T N : Type 0} where
   -- the parts of what a pass knows, or nothing where it has no such part
   abbrev pub put_of : View T N → List T
   put_of (Puts v) = v.put
-  put_of (Takes v) = []
-  put_of (Saw xs) = []
-  put_of Spent = []
+  put_of other = []
 
   abbrev pub note_of : View T N → List N
   note_of (Puts v) = v.note
   note_of (Takes v) = v.note
-  note_of (Saw xs) = []
-  note_of Spent = []
+  note_of other = []
 
   abbrev pub taken_of : View T N → List T
-  taken_of (Puts v) = []
   taken_of (Takes v) = v.taken
-  taken_of (Saw xs) = []
-  taken_of Spent = []
+  taken_of other = []
 
   abbrev pub putters_of : View T N → List ℕ
-  putters_of (Puts v) = []
   putters_of (Takes v) = v.putters
-  putters_of (Saw xs) = []
-  putters_of Spent = []
+  putters_of other = []
 
 module _ {T N : Type 0} (putter_of : T → ℕ) where
   -- what a pass knows, where `got` was taken so far and the queue holds `items`
@@ -117,9 +102,7 @@ module _ {T N : Type 0} (putter_of : T → ℕ) where
   -- what an audit tells of a putter
   abbrev pub Audited : View T N → Type 0
   Audited (Puts v) = IsPrefix (items_from putter_of v.number v.seen) v.put
-  Audited (Takes v) = Unit {0}
-  Audited (Saw xs) = Unit {0}
-  Audited Spent = Unit {0}
+  Audited other = Unit {0}
 
 module _ {T N : Type 0} (putter_of : T → ℕ) where
   -- each item of the queue has a stamp, and the line is in order by items with their stamps

@@ -133,12 +133,11 @@ died owner a true places = record {
 
 -- over a change each call stays, with its number and with its answer if it has one
 pub step : (owner : OwnerView) (change : Change) → length owner.kept ≡ length owner.calls → Extends owner (after_change owner change)
-step owner (Copied a) places = record { id = refl; calls = λ k _. refl; numbers = λ b k _. refl; kept = λ k _. refl; places = places }
-step owner (Released a) places = record { id = refl; calls = λ k _. refl; numbers = λ b k _. refl; kept = λ k _. refl; places = places }
 step owner (Submitted a method args) places = submitted owner a method args places
 step owner (Sent k) places = record { id = refl; calls = λ j _. refl; numbers = λ b j _. refl; kept = λ j _. refl; places = places }
 step owner (Noticed (Answered reply)) places = answered owner reply (is_of_call owner reply) (is_some (kept_at owner.kept reply.future)) places refl
 step owner (Noticed (Death a)) places = died owner a (is_some (copies_in a owner.handles)) places
+step owner change places = record { id = refl; calls = λ k _. refl; numbers = λ b k _. refl; kept = λ k _. refl; places = places }
 
 -- ---- a life
 

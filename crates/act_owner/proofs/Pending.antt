@@ -103,21 +103,17 @@ submitted_under owner a limit b method args places accepted under set =
 
 answered_under : (owner : OwnerView) (a limit : ℕ) (reply : Reply) (told : Collected) → IsUnder a limit owner → IsUnder a limit (after_reply_that told owner reply)
 answered_under owner a limit reply (First k) under set = let before = under set in let fewer = fewer_set a owner.calls owner.kept k reply.answer in omega (arith, before, fewer)
-answered_under owner a limit reply (Late k) under set = under set
-answered_under owner a limit reply Stray under set = under set
-answered_under owner a limit reply (Died n) under set = under set
+answered_under owner a limit reply told under set = under set
 
 died_under : (owner : OwnerView) (a limit b : ℕ) (listed : Bool) → IsUnder a limit owner → IsUnder a limit (cond listed (with_death owner b) owner)
 died_under owner a limit b true under set = let before = under set in let fewer = fewer_died a b owner.calls owner.kept in omega (arith, before, fewer)
 died_under owner a limit b false under set = under set
 
 under_step : (owner : OwnerView) (a limit : ℕ) (change : Change) → length owner.kept ≡ length owner.calls → IsAccepted owner change → IsUnder a limit owner → IsUnder a limit (after_change owner change)
-under_step owner a limit (Copied b) places accepted under = under
-under_step owner a limit (Released b) places accepted under = under
 under_step owner a limit (Submitted b method args) places accepted under = submitted_under owner a limit b method args places accepted under
-under_step owner a limit (Sent k) places accepted under = under
 under_step owner a limit (Noticed (Answered reply)) places accepted under = answered_under owner a limit reply (collected_reply owner reply) under
 under_step owner a limit (Noticed (Death b)) places accepted under = died_under owner a limit b (is_some (copies_in b owner.handles)) under
+under_step owner a limit change places accepted under = under
 
 pub under_all : (owner : OwnerView) (a limit : ℕ) (changes : List Change) → length owner.kept ≡ length owner.calls → AreAccepted owner changes → IsUnder a limit owner → IsUnder a limit (after_changes owner changes)
 under_all owner a limit [] places accepted under = under

@@ -40,12 +40,11 @@ death_sent owner a false = refl
 death_sent owner a true = refl
 
 pub sent_stays : (owner : OwnerView) (change : Change) (k : ℕ) → is_sent owner k ≡ true → is_sent (after_change owner change) k ≡ true
-sent_stays owner (Copied a) k is = is
-sent_stays owner (Released a) k is = is
 sent_stays owner (Submitted a method args) k is = sent_more owner.sent k is
 sent_stays owner (Sent j) k is = sent_set owner.sent j k is
 sent_stays owner (Noticed (Answered reply)) k is = ap (λ (s : List Bool). unwrap_or (slice_get s k) false) (reply_sent owner reply (is_of_call owner reply) (is_some (kept_at owner.kept reply.future))) ∙ is
 sent_stays owner (Noticed (Death a)) k is = ap (λ (s : List Bool). unwrap_or (slice_get s k) false) (death_sent owner a (is_some (copies_in a owner.handles))) ∙ is
+sent_stays owner change k is = is
 
 -- over any changes a call that was sent stays so
 pub sent_stays_all : (owner : OwnerView) (changes : List Change) (k : ℕ) → is_sent owner k ≡ true → is_sent (after_changes owner changes) k ≡ true
@@ -200,19 +199,14 @@ hears_death owner notices a true hears = record {
 -- ---- a life
 
 pub hears_step : (owner : OwnerView) (notices : List Notice) (change : Change) → length owner.kept ≡ length owner.calls → Hears owner notices → Hears (after_change owner change) (notices ++ notices_in (change ∷ []))
-hears_step owner notices (Copied a) places hears = quiet owner _ notices [] (step owner (Copied a) places) refl refl hears
-hears_step owner notices (Released a) places hears = quiet owner _ notices [] (step owner (Released a) places) refl refl hears
 hears_step owner notices (Submitted a method args) places hears = hears_submitted owner _ notices (record { actor = a; method = method; args = args }) (step owner (Submitted a method args) places) places refl refl refl hears
-hears_step owner notices (Sent k) places hears = quiet owner _ notices [] (step owner (Sent k) places) refl refl hears
 hears_step owner notices (Noticed (Answered reply)) places hears = hears_reply owner notices reply (is_of_call owner reply) (is_some (kept_at owner.kept reply.future)) refl places hears
 hears_step owner notices (Noticed (Death a)) places hears = hears_death owner notices a (is_some (copies_in a owner.handles)) hears
+hears_step owner notices change places hears = quiet owner _ notices [] (step owner change places) refl refl hears
 
 notices_more : (change : Change) (changes : List Change) → notices_in (change ∷ []) ++ notices_in changes ≡ notices_in (change ∷ changes)
 notices_more (Copied a) changes = refl
-notices_more (Released a) changes = refl
-notices_more (Submitted a method args) changes = refl
-notices_more (Sent k) changes = refl
-notices_more (Noticed notice) changes = refl
+notices_more change changes = refl
 
 pub hears_all : (owner : OwnerView) (notices : List Notice) (changes : List Change) → length owner.kept ≡ length owner.calls → Hears owner notices → Hears (after_changes owner changes) (notices ++ notices_in changes)
 hears_all owner notices [] places hears = subst (Hears owner) (sym (append-nil notices)) hears

@@ -46,11 +46,8 @@ caller limits id actors changes = after_changes (opened_under limits id actors) 
 
 -- a submission is one that nothing refuses
 abbrev pub IsAccepted : OwnerView → Change → Type 0
-IsAccepted owner (Copied a) = Unit {0}
-IsAccepted owner (Released a) = Unit {0}
 IsAccepted owner (Submitted a method args) = refusal_to_submit owner a args ≡ None
-IsAccepted owner (Sent k) = Unit {0}
-IsAccepted owner (Noticed notice) = Unit {0}
+IsAccepted owner change = Unit {0}
 
 -- each submission among these changes is one that nothing refuses at its time
 abbrev pub AreAccepted : OwnerView → List Change → Type 0
@@ -88,11 +85,8 @@ SentStaysSent = (limits : Limits) (id : ℕ) (actors : List ℕ) (changes later 
 
 -- the notice that a change collects, if it collects one
 abbrev pub notice_of : Change → Option Notice
-notice_of (Copied a) = None
-notice_of (Released a) = None
-notice_of (Submitted a method args) = None
-notice_of (Sent k) = None
 notice_of (Noticed notice) = Some notice
+notice_of change = None
 
 -- the notices that these changes collect, in order
 abbrev pub notices_in : List Change → List Notice

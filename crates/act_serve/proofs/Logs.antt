@@ -126,8 +126,7 @@ arrived_waits id packet inbox New c n p P is e old new = go (is_packet_of c n pa
     go : (b : Bool) → is_packet_of c n packet ≡ b → P p
     go true f = let whole : packet ≡ p = cc in subst P whole (new (actor (tells packet.actor id)))
     go false f = old (ap (λ (b : Bool). cond b (Some packet) (waiting_packet inbox c n)) (sym f) ∙ e)
-arrived_waits id packet inbox Repeat c n p P is e old new = old e
-arrived_waits id packet inbox Stranger c n p P is e old new = old e
+arrived_waits id packet inbox arrival c n p P is e old new = old e
 
 -- an actor fed by letters is fed by one more call, too, whether that arrived or memory was refused for it
 pub fed_arrive : {S : Type 0} (callers : List ℕ) (letters : List Letter) (packet : Packet) (before : LiveView S) (inbox : InboxView) (result : Result Arrival Packet)
@@ -160,8 +159,7 @@ noted note inbox id c arrival is listed = go (tells note.actor id) (tells note.c
   where
     unless : note.caller ≢ c → (a : Arrival) → note_after a note inbox c ≡ note_of inbox c
     unless f New = ap (λ (b : Bool). cond b (Some note.after) (note_of inbox c)) (ne_eqb c note.caller (λ e. f (sym e)))
-    unless f Repeat = refl
-    unless f Stranger = refl
+    unless f a = refl
 
     within : (o : Option ℕ) → cond (is_some o) o (Some note.after) ≡ option_or o (Some note.after)
     within None = refl

@@ -85,9 +85,8 @@ RepliesAreDue = (opening : KindState) (a c : ℕ) (log : List RunItem) →
 
 -- the notice of an actor's end
 abbrev pub deaths : ℕ → EndView → List Notice
-deaths a (Killed dead) = Death a ∷ []
 deaths a (Retired retired) = []
-deaths a (Starved dead) = Death a ∷ []
+deaths a end = Death a ∷ []
 
 -- no kill was taken
 abbrev pub IsUntaken : ControlExecView → Type 0

@@ -67,9 +67,7 @@ has_ended h a Vacant is off cast = absurd (cast is)
 -- an actor that runs has not
 pub not_ended : (h : History) (a : ℕ) (slot : SlotView) → IsStage h a (Some slot) → is_live_slot slot ≡ true → is_ended a h ≡ false
 not_ended h a (Runs live) is on = is.runs
-not_ended h a (Died dead) is on = cc
-not_ended h a (Ended retired) is on = cc
-not_ended h a Vacant is on = cc
+not_ended h a slot is on = cc
 
 -- an actor whose cast names a caller has a cast
 pub named_cast : (c a : ℕ) (h : History) → names c (cast_of a h) ≡ true → cast_of a h ≡ None → ⊥

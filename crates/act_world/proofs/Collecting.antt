@@ -117,10 +117,8 @@ no_death_known (Death a) owner new is = absurd is
 
 -- only a late answer is told as late
 told_late : (to c k : ℕ) (what : Collected) → ((k : ℕ) → what ≢ Late k) → told_collected to what ≡ Ok (DidLate c k) → ⊥
-told_late to c k (First n) other e = cc
 told_late to c k (Late n) other e = other n refl
-told_late to c k (Died n) other e = cc
-told_late to c k Stray other e = cc
+told_late to c k what other e = cc
 
 -- a reply that isn't late takes memory
 pub reply_takes : (h : History) (network : NetworkView) (slots : List SlotView) (j place : ℕ) (notice : Posted) (owner : OwnerView) → IsLawful h → Refines h (record { network = network; slots = slots }) → slice_get network.replies j ≡ Some notice
@@ -174,10 +172,8 @@ stray_same : (to : ℕ) (owner : OwnerView) (notice : Notice) → OnErr (told_co
 stray_same to owner (Answered reply) = go (collected_reply owner reply)
   where
     go : (what : Collected) → OnErr (told_collected to what) (after_reply_that what owner reply ≡ owner)
-    go (First k) = tt
-    go (Late k) = tt
-    go (Died count) = tt
     go Stray = refl
+    go what = tt
 stray_same to owner (Death a) = go (is_some (copies_in a owner.handles))
   where
     go : (listed : Bool) → OnErr (told_collected to (cond listed (Died (pending owner a)) Stray)) (cond listed (with_death owner a) owner ≡ owner)

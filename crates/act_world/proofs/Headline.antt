@@ -38,25 +38,17 @@ one_more (x ∷ xs) a b e none = go (x == a) e none (one_more xs a b)
     go false e none rest = rest e none
 
 killed_step : IsKept KilledHaveCasts
-killed_step h (Submit c a method args) all accepted b killed = all b killed
-killed_step h (Copy c a) all accepted b killed = all b killed
-killed_step h (Release c a) all accepted b killed = all b killed
-killed_step h (Send c k) all accepted b killed = all b killed
-killed_step h (Deliver i) all accepted b killed = all b killed
 killed_step h (Run a c) all accepted b killed = go (next_item a c h) killed
   where
     go : (o : Option RunItem) → contains b (after_run a c h o).killed ≡ true → is_some (cast_of b (after_run a c h o)) ≡ true
     go None killed = all b killed
     go (Some item) killed = all b killed
-killed_step h (Collect j) all accepted b killed = all b killed
-killed_step h (AskKill c a) all accepted b killed = all b killed
 killed_step h (TakeKill a) all accepted b killed = go (contains b h.killed) refl
   where
     go : (before : Bool) → contains b h.killed ≡ before → is_some (cast_of b h) ≡ true
     go true is = all b is
     go false is = subst (λ (x : ℕ). is_some (cast_of x h) ≡ true) (one_more h.killed b a killed is) (kill_needs h a accepted)
-killed_step h (Tell a c) all accepted b killed = all b killed
-killed_step h (Retire a) all accepted b killed = all b killed
+killed_step h other all accepted b killed = all b killed
 
 -- ---- who is no caller submitted nothing, and what has no cast ran nothing
 
@@ -95,9 +87,7 @@ kept_are h c (Some owner) lawful is = sym is.1.kept
 pub logs_are : (h : History) (a : ℕ) (slot : Option SlotView) → IsLawful h → IsStage h a slot → runs_of a h ≡ option_map_or slot_log slot []
 logs_are h a None lawful is = no_runs h a (runs_of a h) refl lawful is
 logs_are h a (Some Vacant) lawful is = no_runs h a (runs_of a h) refl lawful is
-logs_are h a (Some (Runs live)) lawful is = sym is.log
-logs_are h a (Some (Died dead)) lawful is = sym is.log
-logs_are h a (Some (Ended retired)) lawful is = sym is.log
+logs_are h a (Some view) lawful is = sym is.log
 
 not_killed : (h : History) (a : ℕ) → KilledHaveCasts h → cast_of a h ≡ None → contains a h.killed ≡ false
 not_killed h a all uncast = go (contains a h.killed) refl

@@ -45,20 +45,12 @@ one_more_call h c d call below few = rw (under-push c d h.submitted call, length
 
 pub few_step : IsKept AreFew
 few_step h (Submit d a method args) few accepted c = one_more_call h c d (record { actor = a; method = method; args = args }) (λ same. subst (λ (x : ℕ). length (calls_of x h) < 65536) same (submit_below h d a method args accepted)) (few c)
-few_step h (Copy d a) few accepted c = few c
-few_step h (Release d a) few accepted c = few c
-few_step h (Send d k) few accepted c = few c
-few_step h (Deliver i) few accepted c = few c
 few_step h (Run a d) few accepted c = go (next_item a d h)
   where
     go : (o : Option RunItem) → length (calls_of c (after_run a d h o)) ≤ 65536
     go None = few c
     go (Some item) = few c
-few_step h (Collect j) few accepted c = few c
-few_step h (AskKill d a) few accepted c = few c
-few_step h (TakeKill a) few accepted c = few c
-few_step h (Tell a d) few accepted c = few c
-few_step h (Retire a) few accepted c = few c
+few_step h other few accepted c = few c
 
 -- ---- what arrived was sent, and what ran had arrived
 
@@ -78,8 +70,6 @@ sent_more h None sent = sent
 sent_more h (Some letter) sent = All_weaker (λ x. has_letter x h.mail ≡ true) (λ x. has_letter x (h.mail ++ letter ∷ []) ≡ true) h.arrived (λ x e. has_letter-more x h.mail (letter ∷ []) e) sent
 
 pub sent_step : IsKept WereSent
-sent_step h (Submit c a method args) sent accepted = sent
-sent_step h (Copy c a) sent accepted = sent
 sent_step h (Release c a) sent accepted = sent_more h (if_last (is_last c a h)) sent
   where
     if_last : Bool → Option Letter
@@ -95,11 +85,7 @@ sent_step h (Run a c) sent accepted = go (next_item a c h)
     go : (o : Option RunItem) → WereSent (after_run a c h o)
     go None = sent
     go (Some item) = sent
-sent_step h (Collect j) sent accepted = sent
-sent_step h (AskKill c a) sent accepted = sent
-sent_step h (TakeKill a) sent accepted = sent
-sent_step h (Tell a c) sent accepted = sent
-sent_step h (Retire a) sent accepted = sent
+sent_step h other sent accepted = sent
 
 -- the caller's calls that an actor ran had arrived
 abbrev pub HadArrived : History → Type 0
@@ -123,10 +109,6 @@ arrived_run h b d item next came a c n below = go (b == a) refl (subst (λ (item
     go false e below = came a c n (subst (λ (items : List RunItem). n < length (items_of c items)) (append-nil (runs_of a h)) below)
 
 pub came_step : IsKept HadArrived
-came_step h (Submit c a method args) came accepted = came
-came_step h (Copy c a) came accepted = came
-came_step h (Release c a) came accepted = came
-came_step h (Send c k) came accepted = came
 came_step h (Deliver i) came accepted = go (slice_get h.mail i)
   where
     go : (o : Option Letter) → (a c n : ℕ) → n < ran_count c a h → has_letter (CallLetter c a n) (and_also h.arrived o) ≡ true
@@ -137,11 +119,7 @@ came_step h (Run b d) came accepted = go (next_item b d h) refl
     go : (o : Option RunItem) → next_item b d h ≡ o → HadArrived (after_run b d h o)
     go None e = came
     go (Some item) e = arrived_run h b d item (next_item_is b d h item e) came
-came_step h (Collect j) came accepted = came
-came_step h (AskKill c a) came accepted = came
-came_step h (TakeKill a) came accepted = came
-came_step h (Tell a c) came accepted = came
-came_step h (Retire a) came accepted = came
+came_step h other came accepted = came
 
 -- ---- letters and notices are of callers that their actor's cast names
 
@@ -171,8 +149,6 @@ tell_names h a c e =
     (needs-none (names c (cast_of a h)) (Handle NoActor) (needs (is_dead a h) NotDead None) first.1).0
 
 pub named_step : (h : History) (event : Event) → AllNamed h → AreNamed h → refusal_of h event ≡ None → AreNamed (add_event h event)
-named_step h (Submit c a method args) all named accepted = record { mail = named.mail; posts = named.posts }
-named_step h (Copy c a) all named accepted = record { mail = named.mail; posts = named.posts }
 named_step h (Release c a) all named accepted = record { mail = go (is_last c a h); posts = named.posts }
   where
     go : (last : Bool) → AllByRecursion (IsNamedLetter h) (and_also h.mail (cond last (Some (NoteLetter c a (length (calls_to a (calls_of c h))))) None))
@@ -183,17 +159,13 @@ named_step h (Send c k) all named accepted = record { mail = go (slice_get (call
     go : (o : Option Submission) → slice_get (calls_of c h) k ≡ o → AllByRecursion (IsNamedLetter h) (and_also h.mail (option_map (λ (call : Submission). call_letter c k call h) o))
     go None e = named.mail
     go (Some call) e = All_more (IsNamedLetter h) h.mail (call_letter c k call h) named.mail (named_call h c k call all e)
-named_step h (Deliver i) all named accepted = record { mail = named.mail; posts = named.posts }
 named_step h (Run a c) all named accepted = go (next_item a c h)
   where
     go : (o : Option RunItem) → AreNamed (after_run a c h o)
     go None = named
     go (Some item) = record { mail = named.mail; posts = All_more (IsNamedPost h) h.posts (ReplyPost c a (length (runs_of a h))) named.posts (run_needs h a c accepted).1 }
-named_step h (Collect j) all named accepted = record { mail = named.mail; posts = named.posts }
-named_step h (AskKill c a) all named accepted = record { mail = named.mail; posts = named.posts }
-named_step h (TakeKill a) all named accepted = record { mail = named.mail; posts = named.posts }
 named_step h (Tell a c) all named accepted = record { mail = named.mail; posts = All_more (IsNamedPost h) h.posts (DeathPost c a) named.posts (tell_names h a c accepted) }
-named_step h (Retire a) all named accepted = record { mail = named.mail; posts = named.posts }
+named_step h event all named accepted = record { mail = named.mail; posts = named.posts }
 
 named_here : (c : ℕ) (cast : ActorSpec) (casts : List ActorSpec) (found : Option ActorSpec) (here : Bool) → (names c found ≡ true → list_any (λ (one : ActorSpec). contains c one.callers) casts ≡ true)
     → names c (cond here (Some cast) found) ≡ true → (contains c cast.callers || list_any (λ (one : ActorSpec). contains c one.callers) casts) ≡ true

@@ -5,6 +5,4 @@ use Rattle.act_world.proofs.Common.{ℕ, Some, None, Option, History, SlotView, 
 pub stage_shown : (h : History) (a : ℕ) (slot : Option SlotView) → IsStage h a slot → IsStage h a (stage_of_slot slot)
 stage_shown h a None is = is
 stage_shown h a (Some Vacant) is = is
-stage_shown h a (Some (Runs live)) is = is
-stage_shown h a (Some (Died dead)) is = is
-stage_shown h a (Some (Ended retired)) is = is
+stage_shown h a (Some view) is = is

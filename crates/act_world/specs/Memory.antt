@@ -29,16 +29,13 @@ is_first_reply post h = false
 -- answer that is kept
 abbrev pub takes_memory : Event → History → Bool
 takes_memory (Submit c a method args) h = true
-takes_memory (Copy c a) h = false
 takes_memory (Release c a) h = is_last c a h
 takes_memory (Send c k) h = true
 takes_memory (Deliver i) h = is_new_call (slice_get h.mail i) h
 takes_memory (Run a c) h = is_some (next_item a c h)
 takes_memory (Collect j) h = is_first_reply (slice_get h.posts j) h
-takes_memory (AskKill c a) h = false
-takes_memory (TakeKill a) h = false
 takes_memory (Tell a c) h = true
-takes_memory (Retire a) h = false
+takes_memory event h = false
 
 -- whatever events the world stood after: this one takes memory
 abbrev pub TakesMemory : Event → WorldView → Type 0
