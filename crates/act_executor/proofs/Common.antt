@@ -5,15 +5,14 @@ pub use Rattle.act_actor.specs.Cast.{ActorsDiffer, CallersDiffer, IsFitting}
 pub use Rattle.act_actor.specs.Casts.{actor_spec}
 pub use Rattle.act_actor.specs.View.{LiveView}
 pub use Rattle.act_actor.specs.declared.cast.Cast.{Cast}
+pub use Rattle.act_causes.proofs.Found.{place_in_front}
 pub use Rattle.act_causes.proofs.Fronts.{EachFront, IsStepwisePlay, KeepsAnswers, letter_of, post_of}
-pub use Rattle.act_causes.proofs.Merging.{merge_of, under_here, under_other}
+pub use Rattle.act_causes.proofs.Merging.{merge_of}
 pub use Rattle.act_causes.proofs.Replaying.{play_of}
-pub use Rattle.act_causes.proofs.Unrefused.{AreUnrefused, IsUnrefused, gone_stays, sent_known, unrefused_front, unrefused_rest}
-pub use Rattle.act_causes.specs.Deeds.{AreCaused, AskedKill, Changed, Deed, HasRunAllCalls, IsAllowed, IsCaused, IsLastNote, IsNamed, IsReplyGiven, IsSentCall}
-pub use Rattle.act_causes.specs.Deeds.{Ran, ToldDeath, TookCall, TookKill, TookNote, change_of, changes_by, is_dead_by, is_end_of, is_ended_by, is_kill_taken}
-pub use Rattle.act_causes.specs.Deeds.{is_retired_by, item_of_deed, log_by, owner_after, owner_by, ran_by}
-pub use Rattle.act_causes.specs.Merge.{AreApart, IsCutAt, IsMergeOf, NeverFall, Thread, deeds_in, deeds_of}
-pub use Rattle.act_causes.specs.Plays.{IsEventOf, IsPlayOfDeeds, SpecsFit}
+pub use Rattle.act_causes.specs.Deeds.{AreCaused, Deed, IsActorCaused, IsCallerCaused, IsCaused, IsGiven, IsLastNote, IsNamed, IsReplyGiven, IsSentCall}
+pub use Rattle.act_causes.specs.Deeds.{IsSentTo, OfActor, OfCaller, actor_step, actor_steps, caller_step, caller_steps, left_by, opened_of, owner_by}
+pub use Rattle.act_causes.specs.Merge.{ActorThreads, AreApart, CallerThreads, IsFrontBelow, IsMergeOf, Thread, trace_in, trace_of}
+pub use Rattle.act_causes.specs.Plays.{IsEventOf, IsPlayOfSteps, SpecsFit}
 pub use Rattle.act_drive.proofs.Drivers.{notice_keeps}
 pub use Rattle.act_drive.specs.CallerSteps.{CallerMayDo, CallerMayDoAll, CallerStep, ChangeMade, KillAsked, MayChange, change_made, changes_made}
 pub use Rattle.act_drive.specs.CallerSteps.{notice_collected, owner_after_steps}
@@ -28,7 +27,7 @@ pub use Rattle.act_drive.specs.declared.driver.CallerLines.{CallerLines}
 pub use Rattle.act_drive.specs.declared.driver.CallerPasses.{CallerPasses}
 pub use Rattle.act_executor.specs.Audits.{ActorLeft, CallerTold, HasEndpoints, KillTold, LetterTold, NoticeTold, SitsAtControl, SitsAtMail, SitsAtReplies}
 pub use Rattle.act_executor.specs.Audits.{left_of}
-pub use Rattle.act_executor.specs.ByCode.{AreJoinedBy, HasTold, IsDrivenBy, IsJoinedBy, IsPlayedBy, code_of, opened_of}
+pub use Rattle.act_executor.specs.ByCode.{AreJoinedBy, HasTold, IsDrivenBy, IsJoinedBy, IsPlayedBy, code_of}
 pub use Rattle.act_executor.specs.Conducts.{CodesFit, Doing, HasConducted, does_code, does_plan}
 pub use Rattle.act_executor.specs.Groups.{AreGrown, AreHands, endpoint_at, endpoints_from, group_of, items_of_vec}
 pub use Rattle.act_executor.specs.Joined.{CallsThatDiedNeverRan, IsJoined, RanAll, calls_in, calls_of_owner, end_of, is_killed, is_killed_end, is_starved}
@@ -40,8 +39,7 @@ pub use Rattle.act_executor.specs.PlanPlays.{CollectsInLine, DoesPlanIn, DoesSte
 pub use Rattle.act_executor.specs.Plays.{HasEndedIn, IsEndIn, IsOwnerIn, IsPlayOf, IsPlayed}
 pub use Rattle.act_executor.specs.Runs.{HasRunPlans, IsFault, IsPrepared, IsThreadFault, fault_of, plan_view}
 pub use Rattle.act_executor.specs.SoFar.{AreControls, AreMails, AreReplies}
-pub use Rattle.act_executor.specs.Traced.{ActorThreads, AreTraced, CallerThreads, IsCallPosted, IsKillAsked, IsNotePosted, IsNoticeGiven, IsPlayOfThreads}
-pub use Rattle.act_executor.specs.Traced.{IsPosted, IsReplyGivenBy, TracedRunsArePlayed, left_by, log_left, opened_by}
+pub use Rattle.act_executor.specs.Traced.{AreTraced, IsCallPosted, IsKillAsked, IsNotePosted, IsNoticeGiven, IsPosted, IsReplyGivenBy, TracedRunsArePlayed}
 pub use Rattle.act_executor.specs.Work.{ActorStart, CallerStart, CanDrive, CanServe, IsAsked, IsDrivenTo, IsServedBy, IsUnusedStarter, cast_start}
 pub use Rattle.act_executor.specs.Work.{driving_start, serving_start, setup_start}
 pub use Rattle.act_executor.specs.declared.joined.Joined.{Joined}
@@ -71,8 +69,8 @@ pub use Rattle.act_owner.proofs.Life.{after_all-append, packet_stays_all, places
 pub use Rattle.act_owner.proofs.Told.{is_death-only}
 pub use Rattle.act_owner.specs.Life.{Change, Copied, IsBereft, IsReplied, IsToldBy, Noticed, Released, Sent, Submitted, after_change, after_changes}
 pub use Rattle.act_owner.specs.Life.{is_known_at}
-pub use Rattle.act_owner.specs.Owner.{OwnerView, after_collect, after_reply_that, is_death, is_known_dead, is_sent, is_to, opened_under, opened_with}
-pub use Rattle.act_owner.specs.Owner.{owner_limit, packet_at, packet_for, pending, refusal_to_submit, sending_refusal, with_death}
+pub use Rattle.act_owner.specs.Owner.{OwnerView, after_collect, after_reply_that, is_death, is_known_dead, is_of_call, is_sent, is_to, opened_under}
+pub use Rattle.act_owner.specs.Owner.{opened_with, owner_limit, packet_at, packet_for, pending, refusal_to_submit, sending_refusal, with_death}
 pub use Rattle.act_owner.specs.declared.owner.Collected.TheVariants.{First, Late, Stray}
 pub use Rattle.act_plans.proofs.ActorSpecs.{actors_are, actors_view, bad_view, each_cast_view, limits_are, plans_are, setups_view}
 pub use Rattle.act_plans.proofs.Keys.{pairs_of_map}
@@ -84,30 +82,34 @@ pub use Rattle.act_plans.specs.Setups.{AreMatched, HasLimits}
 pub use Rattle.act_plans.specs.declared.rising.CallerSetup.{CallerSetup}
 pub use Rattle.act_plans.specs.declared.rising.Prepared.{Prepared}
 pub use Rattle.act_rules.proofs.AsSubmitted.{calls_to-at, filter-slice_get}
+pub use Rattle.act_rules.proofs.Ended.{needs-none}
 pub use Rattle.act_rules.proofs.Finding.{find-None}
 pub use Rattle.act_rules.proofs.Growth.{added_grows}
 pub use Rattle.act_rules.proofs.Kept.{answer_at-front, kept_at_is, kept_by}
 pub use Rattle.act_rules.proofs.KindFaults.{IsAlive, answer_alive}
 pub use Rattle.act_rules.proofs.Letters.{calls_to-number}
 pub use Rattle.act_rules.proofs.Lists.{All-two, AllPairs-map, All_at, All_more, IsPrefix-map, find-map, front_trans, length-zip_same, list_any-map}
-pub use Rattle.act_rules.proofs.Lists.{range_push, slice_get-enumerate_from, slice_get-filter, slice_get_front, whole_front}
+pub use Rattle.act_rules.proofs.Lists.{option_or-none, range_push, slice_get-enumerate_from, slice_get-filter, slice_get_front, whole_front}
 pub use Rattle.act_rules.proofs.Order.{numbered, numbers}
+pub use Rattle.act_rules.proofs.Retired.{calls_to-push}
 pub use Rattle.act_rules.proofs.Sound.{IsSound, consistent, reply_alive, world_sound}
 pub use Rattle.act_rules.proofs.Steps.{after_all_keeps}
 pub use Rattle.act_rules.proofs.Unique.{map-slice_get, same_place}
 pub use Rattle.act_rules.specs.Consistent.{Consistent, IsAsSubmitted, IsCallToDead, IsPrefix}
 pub use Rattle.act_rules.specs.History.{ActorSpec, History, actors_naming, answer_in, answer_of, calls_of, contains, first_answer, is_dead, is_item_of}
-pub use Rattle.act_rules.specs.History.{is_retired, kept_of, names, opening, opening_of, runs_of, under}
+pub use Rattle.act_rules.specs.History.{is_retired, kept_of, opening, opening_of, runs_of}
 pub use Rattle.act_rules.specs.Laws.{history}
 pub use Rattle.act_rules.specs.Plans.{Progress, do_step, done_by, first_bad, holds, is_refused, kills_to, nothing_done, occurrences, planned}
 pub use Rattle.act_rules.specs.Report.{one_to}
 pub use Rattle.act_rules.specs.Rules.{outcomes}
 pub use Rattle.act_rules.specs.RunList.{Answer, NothingFollowsAnEnd, answer_at, has_terminated, items_of}
-pub use Rattle.act_rules.specs.Submissions.{calls_to, copy_refusal, handle_refusal, is_known, kept_at, limit_refusal, number_of, settle, submit_refusal}
+pub use Rattle.act_rules.specs.Submissions.{calls_to, copy_refusal, handle_refusal, is_known, kept_at, limit_refusal, number_of, send_refusal, settle}
+pub use Rattle.act_rules.specs.Submissions.{submit_refusal}
 pub use Rattle.act_rules.specs.declared.event.Event.{Event}
 pub use Rattle.act_rules.specs.declared.history.Post.{Post}
 pub use Rattle.act_rules.specs.declared.history.RunItem.{RunItem}
 pub use Rattle.act_rules.specs.declared.history.Submission.{Submission}
+pub use Rattle.act_rules.specs.declared.outcome.SendRefusal.TheVariants.{NotReady}
 pub use Rattle.act_rules.specs.declared.script.Step.{Step}
 pub use Rattle.act_rules.specs.declared.script.Step.TheVariants.{Await, Copy, Kill, Release, Submit}
 pub use Rattle.act_serve.proofs.Answered.{replies_answer, replies_are_due}
@@ -139,13 +141,13 @@ pub use Rattle.act_world.proofs.Lists.{contains-more}
 pub use Rattle.atomic_table.specs.Seated.{TableId}
 pub use Rattle.std.proofs.Common.{All, AllPairs, Bool, Contains, Err, IfErr, IsErrAnd, IsOk, IsTrue, List, None, Ok, Option, Result, Some, [], ap, append-nil}
 pub use Rattle.std.proofs.Common.{append_assoc, arith, cond, drop, false, filter, filter_map, find, flat_map, get_or, if◌then◌else◌, inl, inr, is_some, length}
-pub use Rattle.std.proofs.Common.{length-append, map, nat_le, not, option_and_then, option_map, pos, refl, rules, set, slice_get, slice_index_or, subst, suc}
+pub use Rattle.std.proofs.Common.{length-append, map, not, option_and_then, option_map, pos, refl, rules, set, slice_get, slice_index_or, subst, suc}
 pub use Rattle.std.proofs.Common.{sym, take, true, true≢false, vec_capacity, vec_items, vec_len, zero, zip, ℕ, ◌&&◌, ◌++◌, ◌+◌, ◌-◌, ◌<◌, ◌==◌, ◌||◌, ◌∙◌, ◌∷◌}
 pub use Rattle.std.proofs.Common.{◌≡◌, ◌≢◌, ◌≤◌, ◌⊎◌}
 pub use Rattle.std.proofs.Math.Bool.{or-false}
 pub use Rattle.std.proofs.Math.Nat.{eq-or-lt_of_le}
 pub use Rattle.std.proofs.Math.Seq.{map-set_same}
-pub use Rattle.std.proofs.lemmas.Bool.{and_parts, cases_Bool, eq-eqb, eqb-true, leb-false, leb-true, ne_eqb, not-true, or_cases, or_right}
+pub use Rattle.std.proofs.lemmas.Bool.{and_parts, cases_Bool, eq-eqb, eqb-true, ne_eqb, not-true, or_cases, or_right}
 pub use Rattle.std.proofs.lemmas.Bool.Decides.{eqb_tells, leb_tells}
 pub use Rattle.std.proofs.lemmas.List.{get_or-map, get_or_default, length-map, length-take-le, map-append, map_more, nil_from_length, same_lists, set-get_or}
 pub use Rattle.std.proofs.lemmas.List.{take_all}

@@ -1,5 +1,4 @@
 pub mod KeptPlan
-pub mod Own
 pub mod Once
 pub mod Heard
 pub mod Letters

@@ -1,8 +1,6 @@
-pub mod Threads
 pub mod Seen
-pub mod FoundSteps
-pub mod Projections
 pub mod Traced
+pub mod Allowed
 pub mod MayDo
 pub mod CallerCauses
 pub mod ActorCauses

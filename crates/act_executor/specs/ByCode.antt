@@ -3,7 +3,7 @@ use Rattle.std.specs.Prelude.{◌≡◌, ◌≢◌, ℕ, ◌==◌, true, false, 
 use Rattle.std.specs.List.{list_any}
 use Rattle.act_rules.specs.declared.script.Step.{Step}
 use Rattle.act_rules.specs.History.{ActorSpec, contains, actors_naming}
-use Rattle.act_owner.specs.Owner.{OwnerView, opened_under}
+use Rattle.act_owner.specs.Owner.{OwnerView}
 use Rattle.act_mailbox.specs.Lines.{items_from}
 use Rattle.act_mailbox.specs.Mails.{MailView}
 use Rattle.act_mailbox.specs.Controls.{ControlView, asker_of, starter}
@@ -12,6 +12,7 @@ use Rattle.act_serve.specs.Served.{EndView, end_id}
 use Rattle.act_drive.specs.declared.caller.Driven.{Driven}
 use Rattle.act_drive.specs.Sessions.{SessionView}
 use Rattle.act_drive.specs.Coded.{HasConcluded}
+use Rattle.act_causes.specs.Deeds.{opened_of}
 use Rattle.act_plans.specs.Runs.{limits_naming, callers_of_casts, actors_of_casts, cast_at, plan_of}
 use Rattle.act_executor.specs.Joined.{IsJoined, CallsThatDiedNeverRan, is_starved, owner_of, kept_in, log_in}
 use Rattle.act_executor.specs.PlanPlays.{IsPlayedAsPlanned}
@@ -20,10 +21,6 @@ use Rattle.act_executor.specs.Left.{ServedView, IsServed, IsDriven, AreAudited, 
 -- the code of a caller, where it is given one
 abbrev pub code_of : {C : Type 0} → ℕ → List (ℕ × C) → Option C
 code_of c codes = option_map (λ given. given.1) (find (λ given. given.0 == c) codes)
-
--- a caller as it is opened: it holds a handle of each actor whose cast names it, under the limits of the casts
-abbrev pub opened_of : ℕ → List ActorSpec → OwnerView
-opened_of c casts = opened_under (limits_naming c casts) c (actors_naming c casts)
 
 -- an owner is left of the caller that a code was given to, and what the code tells holds of the caller as it was opened
 -- and as it is left, by the steps that it did

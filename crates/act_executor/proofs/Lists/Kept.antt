@@ -1,5 +1,6 @@
 -- What stays of a list that loses some elements, none of which gives anything.
-use Rattle.act_executor.proofs.Common.{◌≡◌, ℕ, Bool, true, false, cond, List, [], ◌∷◌, ◌++◌, None, refl, ap, sym, ◌∙◌, append-nil, ◌||◌, filter, filter_map}
+use Rattle.act_executor.proofs.Common.{◌≡◌, ℕ, Bool, true, false, cond, List, [], ◌∷◌, ◌++◌, Some, None, refl, ap, sym, ◌∙◌, append-nil, ◌||◌, filter}
+use Rattle.act_executor.proofs.Common.{filter_map}
 use Rattle.act_executor.proofs.Common.{Option, option_map, list_any, cons_option, filter-append, steps_in, found_in}
 
 module _ {S : Type 0} (keep : S → Bool) where
@@ -50,3 +51,9 @@ module _ {S : Type 0} (keep : S → Bool) where
 -- what is found in steps with stamps
 pub kept_in : {S X : Type 0} (keep : S → Bool) (part : S → Option X) → ((x : S) → keep x ≡ false → part x ≡ None) → (trace : List (ℕ × S)) → found_in part (filter (keep_stamped keep) trace) ≡ found_in part trace
 kept_in {S} {X} keep part none trace = kept_found (keep_stamped keep) (λ (y : ℕ × S). option_map (λ (found : X). (y.0, found)) (part y.1)) (λ y lost. ap (option_map (λ (found : X). (y.0, found))) (none y.1 lost)) trace
+
+-- one element more that gives nothing, where there is one
+pub gives_none : {A B : Type 0} (f : A → Option B) (b : Bool) (x : A) (xs : List A) → f x ≡ None
+    → filter_map f (cons_option (cond b (Some x) None) xs) ≡ filter_map f xs
+gives_none {B = B} f true x xs none = ap (λ (o : Option B). cons_option o (filter_map f xs)) none
+gives_none f false x xs none = refl

@@ -1,13 +1,12 @@
 -- What a caller collects of an actor in the play is what its thread took of the actor's line.
-use Rattle.act_executor.proofs.Common.{◌≡◌, ℕ, ◌==◌, Bool, true, false, cond, List, [], ◌∷◌, ◌++◌, Option, Some, None, refl, ap, sym, ◌∙◌, subst, append_assoc}
+use Rattle.act_executor.proofs.Common.{◌≡◌, ℕ, ◌==◌, Bool, true, false, cond, List, [], ◌∷◌, ◌++◌, Some, None, refl, ap, sym, ◌∙◌, subst, append_assoc}
 use Rattle.act_executor.proofs.Common.{◌&&◌, map, filter, filter_map, AllByRecursion, cons_option, eqb-true, map-append, recursion_from_All, KindState, Notice}
-use Rattle.act_executor.proofs.Common.{Answered, Death, Post, RunItem, IsPrefix, contains, IsPrefix-map, front_trans, whole_front, Copied, Released, Submitted}
-use Rattle.act_executor.proofs.Common.{Sent, Noticed, notice_actor, items_from, Deed, Changed, AskedKill, TookCall, TookNote, Ran, TookKill, ToldDeath}
-use Rattle.act_executor.proofs.Common.{CallerStep, ChangeMade, KillAsked, notice_collected, replies_are_due, post_of, is_between}
+use Rattle.act_executor.proofs.Common.{Answered, Death, Post, RunItem, IsPrefix, contains, IsPrefix-map, front_trans, whole_front, Noticed, notice_actor}
+use Rattle.act_executor.proofs.Common.{items_from, Deed, OfCaller, OfActor, caller_steps, CallerStep, ChangeMade, notice_collected, replies_are_due, post_of}
+use Rattle.act_executor.proofs.Common.{is_between}
 use Rattle.act_rules.specs.declared.history.Post.TheVariants.{Reply as ReplyPost, Death as DeathPost}
-use Rattle.act_causes.specs.Deeds.{Retired}
 use Rattle.act_serve.specs.Served.{EndView, Killed, Retired as RetiredEnd, Starved, replies_to, deaths, places_of, place_of, IsReplyOf}
-use Rattle.act_executor.proofs.PlaysOfPlans.Own.{own_step}
+use Rattle.act_executor.proofs.Lists.Kept.{gives_none}
 
 -- a notice to this caller, as the rules name it
 abbrev pub post_from : ℕ → Notice → Post
@@ -16,67 +15,35 @@ post_from c (Death a) = DeathPost c a
 
 -- ---- a caller's part of what is collected
 
-abbrev pub heard_in : ℕ → List Deed → List Notice
-heard_in c deeds = filter_map notice_collected (filter_map (own_step c) deeds)
-
-between_is : (c d a : ℕ) (notice : Notice) → is_between c a (post_from d notice) ≡ ((d == c) && (notice_actor notice == a))
-between_is c d a (Answered reply) = refl
-between_is c d a (Death b) = refl
-
 module _ (c a : ℕ) where
-  part : (d : ℕ) (notice : Notice) (posts : List Post) (heard : List Notice) → filter (is_between c a) posts ≡ map (post_from c) (items_from notice_actor a heard)
-      → filter (is_between c a) (post_from d notice ∷ posts) ≡ map (post_from c) (items_from notice_actor a (filter_map notice_collected (cons_option (cond (d == c) (Some (ChangeMade (Noticed notice))) None) []) ++ heard))
-  part d notice posts heard rest =
-      ap (λ (b : Bool). cond b (post_from d notice ∷ filter (is_between c a) posts) (filter (is_between c a) posts)) (between_is c d a notice)
-      ∙ go (d == c) refl (notice_actor notice == a) refl
-    where
-      go : (b : Bool) → (d == c) ≡ b → (x : Bool) → (notice_actor notice == a) ≡ x → cond (b && x) (post_from d notice ∷ filter (is_between c a) posts) (filter (is_between c a) posts)
-          ≡ map (post_from c) (items_from notice_actor a (filter_map notice_collected (cons_option (cond b (Some (ChangeMade (Noticed notice))) None) []) ++ heard))
-      go false is x same = rest
-      go true is true same =
-          ap (λ (n : ℕ). post_from n notice ∷ filter (is_between c a) posts) (eqb-true d c is) ∙ ap (λ (l : List Post). post_from c notice ∷ l) rest
-          ∙ sym (ap (λ (b : Bool). map (post_from c) (cond b (notice ∷ items_from notice_actor a heard) (items_from notice_actor a heard))) same)
-      go true is false same = rest ∙ sym (ap (λ (b : Bool). map (post_from c) (cond b (notice ∷ items_from notice_actor a heard) (items_from notice_actor a heard))) same)
+  -- of these steps, what was collected of the actor, as the rules name it
+  abbrev heard_in : List CallerStep → List Post
+  heard_in steps = map (post_from c) (items_from notice_actor a (filter_map notice_collected steps))
 
-  quiet : (o : Option CallerStep) (heard : List Notice) → filter_map notice_collected (cons_option o []) ≡ [] → (steps : List CallerStep) → filter_map notice_collected steps ≡ heard → filter_map notice_collected (cons_option o steps) ≡ heard
-  quiet None heard none steps is = is
-  quiet (Some step) heard none steps is = go (notice_collected step) none
-    where
-      go : (o : Option Notice) → cons_option o [] ≡ [] → cons_option o (filter_map notice_collected steps) ≡ heard
-      go None none = is
-      go (Some notice) none = cc
+  one_heard : (d : ℕ) (notice : Notice) (posts : List Post) (steps : List CallerStep) → posts ≡ heard_in steps
+      → (b : Bool) → (d == c) ≡ b → (x : Bool) → (notice_actor notice == a) ≡ x
+      → cond (b && x) (post_from d notice ∷ posts) posts ≡ heard_in (cons_option (cond b (Some (ChangeMade (Noticed notice))) None) steps)
+  one_heard d notice posts steps rest false is x same = rest
+  one_heard d notice posts steps rest true is true same =
+      let heard = items_from notice_actor a (filter_map notice_collected steps) in
+      ap (λ (n : ℕ). post_from n notice ∷ posts) (eqb-true d c is) ∙ ap (λ (l : List Post). post_from c notice ∷ l) rest
+      ∙ sym (ap (λ (b : Bool). map (post_from c) (cond b (notice ∷ heard) heard)) same)
+  one_heard d notice posts steps rest true is false same =
+      let heard = items_from notice_actor a (filter_map notice_collected steps) in
+      rest ∙ sym (ap (λ (b : Bool). map (post_from c) (cond b (notice ∷ heard) heard)) same)
 
-  same_heard : (deed : Deed) (deeds : List Deed) → filter_map notice_collected (cons_option (own_step c deed) []) ≡ [] → filter (is_between c a) (filter_map post_of deeds) ≡ map (post_from c) (items_from notice_actor a (heard_in c deeds))
-      → filter (is_between c a) (filter_map post_of deeds) ≡ map (post_from c) (items_from notice_actor a (heard_in c (deed ∷ deeds)))
-  same_heard deed deeds none rest = rest ∙ ap (λ (l : List Notice). map (post_from c) (items_from notice_actor a l)) (sym (quiet (own_step c deed) (heard_in c deeds) none (filter_map (own_step c) deeds) refl))
-
-  silent : (d : ℕ) (step : CallerStep) → notice_collected step ≡ None → (b : Bool) → filter_map notice_collected (cons_option (cond b (Some step) None) []) ≡ []
-  silent d step none true = ap (λ (o : Option Notice). cons_option o []) none
-  silent d step none false = refl
-
-  told : (b : Bool) (notice : Notice) (steps : List CallerStep) → filter_map notice_collected (cons_option (cond b (Some (ChangeMade (Noticed notice))) None) []) ++ filter_map notice_collected steps ≡ filter_map notice_collected (cons_option (cond b (Some (ChangeMade (Noticed notice))) None) steps)
-  told true notice steps = refl
-  told false notice steps = refl
-
-  heard : (d : ℕ) (notice : Notice) (deeds : List Deed) → filter (is_between c a) (filter_map post_of deeds) ≡ map (post_from c) (items_from notice_actor a (heard_in c deeds))
-      → filter (is_between c a) (post_from d notice ∷ filter_map post_of deeds) ≡ map (post_from c) (items_from notice_actor a (heard_in c (Changed d (Noticed notice) ∷ deeds)))
-  heard d notice deeds rest = part d notice (filter_map post_of deeds) (heard_in c deeds) rest ∙ ap (λ (l : List Notice). map (post_from c) (items_from notice_actor a l)) (told (d == c) notice (filter_map (own_step c) deeds))
-
-  pub collected_part : (deeds : List Deed) → filter (is_between c a) (filter_map post_of deeds) ≡ map (post_from c) (items_from notice_actor a (heard_in c deeds))
+  -- the deeds collect of the actor, for the caller, what the caller's own steps do
+  pub collected_part : (deeds : List Deed) → filter (is_between c a) (filter_map post_of deeds) ≡ heard_in (caller_steps c deeds)
   collected_part [] = refl
-  collected_part (Changed d (Noticed (Answered reply)) ∷ deeds) = heard d (Answered reply) deeds (collected_part deeds)
-  collected_part (Changed d (Noticed (Death b)) ∷ deeds) = heard d (Death b) deeds (collected_part deeds)
-  collected_part (Changed d (Copied b) ∷ deeds) = same_heard (Changed d (Copied b)) deeds (silent d (ChangeMade (Copied b)) refl (d == c)) (collected_part deeds)
-  collected_part (Changed d (Released b) ∷ deeds) = same_heard (Changed d (Released b)) deeds (silent d (ChangeMade (Released b)) refl (d == c)) (collected_part deeds)
-  collected_part (Changed d (Submitted b method args) ∷ deeds) = same_heard (Changed d (Submitted b method args)) deeds (silent d (ChangeMade (Submitted b method args)) refl (d == c)) (collected_part deeds)
-  collected_part (Changed d (Sent k) ∷ deeds) = same_heard (Changed d (Sent k)) deeds (silent d (ChangeMade (Sent k)) refl (d == c)) (collected_part deeds)
-  collected_part (AskedKill d b ∷ deeds) = same_heard (AskedKill d b) deeds (silent d (KillAsked b) refl (d == c)) (collected_part deeds)
-  collected_part (TookCall b packet ∷ deeds) = collected_part deeds
-  collected_part (TookNote b note ∷ deeds) = collected_part deeds
-  collected_part (Ran b item ∷ deeds) = collected_part deeds
-  collected_part (TookKill b ∷ deeds) = collected_part deeds
-  collected_part (ToldDeath b d ∷ deeds) = collected_part deeds
-  collected_part (Retired b ∷ deeds) = collected_part deeds
+  collected_part (OfCaller d (ChangeMade (Noticed (Answered reply))) ∷ deeds) =
+      one_heard d (Answered reply) (filter (is_between c a) (filter_map post_of deeds)) (caller_steps c deeds) (collected_part deeds) (d == c) refl
+          (reply.actor == a) refl
+  collected_part (OfCaller d (ChangeMade (Noticed (Death b))) ∷ deeds) =
+      one_heard d (Death b) (filter (is_between c a) (filter_map post_of deeds)) (caller_steps c deeds) (collected_part deeds) (d == c) refl (b == a) refl
+  collected_part (OfCaller d step ∷ deeds) =
+      collected_part deeds ∙ ap (λ (l : List Notice). map (post_from c) (items_from notice_actor a l))
+          (sym (gives_none notice_collected (d == c) step (caller_steps c deeds) refl))
+  collected_part (OfActor b step ∷ deeds) = collected_part deeds
 
 -- ---- of one actor alone
 

@@ -3,12 +3,8 @@ use Rattle.act_executor.proofs.Common.{ℕ, Bool, List, [], ◌∷◌, ◌++◌,
 use Rattle.act_executor.proofs.Common.{Submit, Copy, Release, Kill, Await, kept_at, OwnerView, is_known_dead, Copied, Released, Submitted, after_change}
 use Rattle.act_executor.proofs.Common.{CallerStep, ChangeMade, KillAsked, owner_after_steps, CallerMayDoAll, IsMeanwhile, DoesStep, DoesPlan}
 use Rattle.act_executor.proofs.Lists.Kept.{kept_more}
-use Rattle.act_executor.proofs.PlaysOfThreads.CallerWork.{is_by_these, may_front, HoldsThese, change_holds, IsStill, still}
-
-may_later : (owner : OwnerView) (before later : List CallerStep) → CallerMayDoAll owner (before ++ later) → CallerMayDoAll (owner_after_steps owner before) later
-may_later owner [] later may = may
-may_later owner (ChangeMade change ∷ before) later may = may_later (after_change owner change) before later may.1
-may_later owner (KillAsked a ∷ before) later may = may_later owner before later may.1
+use Rattle.act_executor.proofs.PlaysOfThreads.Allowed.{may_front, may_rest}
+use Rattle.act_executor.proofs.PlaysOfThreads.CallerWork.{is_by_these, HoldsThese, change_holds, IsStill, still}
 
 module _ (actors : List ℕ) where
   abbrev keep : CallerStep → Bool
@@ -53,5 +49,5 @@ module _ (actors : List ℕ) where
         step_kept owner step before done (still actors owner before holds (before_may owner step before done later does all)) does,
         ap (filter keep) whole ∙ filter-append keep done later,
         subst (λ (o : OwnerView). DoesPlan o plan (filter keep later)) (sym same)
-            (plan_kept plan (owner_after_steps owner done) later (holds_on owner done holds done_may) (may_later owner done later all) more),
+            (plan_kept plan (owner_after_steps owner done) later (holds_on owner done holds done_may) (may_rest owner done later all) more),
       )

@@ -1,19 +1,15 @@
 -- No letter that an actor takes of a caller comes twice, and so it is of the letters that are delivered.
-use Rattle.act_executor.proofs.Common.{◌≡◌, ◌≢◌, ℕ, suc, ◌+◌, ◌==◌, Bool, true, false, cond, List, [], ◌∷◌, ◌++◌, Option, Some, None, refl, ap, sym, ◌∙◌, subst}
+use Rattle.act_executor.proofs.Common.{◌≡◌, ◌≢◌, ℕ, suc, ◌==◌, Bool, true, false, cond, List, [], ◌∷◌, ◌++◌, Option, Some, None, refl, ap, sym, ◌∙◌, subst}
 use Rattle.act_executor.proofs.Common.{arith, All, AllPairs, ◌&&◌, map, filter, filter_map, slice_get, option_map, AllByRecursion, cons_option, eqb-true}
-use Rattle.act_executor.proofs.Common.{eq-eqb, ne_eqb, map-append, recursion_from_All, Packet, ReleaseNote, Submission, number_of, same_place, OwnerView}
-use Rattle.act_executor.proofs.Common.{packet_for, Letter, Call, Note, Deed, Changed, AskedKill, TookCall, TookNote, Ran, TookKill, ToldDeath, IsSent, AreTwo}
-use Rattle.act_executor.proofs.Common.{letter_of, IsPrefix, contains, items_from, caller_of, steps_in, found_in, ActorStep, LetterTaken, CallRun, KillTaken}
-use Rattle.act_executor.proofs.Common.{DeathTold, Retirement, letter_taken, deeds_of, IsMergeOf, CallerThreads, ActorThreads}
+use Rattle.act_executor.proofs.Common.{eq-eqb, map-append, recursion_from_All, Packet, ReleaseNote, Submission, number_of, same_place, OwnerView}
+use Rattle.act_executor.proofs.Common.{packet_for, Letter, Call, Note, Deed, OfCaller, OfActor, actor_steps, IsSent, AreTwo, letter_of, IsPrefix, contains}
+use Rattle.act_executor.proofs.Common.{items_from, caller_of, steps_in, found_in, ActorStep, LetterTaken, letter_taken}
 use Rattle.act_rules.specs.declared.history.Letter.{Letter as SentLetter}
 use Rattle.act_rules.specs.declared.history.Letter.TheVariants.{Call as CallLetter, Note as NoteLetter}
-use Rattle.act_causes.specs.Deeds.{Retired}
 use Rattle.act_executor.proofs.PlaysOfPlans.Once.{Differ, differ_pairs, front_differs, HasEnds, both_same, all_differ}
-use Rattle.act_executor.proofs.PlaysOfThreads.Threads.{actor_key, key_of, deed_of_actor, all_threads, deeds_of_actor}
-use Rattle.act_executor.proofs.PlaysOfThreads.Projections.{deeds_in_order, IsKeyed, seen_under, seen_in_steps}
 use Rattle.act_executor.proofs.PlaysOfThreads.ActorWork.{is_of_these}
-use Rattle.act_executor.proofs.PlaysOfThreads.FoundSteps.{found_is as found_alone}
-use Rattle.act_executor.proofs.Lists.Kept.{keep_stamped, kept_steps, kept_found}
+use Rattle.act_causes.proofs.Found.{found_is as found_alone}
+use Rattle.act_executor.proofs.Lists.Kept.{keep_stamped, kept_steps, kept_found, gives_none}
 
 -- ---- what a caller put at an endpoint
 
@@ -85,34 +81,6 @@ sent_ends (NoteLetter c a n) = record { caller = c; actor = a; goes = both_same 
 pub delivered_once : (arrived : List SentLetter) → ((c a : ℕ) → Differ (filter (is_sent_between c a) arrived)) → AllPairs (λ one other. one ≢ other) arrived
 delivered_once arrived each = differ_pairs arrived (all_differ is_sent_between sent_ends arrived each)
 
--- the letter of the caller's that the actor takes in the deed
-abbrev pub letter_by : ℕ → ℕ → Deed → Option SentLetter
-letter_by c a (Changed d change) = None
-letter_by c a (AskedKill d b) = None
-letter_by c a (TookCall b packet) = cond ((packet.caller == c) && (b == a)) (Some (CallLetter packet.caller b packet.number)) None
-letter_by c a (TookNote b note) = cond ((note.caller == c) && (b == a)) (Some (NoteLetter note.caller b note.after)) None
-letter_by c a (Ran b item) = None
-letter_by c a (TookKill b) = None
-letter_by c a (ToldDeath b d) = None
-letter_by c a (Retired b) = None
-
-one_letter : (b : Bool) (letter : SentLetter) (letters rest : List SentLetter) → letters ≡ rest → cond b (letter ∷ letters) letters ≡ cons_option (cond b (Some letter) None) rest
-one_letter true letter letters rest same = ap (λ (l : List SentLetter). letter ∷ l) same
-one_letter false letter letters rest same = same
-
-pub delivered_part : (c a : ℕ) (deeds : List Deed) → filter (is_sent_between c a) (filter_map letter_of deeds) ≡ filter_map (letter_by c a) deeds
-delivered_part c a [] = refl
-delivered_part c a (Changed d change ∷ deeds) = delivered_part c a deeds
-delivered_part c a (AskedKill d b ∷ deeds) = delivered_part c a deeds
-delivered_part c a (TookCall b packet ∷ deeds) =
-    one_letter ((packet.caller == c) && (b == a)) (CallLetter packet.caller b packet.number) (filter (is_sent_between c a) (filter_map letter_of deeds)) (filter_map (letter_by c a) deeds) (delivered_part c a deeds)
-delivered_part c a (TookNote b note ∷ deeds) =
-    one_letter ((note.caller == c) && (b == a)) (NoteLetter note.caller b note.after) (filter (is_sent_between c a) (filter_map letter_of deeds)) (filter_map (letter_by c a) deeds) (delivered_part c a deeds)
-delivered_part c a (Ran b item ∷ deeds) = delivered_part c a deeds
-delivered_part c a (TookKill b ∷ deeds) = delivered_part c a deeds
-delivered_part c a (ToldDeath b d ∷ deeds) = delivered_part c a deeds
-delivered_part c a (Retired b ∷ deeds) = delivered_part c a deeds
-
 -- a letter of the caller's, and one that an actor takes in a step
 abbrev pub letter_from : ℕ → ℕ → Letter → Option SentLetter
 letter_from c a letter = cond (caller_of letter == c) (Some (sent_letter a letter)) None
@@ -120,46 +88,31 @@ letter_from c a letter = cond (caller_of letter == c) (Some (sent_letter a lette
 -- the letter of the caller's that the actor takes in the step, if it takes one
 abbrev pub letter_in_step : ℕ → ℕ → ActorStep → Option SentLetter
 letter_in_step c a (LetterTaken letter) = letter_from c a letter
-letter_in_step c a (CallRun item) = None
-letter_in_step c a (KillTaken kill) = None
-letter_in_step c a (DeathTold d) = None
-letter_in_step c a Retirement = None
+letter_in_step c a step = None
 
-unkeyed : (a b : ℕ) → (actor_key b == actor_key a) ≡ false → (b == a) ≡ false
-unkeyed a b e = ne_eqb b a (λ same. let bad : true ≡ false = sym (eq-eqb (actor_key b) (actor_key a) (ap actor_key same)) ∙ e in cc)
+module _ (c a : ℕ) where
+  one_taken : (b : ℕ) (letter : Letter) (letters : List SentLetter) (steps : List ActorStep) → letters ≡ filter_map (letter_in_step c a) steps
+      → (x : Bool) → (caller_of letter == c) ≡ x → (y : Bool) → (b == a) ≡ y
+      → cond (x && y) (sent_letter b letter ∷ letters) letters ≡ filter_map (letter_in_step c a) (cons_option (cond y (Some (LetterTaken letter)) None) steps)
+  one_taken b letter letters steps rest true is true same =
+      ap (λ (n : ℕ). sent_letter n letter ∷ letters) (eqb-true b a same) ∙ ap (λ (l : List SentLetter). sent_letter a letter ∷ l) rest
+      ∙ sym (ap (λ (x : Bool). cons_option (cond x (Some (sent_letter a letter)) None) (filter_map (letter_in_step c a) steps)) is)
+  one_taken b letter letters steps rest false is true same =
+      rest ∙ sym (ap (λ (x : Bool). cons_option (cond x (Some (sent_letter a letter)) None) (filter_map (letter_in_step c a) steps)) is)
+  one_taken b letter letters steps rest true is false same = rest
+  one_taken b letter letters steps rest false is false same = rest
 
-elsewhere : (x y : Bool) (letter : SentLetter) → y ≡ false → cond (x && y) (Some letter) None ≡ None
-elsewhere true y letter e = ap (λ (b : Bool). cond b (Some letter) None) e
-elsewhere false y letter e = refl
-
-none_taken : (c a : ℕ) (deed : Deed) → (key_of deed == actor_key a) ≡ false → letter_by c a deed ≡ None
-none_taken c a (Changed d change) e = refl
-none_taken c a (AskedKill d b) e = refl
-none_taken c a (TookCall b packet) e = elsewhere (packet.caller == c) (b == a) (CallLetter packet.caller b packet.number) (unkeyed a b e)
-none_taken c a (TookNote b note) e = elsewhere (note.caller == c) (b == a) (NoteLetter note.caller b note.after) (unkeyed a b e)
-none_taken c a (Ran b item) e = refl
-none_taken c a (TookKill b) e = refl
-none_taken c a (ToldDeath b d) e = refl
-none_taken c a (Retired b) e = refl
-
-here : (x y : Bool) (letter : SentLetter) → y ≡ true → cond (x && y) (Some letter) None ≡ cond x (Some letter) None
-here true y letter e = ap (λ (b : Bool). cond b (Some letter) None) e
-here false y letter e = refl
-
-same_taken : (c a : ℕ) (step : ActorStep) → letter_by c a (deed_of_actor a step) ≡ letter_in_step c a step
-same_taken c a (LetterTaken (Call packet)) = here (packet.caller == c) (a == a) (CallLetter packet.caller a packet.number) (eq-eqb a a refl)
-same_taken c a (LetterTaken (Note note)) = here (note.caller == c) (a == a) (NoteLetter note.caller a note.after) (eq-eqb a a refl)
-same_taken c a (CallRun item) = refl
-same_taken c a (KillTaken kill) = refl
-same_taken c a (DeathTold d) = refl
-same_taken c a Retirement = refl
-
-pub taken_part : (callers : CallerThreads) (actors : ActorThreads) (merged : List (ℕ × (ℕ × Deed))) (c a : ℕ) → IsMergeOf (all_threads callers actors) merged → IsKeyed merged
-    → filter_map (letter_by c a) (deeds_in_order merged) ≡ filter_map (letter_in_step c a) (steps_in (deeds_of a actors))
-taken_part callers actors merged c a merge keyed =
-    seen_under (actor_key a) (letter_by c a) (none_taken c a) merged keyed
-    ∙ ap (λ (l : List (ℕ × Deed)). filter_map (letter_by c a) (map (λ (d : ℕ × Deed). d.1) l)) (merge.each (actor_key a) ∙ deeds_of_actor callers actors a)
-    ∙ seen_in_steps (letter_by c a) (letter_in_step c a) (deed_of_actor a) (same_taken c a) (deeds_of a actors)
+  -- of the caller's letters the deeds bring to the actor what the actor's own steps take
+  pub arrived_part : (deeds : List Deed) → filter (is_sent_between c a) (filter_map letter_of deeds) ≡ filter_map (letter_in_step c a) (actor_steps a deeds)
+  arrived_part [] = refl
+  arrived_part (OfCaller d step ∷ deeds) = arrived_part deeds
+  arrived_part (OfActor b (LetterTaken (Call packet)) ∷ deeds) =
+      one_taken b (Call packet) (filter (is_sent_between c a) (filter_map letter_of deeds)) (actor_steps a deeds) (arrived_part deeds)
+          (packet.caller == c) refl (b == a) refl
+  arrived_part (OfActor b (LetterTaken (Note note)) ∷ deeds) =
+      one_taken b (Note note) (filter (is_sent_between c a) (filter_map letter_of deeds)) (actor_steps a deeds) (arrived_part deeds) (note.caller == c) refl
+          (b == a) refl
+  arrived_part (OfActor b step ∷ deeds) = arrived_part deeds ∙ sym (gives_none (letter_in_step c a) (b == a) step (actor_steps a deeds) refl)
 
 -- ---- the steps of an actor's thread
 
@@ -167,10 +120,7 @@ module _ (c a : ℕ) where
   by_letters : (steps : List ActorStep) → filter_map (letter_in_step c a) steps ≡ filter_map (letter_from c a) (filter_map letter_taken steps)
   by_letters [] = refl
   by_letters (LetterTaken letter ∷ steps) = ap (cons_option (letter_from c a letter)) (by_letters steps)
-  by_letters (CallRun item ∷ steps) = by_letters steps
-  by_letters (KillTaken kill ∷ steps) = by_letters steps
-  by_letters (DeathTold d ∷ steps) = by_letters steps
-  by_letters (Retirement ∷ steps) = by_letters steps
+  by_letters (step ∷ steps) = by_letters steps
 
   stranger_letter : (callers : List ℕ) (letter : Letter) → contains c callers ≡ true → contains (caller_of letter) callers ≡ false → letter_from c a letter ≡ None
   stranger_letter callers letter listed lost = go (caller_of letter == c) refl
@@ -181,10 +131,7 @@ module _ (c a : ℕ) where
 
   lost_letter : (callers : List ℕ) → contains c callers ≡ true → (step : ActorStep) → is_of_these callers step ≡ false → letter_in_step c a step ≡ None
   lost_letter callers listed (LetterTaken letter) lost = stranger_letter callers letter listed lost
-  lost_letter callers listed (CallRun item) lost = refl
-  lost_letter callers listed (KillTaken kill) lost = refl
-  lost_letter callers listed (DeathTold d) lost = refl
-  lost_letter callers listed Retirement lost = refl
+  lost_letter callers listed step lost = refl
 
   -- the letters that are taken of a listed caller
   pub letters_kept : (callers : List ℕ) → contains c callers ≡ true → (t : List (ℕ × ActorStep)) (taken : List Letter) → map (λ x. x.1) (found_in letter_taken t) ≡ taken
@@ -204,10 +151,7 @@ module _ (c a : ℕ) where
       go true is true same rest = let bad : true ≡ false = sym is ∙ ap (λ (n : ℕ). contains n callers) (eqb-true (caller_of letter) c same) ∙ none in cc
       go true is false same rest = ap (λ (b : Bool). cons_option (cond b (Some (sent_letter a letter)) None) (filter_map (letter_in_step c a) (filter (is_of_these callers) steps))) same ∙ rest
       go false is x same rest = rest
-  none_listed callers none (CallRun item ∷ steps) = none_listed callers none steps
-  none_listed callers none (KillTaken kill ∷ steps) = none_listed callers none steps
-  none_listed callers none (DeathTold d ∷ steps) = none_listed callers none steps
-  none_listed callers none (Retirement ∷ steps) = none_listed callers none steps
+  none_listed callers none (step ∷ steps) = none_listed callers none steps
 
   pub letters_lost : (callers : List ℕ) → contains c callers ≡ false → (t : List (ℕ × ActorStep)) → filter_map (letter_in_step c a) (steps_in (filter (keep_stamped (is_of_these callers)) t)) ≡ []
   letters_lost callers none t = ap (filter_map (letter_in_step c a)) (kept_steps (is_of_these callers) t) ∙ none_listed callers none (steps_in t)

@@ -2,8 +2,8 @@
 use Rattle.act_executor.proofs.Common.{◌≡◌, ◌≢◌, ℕ, ◌==◌, Bool, true, false, List, [], ◌∷◌, ◌++◌, map, slice_get, Option, Some, None, refl, ap, sym, ◌∙◌, subst}
 use Rattle.act_executor.proofs.Common.{All, AllPairs, filter, option_map, eq-eqb, eqb-true, KindState, Event, Post, RunItem, Step, Release, IsPrefix, ActorSpec}
 use Rattle.act_executor.proofs.Common.{contains, opening_of, actors_naming, runs_of, history, Answer, kept_at, world_sound, map-slice_get, Notice, OwnerView}
-use Rattle.act_executor.proofs.Common.{items_from, MailView, ControlView, RepliesView, notice_actor, steps_in, Driven, CallerStep, notice_collected, deeds_of}
-use Rattle.act_executor.proofs.Common.{SpecsFit, plan_of, end_log, places_of, ServedView, AreJoined, IsPlayOfThreads}
+use Rattle.act_executor.proofs.Common.{items_from, MailView, ControlView, RepliesView, notice_actor, steps_in, Driven, CallerStep, notice_collected}
+use Rattle.act_executor.proofs.Common.{SpecsFit, plan_of, end_log, places_of, ServedView, AreJoined, IsPlayOfSteps}
 use Rattle.act_executor.proofs.Common.{pairs_of_map, cast_at, ActorStep, log_of_steps, filter_map, CallsThatDiedNeverRan}
 use Rattle.act_executor.proofs.Common.{kept_in, log_in, is_between, DoesPlanIn, CollectsInLine, IsPlayOfPlans, IsPlayedAsPlanned, HasPosted, IsSent}
 use Rattle.act_rules.specs.declared.history.Post.TheVariants.{Reply as ReplyPost, Death as DeathPost}
@@ -13,8 +13,9 @@ use Rattle.act_executor.proofs.EndsOfRuns.Found.{naming, same_cast, served_cast,
 use Rattle.act_executor.proofs.EndsOfRuns.Joint.{driven_of, served_of, Thread, thread, driver, audit_of, given_to}
 use Rattle.act_executor.proofs.PlaysOfThreads.AsPlay.{casts_stay}
 use Rattle.act_executor.proofs.PlaysOfThreads.HaveTraces.{HaveTraces}
-use Rattle.act_executor.proofs.PlaysOfThreads.JoinedTraces.{callers, actors, are_traced, caller_found, caller_none, actor_none, actor_found, is_play_of, kept_left, log_is_left, log_found, callers_differ}
-use Rattle.act_executor.proofs.PlaysOfPlans.TracedPlans.{IsPlayOfSteps, play_of_steps}
+use Rattle.act_executor.proofs.PlaysOfThreads.JoinedTraces.{callers, actors, caller_did, actor_did, are_traced, caller_found, caller_none, actor_none}
+use Rattle.act_executor.proofs.PlaysOfThreads.JoinedTraces.{actor_found, is_play_of, kept_left, log_is_left, log_found, callers_differ}
+use Rattle.act_executor.proofs.PlaysOfPlans.TracedPlans.{IsPlayOfPlannedSteps, play_of_steps}
 use Rattle.act_executor.proofs.PlaysOfPlans.Heard.{post_from, of_listed, of_stranger, given_posts}
 use Rattle.act_executor.proofs.PlaysOfPlans.Ran.{died_unrun}
 use Rattle.act_executor.proofs.PlaysOfPlans.Once.{Differ, collected_once}
@@ -26,14 +27,14 @@ module _ {mails : List MailView} {controls : List ControlView} {replies : List R
   owner_in d = d.owner
 
   abbrev heard_by : ℕ → List Notice
-  heard_by c = filter_map notice_collected (steps_in (deeds_of c (callers j have)))
+  heard_by c = filter_map notice_collected (caller_did j have c)
 
   nothing : (c a : ℕ) (notices : List Notice) (more : List Post) → notices ≡ [] → IsPrefix (map (post_from c) notices) more
   nothing c a notices more none = (more, ap (λ (l : List Notice). map (post_from c) l ++ more) none)
 
   -- ---- what a caller collected of an actor
 
-  module _ (events : List Event) (play : IsPlayOfThreads casts (callers j have) (actors j have) events) where
+  module _ (events : List Event) (play : IsPlayOfSteps casts (caller_did j have) (actor_did j have) events) where
     taken_of : (c a : ℕ) (d : Driven) (s : ServedView) (e : driven_of c driven ≡ Some d) (f : served_of a served ≡ Some s) (t : Thread j a s) → IsIn t.cast.cast.callers c
         → IsPrefix (map (post_from c) (items_from notice_actor a d.passes.collects.taken)) (map (λ place. ReplyPost c a place) (places_of c (runs_of a (history casts events))) ++ DeathPost c a ∷ [])
     taken_of c a d s e f t listed =
@@ -89,10 +90,11 @@ module _ {mails : List MailView} {controls : List ControlView} {replies : List R
       let posted = all_in (HasPosted mails d.owner) d.passes.letters.items audit.endpoint (driver j c d e).driving.letters (in_from_contains d.passes.letters.items audit.endpoint audit.sits) line in
       taken_differ c a d.owner s.passes.letters.taken audit.endpoint.pass.put audit.front (subst (λ (n : ℕ). All (IsSent d.owner n) audit.endpoint.pass.put) (audit.line line) posted.0) posted.1
 
-  letters_differ : (c a : ℕ) → Differ (filter_map (letter_in_step c a) (steps_in (deeds_of a (actors j have))))
+  letters_differ : (c a : ℕ) → Differ (filter_map (letter_in_step c a) (actor_did j have a))
   letters_differ c a = go (served_of a served) refl
     where
-      by : (s : ServedView) (e : served_of a served ≡ Some s) (b : Bool) → contains c (actor_found j have a s e).cast.callers ≡ b → Differ (filter_map (letter_in_step c a) (steps_in (deeds_of a (actors j have))))
+      by : (s : ServedView) (e : served_of a served ≡ Some s) (b : Bool) → contains c (actor_found j have a s e).cast.callers ≡ b
+          → Differ (filter_map (letter_in_step c a) (actor_did j have a))
       by s e false is = subst (λ (l : List SentLetter). Differ l) (sym ((actor_found j have a s e).no_letters c a is)) tt
       by s e true is =
           let w = actor_found j have a s e in
@@ -102,7 +104,7 @@ module _ {mails : List MailView} {controls : List ControlView} {replies : List R
           let found = driven_named j t.cast.cast c t.cast.inside listed in
           subst (λ (l : List SentLetter). Differ l) (sym (w.letters_taken c a is)) (taken_once c a found.one s found.is t listed)
 
-      go : (o : Option ServedView) → served_of a served ≡ o → Differ (filter_map (letter_in_step c a) (steps_in (deeds_of a (actors j have))))
+      go : (o : Option ServedView) → served_of a served ≡ o → Differ (filter_map (letter_in_step c a) (actor_did j have a))
       go None e = subst (λ (l : List (ℕ × ActorStep)). Differ (filter_map (letter_in_step c a) (steps_in l))) (sym (actor_none j have a e)) tt
       go (Some s) e = by s e (contains c (actor_found j have a s e).cast.callers) refl
 
@@ -116,7 +118,7 @@ module _ {mails : List MailView} {controls : List ControlView} {replies : List R
       let same = one_of (λ (x : Driven). x.owner.id) driven is.inside.place k found.one d differ is.inside.at at (eqb-true found.one.owner.id d.owner.id is.passes) in
       found.is ∙ ap (λ (x : Driven). Some x) same
 
-  module _ (events : List Event) (played : IsPlayOfSteps casts (callers j have) (actors j have) events) where
+  module _ (events : List Event) (played : IsPlayOfPlannedSteps casts (caller_did j have) (actor_did j have) events) where
     lines : (c a : ℕ) → CollectsInLine (history casts events) c a
     lines c a = line_of events played.play c a (played.collected c a)
 

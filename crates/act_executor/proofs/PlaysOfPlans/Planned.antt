@@ -1,17 +1,15 @@
 -- What a caller's thread did by its plan, the caller does by its plan in the play.
 use Rattle.act_executor.proofs.Common.{◌≡◌, ℕ, ◌==◌, Bool, true, false, cond, List, [], ◌∷◌, ◌++◌, Option, Some, None, inl, inr, refl, ap, sym, ◌∙◌, subst, All}
-use Rattle.act_executor.proofs.Common.{append_assoc, append-nil, filter_map, is_some, AllByRecursion, AllZip, cons_option, eqb-true}
-use Rattle.act_executor.proofs.Common.{All-from_recursion, recursion_from_All, filter_map-append, Answered, Death, Event, Step, history}
-use Rattle.act_executor.proofs.Common.{Answer, ActorSpec, History, kept_at, OwnerView, is_known_dead, Change, Copied, Released, Submitted, Sent, Noticed}
-use Rattle.act_executor.proofs.Common.{after_changes, after_all-append, Deed, Changed, AskedKill, TookCall, TookNote, Ran, TookKill, ToldDeath}
-use Rattle.act_executor.proofs.Common.{change_of, changes_by, owner_by, owner_after, IsEventOf, CallerStep, ChangeMade, KillAsked, change_made, changes_made}
+use Rattle.act_executor.proofs.Common.{append_assoc, append-nil, filter_map, is_some, AllByRecursion, AllZip, cons_option, All-from_recursion}
+use Rattle.act_executor.proofs.Common.{recursion_from_All, filter_map-append, Answered, Death, Event, Step, history, Answer, ActorSpec, History, kept_at}
+use Rattle.act_executor.proofs.Common.{OwnerView, is_known_dead, Copied, Released, Submitted, Sent, Noticed, Call, Note, Deed, OfCaller, OfActor, caller_step}
+use Rattle.act_executor.proofs.Common.{caller_steps, left_by, opened_of, owner_by, IsEventOf, LetterTaken, CallerStep, ChangeMade, KillAsked}
 use Rattle.act_executor.proofs.Common.{owner_after_steps, KeepsAnswers, EachFront, step_of, DoesStepIn, DoesPlanIn, DoesPlan, death_listed}
 use Rattle.act_rules.specs.declared.script.Step.TheVariants.{Submit as SubmitStep, Copy as CopyStep, Release as ReleaseStep, Kill as KillStep, Await as AwaitStep}
-use Rattle.act_causes.specs.Deeds.{Retired}
 use Rattle.act_drive.specs.PlanTraces.{IsMeanwhile as IsMeanwhileStep}
-use Rattle.act_executor.proofs.PlaysOfThreads.Threads.{deed_of_caller}
 use Rattle.act_executor.specs.PlanPlays.{IsMeanwhile}
-use Rattle.act_executor.proofs.PlaysOfPlans.Own.{own_step}
+use Rattle.act_executor.proofs.PlaysOfThreads.Allowed.{after_steps-append}
+use Rattle.act_executor.proofs.PlaysOfThreads.Seen.{deed_of_caller}
 
 -- ---- cuts of what a filter keeps
 
@@ -86,96 +84,40 @@ module _ {A B : Type 0} (f : A → Option B) where
           let tail : filter_map f xs ≡ ys ++ y ∷ zs = cc in
           subst (λ (z : B). IsCutBy f (x ∷ xs) (z ∷ ys) y zs) head (more_by (Some b) x xs ys y zs is (less tail))
 
--- ---- a deed of the caller's is its event
-
-own_is : (c : ℕ) (deed : Deed) (step : CallerStep) → own_step c deed ≡ Some step → deed ≡ deed_of_caller c step
-own_is c (Changed d change) step e = go (d == c) refl e
-  where
-    go : (b : Bool) → (d == c) ≡ b → cond b (Some (ChangeMade change)) None ≡ Some step → Changed d change ≡ deed_of_caller c step
-    go true is e = let same : ChangeMade change ≡ step = cc in ap (λ (n : ℕ). Changed n change) (eqb-true d c is) ∙ ap (deed_of_caller c) same
-    go false is e = cc
-own_is c (AskedKill d a) step e = go (d == c) refl e
-  where
-    go : (b : Bool) → (d == c) ≡ b → cond b (Some (KillAsked a)) None ≡ Some step → AskedKill d a ≡ deed_of_caller c step
-    go true is e = let same : KillAsked a ≡ step = cc in ap (λ (n : ℕ). AskedKill n a) (eqb-true d c is) ∙ ap (deed_of_caller c) same
-    go false is e = cc
-own_is c (TookCall a packet) step e = cc
-own_is c (TookNote a note) step e = cc
-own_is c (Ran a item) step e = cc
-own_is c (TookKill a) step e = cc
-own_is c (ToldDeath a d) step e = cc
-own_is c (Retired a) step e = cc
+-- ---- while the caller only sends and collects
 
 -- whether the caller only sends or collects
 abbrev IsQuiet : Option CallerStep → Type 0
 IsQuiet None = Unit {0}
 IsQuiet (Some step) = IsMeanwhileStep step
 
-quiet_event : (c : ℕ) (h : History) (deed : Deed) (event : Event) → IsEventOf h deed event → IsQuiet (own_step c deed) → step_of c event ≡ None
-quiet_event c h (Changed d (Copied a)) event is quiet = ap (step_of c) is ∙ go (d == c) quiet
-  where
-    go : (b : Bool) → IsQuiet (cond b (Some (ChangeMade (Copied a))) None) → cond b (Some (CopyStep a)) None ≡ None
-    go true quiet = absurd quiet
-    go false quiet = refl
-quiet_event c h (Changed d (Released a)) event is quiet = ap (step_of c) is ∙ go (d == c) quiet
-  where
-    go : (b : Bool) → IsQuiet (cond b (Some (ChangeMade (Released a))) None) → cond b (Some (ReleaseStep a)) None ≡ None
-    go true quiet = absurd quiet
-    go false quiet = refl
-quiet_event c h (Changed d (Submitted a method args)) event is quiet = ap (step_of c) is ∙ go (d == c) quiet
-  where
-    go : (b : Bool) → IsQuiet (cond b (Some (ChangeMade (Submitted a method args))) None) → cond b (Some (SubmitStep a method args)) None ≡ None
-    go true quiet = absurd quiet
-    go false quiet = refl
-quiet_event c h (Changed d (Sent k)) event is quiet = ap (step_of c) is
-quiet_event c h (Changed d (Noticed (Answered reply))) event is quiet = ap (step_of c) is.1
-quiet_event c h (Changed d (Noticed (Death a))) event is quiet = ap (step_of c) is.1
-quiet_event c h (AskedKill d a) event is quiet = ap (step_of c) is ∙ go (d == c) quiet
-  where
-    go : (b : Bool) → IsQuiet (cond b (Some (KillAsked a)) None) → cond b (Some (KillStep a)) None ≡ None
-    go true quiet = absurd quiet
-    go false quiet = refl
-quiet_event c h (TookCall a packet) event is quiet = ap (step_of c) is.1
-quiet_event c h (TookNote a note) event is quiet = ap (step_of c) is.1
-quiet_event c h (Ran a item) event is quiet = ap (step_of c) is
-quiet_event c h (TookKill a) event is quiet = ap (step_of c) is
-quiet_event c h (ToldDeath a d) event is quiet = ap (step_of c) is
-quiet_event c h (Retired a) event is quiet = ap (step_of c) is
+-- a step that is neither is no deed of the caller's
+not_quiet : (b : Bool) (step : CallerStep) (planned : Step) → (IsMeanwhileStep step → ⊥) → IsQuiet (cond b (Some step) None) → cond b (Some planned) None ≡ None
+not_quiet true step planned never quiet = absurd (never quiet)
+not_quiet false step planned never quiet = refl
+
+quiet_event : (c : ℕ) (h : History) (deed : Deed) (event : Event) → IsEventOf h deed event → IsQuiet (caller_step c deed) → step_of c event ≡ None
+quiet_event c h (OfCaller d (ChangeMade (Copied a))) event is quiet = ap (step_of c) is
+    ∙ not_quiet (d == c) (ChangeMade (Copied a)) (CopyStep a) (λ no. no) quiet
+quiet_event c h (OfCaller d (ChangeMade (Released a))) event is quiet = ap (step_of c) is
+    ∙ not_quiet (d == c) (ChangeMade (Released a)) (ReleaseStep a) (λ no. no) quiet
+quiet_event c h (OfCaller d (ChangeMade (Submitted a method args))) event is quiet =
+    ap (step_of c) is ∙ not_quiet (d == c) (ChangeMade (Submitted a method args)) (SubmitStep a method args) (λ no. no) quiet
+quiet_event c h (OfCaller d (KillAsked a)) event is quiet = ap (step_of c) is ∙ not_quiet (d == c) (KillAsked a) (KillStep a) (λ no. no) quiet
+quiet_event c h (OfCaller d (ChangeMade (Sent k))) event is quiet = ap (step_of c) is
+quiet_event c h (OfCaller d (ChangeMade (Noticed (Answered reply)))) event is quiet = ap (step_of c) is.1
+quiet_event c h (OfCaller d (ChangeMade (Noticed (Death a)))) event is quiet = ap (step_of c) is.1
+quiet_event c h (OfActor a (LetterTaken (Call packet))) event is quiet = ap (step_of c) is.1
+quiet_event c h (OfActor a (LetterTaken (Note note))) event is quiet = ap (step_of c) is.1
+quiet_event c h (OfActor a step) event is quiet = ap (step_of c) is
 
 -- ---- what the caller's own steps leave of it
 
-made_is : (c : ℕ) (deed : Deed) → cons_option (change_of c deed) [] ≡ filter_map change_made (cons_option (own_step c deed) [])
-made_is c (Changed d change) = go (d == c)
-  where
-    go : (b : Bool) → cons_option (cond b (Some change) None) [] ≡ filter_map change_made (cons_option (cond b (Some (ChangeMade change)) None) [])
-    go true = refl
-    go false = refl
-made_is c (AskedKill d a) = go (d == c)
-  where
-    go : (b : Bool) → [] ≡ filter_map change_made (cons_option (cond b (Some (KillAsked a)) None) [])
-    go true = refl
-    go false = refl
-made_is c (TookCall a packet) = refl
-made_is c (TookNote a note) = refl
-made_is c (Ran a item) = refl
-made_is c (TookKill a) = refl
-made_is c (ToldDeath a d) = refl
-made_is c (Retired a) = refl
-
-changes_are : (c : ℕ) (deeds : List Deed) → changes_by c deeds ≡ changes_made (filter_map (own_step c) deeds)
-changes_are c [] = refl
-changes_are c (deed ∷ deeds) =
-    filter_map-append (change_of c) (deed ∷ []) deeds
-    ∙ ap (λ (l : List Change). l ++ changes_by c deeds) (made_is c deed)
-    ∙ ap (λ (l : List Change). filter_map change_made (cons_option (own_step c deed) []) ++ l) (changes_are c deeds)
-    ∙ sym (filter_map-append change_made (cons_option (own_step c deed) []) (filter_map (own_step c) deeds))
-    ∙ ap (filter_map change_made) (sym (filter_map-append (own_step c) (deed ∷ []) deeds))
-
-owner_on : (casts : List ActorSpec) (c : ℕ) (before deeds : List Deed) → owner_by casts c (before ++ deeds) ≡ owner_after_steps (owner_by casts c before) (filter_map (own_step c) deeds)
+owner_on : (casts : List ActorSpec) (c : ℕ) (before deeds : List Deed)
+    → owner_by casts c (before ++ deeds) ≡ owner_after_steps (owner_by casts c before) (caller_steps c deeds)
 owner_on casts c before deeds =
-    ap (owner_after casts c) (filter_map-append (change_of c) before deeds)
-    ∙ after_all-append (owner_after casts c []) (changes_by c before) (changes_by c deeds)
-    ∙ ap (after_changes (owner_by casts c before)) (changes_are c deeds)
+    ap (left_by casts c) (filter_map-append (caller_step c) before deeds)
+    ∙ after_steps-append (opened_of c casts) (caller_steps c before) (caller_steps c deeds)
 
 -- ---- cuts of the deeds and their events
 
@@ -216,18 +158,21 @@ keeps_here casts before first [] (event ∷ events) fronts = absurd fronts
 keeps_here casts before first (deed ∷ deeds) [] fronts = absurd fronts
 keeps_here casts before first (deed ∷ deeds) (event ∷ events) fronts = fronts.0
 
-quiet_all : (c : ℕ) (h : History) (deeds : List Deed) (events : List Event) → AllZip (IsEventOf h) deeds events → AllByRecursion IsMeanwhileStep (filter_map (own_step c) deeds) → AllByRecursion (λ event. step_of c event ≡ None) events
+quiet_all : (c : ℕ) (h : History) (deeds : List Deed) (events : List Event) → AllZip (IsEventOf h) deeds events
+    → AllByRecursion IsMeanwhileStep (caller_steps c deeds) → AllByRecursion (λ event. step_of c event ≡ None) events
 quiet_all c h [] [] steps quiet = tt
 quiet_all c h [] (event ∷ events) steps quiet = absurd steps
 quiet_all c h (deed ∷ deeds) [] steps quiet = absurd steps
-quiet_all c h (deed ∷ deeds) (event ∷ events) steps quiet = go (own_step c deed) refl quiet (quiet_all c h deeds events steps.1)
+quiet_all c h (deed ∷ deeds) (event ∷ events) steps quiet = go (caller_step c deed) refl quiet (quiet_all c h deeds events steps.1)
   where
-    go : (o : Option CallerStep) → own_step c deed ≡ o → AllByRecursion IsMeanwhileStep (cons_option o (filter_map (own_step c) deeds))
-        → (AllByRecursion IsMeanwhileStep (filter_map (own_step c) deeds) → AllByRecursion (λ event. step_of c event ≡ None) events) → AllByRecursion (λ event. step_of c event ≡ None) (event ∷ events)
+    go : (o : Option CallerStep) → caller_step c deed ≡ o → AllByRecursion IsMeanwhileStep (cons_option o (caller_steps c deeds))
+        → (AllByRecursion IsMeanwhileStep (caller_steps c deeds) → AllByRecursion (λ event. step_of c event ≡ None) events)
+        → AllByRecursion (λ event. step_of c event ≡ None) (event ∷ events)
     go None is quiet rest = (quiet_event c h deed event steps.0 (subst IsQuiet (sym is) tt), rest quiet)
     go (Some step) is quiet rest = (quiet_event c h deed event steps.0 (subst IsQuiet (sym is) quiet.0), rest quiet.1)
 
-meanwhile : (c : ℕ) (h : History) (deeds : List Deed) (events : List Event) (steps : List CallerStep) → AllZip (IsEventOf h) deeds events → filter_map (own_step c) deeds ≡ steps → All IsMeanwhileStep steps → IsMeanwhile c events
+meanwhile : (c : ℕ) (h : History) (deeds : List Deed) (events : List Event) (steps : List CallerStep) → AllZip (IsEventOf h) deeds events
+    → caller_steps c deeds ≡ steps → All IsMeanwhileStep steps → IsMeanwhile c events
 meanwhile c h deeds events steps zip is quiet = All-from_recursion (λ event. step_of c event ≡ None) events
     (quiet_all c h deeds events zip (subst (AllByRecursion IsMeanwhileStep) (sym is) (recursion_from_All IsMeanwhileStep steps quiet)))
 
@@ -238,7 +183,7 @@ module _ (casts : List ActorSpec) (c : ℕ) (h : History) where
   pub record Stands (owner : OwnerView) (before : List Deed) (first : List Event) (steps : List CallerStep) (events : List Event) : Type 0 where
     pub deeds : List Deed
     pub owner_is : owner_by casts c before ≡ owner
-    pub own : filter_map (own_step c) deeds ≡ steps
+    pub own : caller_steps c deeds ≡ steps
     pub zip : AllZip (IsEventOf h) deeds events
     pub fronts : EachFront casts before first deeds events
 
@@ -261,14 +206,16 @@ module _ (casts : List ActorSpec) (c : ℕ) (h : History) where
     rest : List Event
     whole : events ≡ done ++ one ∷ rest
     quiet : IsMeanwhile c done
-    is : IsEventOf h (deed_of_caller c step) one
+    is : IsEventOf h (OfCaller c step) one
     next : Stands (owner_after_steps owner (skipped ++ step ∷ [])) deeds ((first ++ done) ++ one ∷ []) later rest
 
   spares : (owner : OwnerView) (before : List Deed) (first : List Event) (skipped later : List CallerStep) (events : List Event) → Stands owner before first (skipped ++ later) events → All IsMeanwhileStep skipped → Spares owner first skipped later events
   spares owner before first skipped later events stands quiet =
-      let by = cut_in (own_step c) stands.deeds skipped later stands.own in
+      let by = cut_in (caller_step c) stands.deeds skipped later stands.own in
       let cut = cut_at casts h before first by.first by.later events (subst (λ (l : List Deed). AllZip (IsEventOf h) l events) by.whole stands.zip) (subst (λ (l : List Deed). EachFront casts before first l events) by.whole stands.fronts) in
-      let owner_is : owner_by casts c (before ++ by.first) ≡ owner_after_steps owner skipped = owner_on casts c before by.first ∙ ap (λ (o : OwnerView). owner_after_steps o (filter_map (own_step c) by.first)) stands.owner_is ∙ ap (owner_after_steps owner) by.first_is in
+      let owner_is : owner_by casts c (before ++ by.first) ≡ owner_after_steps owner skipped =
+      owner_on casts c before by.first ∙ ap (λ (o : OwnerView). owner_after_steps o (caller_steps c by.first)) stands.owner_is
+          ∙ ap (owner_after_steps owner) by.first_is in
       record {
         deeds = before ++ by.first;
         done = cut.done;
@@ -289,21 +236,21 @@ module _ (casts : List ActorSpec) (c : ℕ) (h : History) where
   acts : (owner : OwnerView) (before : List Deed) (first : List Event) (skipped : List CallerStep) (step : CallerStep) (later : List CallerStep) (events : List Event) → Stands owner before first ((skipped ++ step ∷ []) ++ later) events → All IsMeanwhileStep skipped → Acts owner first skipped step later events
   acts owner before first skipped step later events stands quiet = go cut.rest refl
     where
-      by : IsCutBy (own_step c) stands.deeds skipped step later
-      by = cut_by (own_step c) stands.deeds skipped step later (stands.own ∙ append_assoc skipped (step ∷ []) later)
+      by : IsCutBy (caller_step c) stands.deeds skipped step later
+      by = cut_by (caller_step c) stands.deeds skipped step later (stands.own ∙ append_assoc skipped (step ∷ []) later)
 
       cut : IsCutAt casts h before first by.first (by.one ∷ by.later) events
       cut = cut_at casts h before first by.first (by.one ∷ by.later) events (subst (λ (l : List Deed). AllZip (IsEventOf h) l events) by.whole stands.zip) (subst (λ (l : List Deed). EachFront casts before first l events) by.whole stands.fronts)
 
-      steps_are : filter_map (own_step c) (by.first ++ by.one ∷ []) ≡ skipped ++ step ∷ []
-      steps_are = filter_map-append (own_step c) by.first (by.one ∷ [])
-          ∙ ap (λ (l : List CallerStep). l ++ cons_option (own_step c by.one) []) by.first_is
+      steps_are : caller_steps c (by.first ++ by.one ∷ []) ≡ skipped ++ step ∷ []
+      steps_are = filter_map-append (caller_step c) by.first (by.one ∷ [])
+          ∙ ap (λ (l : List CallerStep). l ++ cons_option (caller_step c by.one) []) by.first_is
           ∙ ap (λ (o : Option CallerStep). skipped ++ cons_option o []) by.one_is
 
       owner_is : owner_by casts c ((before ++ by.first) ++ by.one ∷ []) ≡ owner_after_steps owner (skipped ++ step ∷ [])
       owner_is = ap (owner_by casts c) (append_assoc before by.first (by.one ∷ []))
           ∙ owner_on casts c before (by.first ++ by.one ∷ [])
-          ∙ ap (λ (o : OwnerView). owner_after_steps o (filter_map (own_step c) (by.first ++ by.one ∷ []))) stands.owner_is
+          ∙ ap (λ (o : OwnerView). owner_after_steps o (caller_steps c (by.first ++ by.one ∷ []))) stands.owner_is
           ∙ ap (owner_after_steps owner) steps_are
 
       go : (rest : List Event) → cut.rest ≡ rest → Acts owner first skipped step later events
@@ -318,7 +265,7 @@ module _ (casts : List ActorSpec) (c : ℕ) (h : History) where
             rest = rest;
             whole = cut.whole ∙ ap (λ (l : List Event). cut.done ++ l) is;
             quiet = meanwhile c h by.first cut.done skipped cut.steps by.first_is quiet;
-            is = subst (λ (deed : Deed). IsEventOf h deed event) (own_is c by.one step by.one_is) zip.0;
+            is = subst (λ (deed : Deed). IsEventOf h deed event) (deed_of_caller c by.one step by.one_is) zip.0;
             next = record {
               deeds = by.later;
               owner_is = owner_is;
@@ -338,7 +285,7 @@ module _ (casts : List ActorSpec) (c : ℕ) (h : History) where
 
   -- a step is done
   acted : (step : Step) (plan : List Step) (owner : OwnerView) (before : List Deed) (first : List Event) (skipped : List CallerStep) (own : CallerStep) (later : List CallerStep) (events : List Event)
-      → ((done : List Event) (event : Event) → IsEventOf h (deed_of_caller c own) event → DoesStepIn casts c step done (event ∷ []))
+      → ((done : List Event) (event : Event) → IsEventOf h (OfCaller c own) event → DoesStepIn casts c step done (event ∷ []))
       → Stands owner before first ((skipped ++ own ∷ []) ++ later) events → All IsMeanwhileStep skipped → GoesOn plan (owner_after_steps owner (skipped ++ own ∷ [])) later → DoesPlanIn casts c (step ∷ plan) first events
   acted step plan owner before first skipped own later events does stands quiet more =
       let a = acts owner before first skipped own later events stands quiet in
@@ -383,6 +330,7 @@ module _ (casts : List ActorSpec) (c : ℕ) (h : History) where
 
 -- a caller whose deeds in the list are the steps by which its thread did a plan does the plan in the play
 pub plan_in_play : (casts : List ActorSpec) (c : ℕ) (h : History) (deeds : List Deed) (events : List Event) (steps : List CallerStep) (plan : List Step)
-    → AllZip (IsEventOf h) deeds events → EachFront casts [] [] deeds events → filter_map (own_step c) deeds ≡ steps → DoesPlan (owner_after casts c []) plan steps → DoesPlanIn casts c plan [] events
+    → AllZip (IsEventOf h) deeds events → EachFront casts [] [] deeds events → caller_steps c deeds ≡ steps → DoesPlan (opened_of c casts) plan steps
+    → DoesPlanIn casts c plan [] events
 plan_in_play casts c h deeds events steps plan zip fronts own does =
-    does_plan casts c h plan (owner_after casts c []) [] [] steps events (record { deeds = deeds; owner_is = refl; own = own; zip = zip; fronts = fronts }) does
+    does_plan casts c h plan (opened_of c casts) [] [] steps events (record { deeds = deeds; owner_is = refl; own = own; zip = zip; fronts = fronts }) does

@@ -9,35 +9,23 @@ use Rattle.act_executor.proofs.Lists.Kept.{kept_any, kept_found, kept_more, lost
 -- every step but the taking of a letter of a caller that isn't among these
 abbrev pub is_of_these : List ℕ → ActorStep → Bool
 is_of_these callers (LetterTaken letter) = contains (caller_of letter) callers
-is_of_these callers (CallRun item) = true
-is_of_these callers (KillTaken kill) = true
-is_of_these callers (DeathTold c) = true
-is_of_these callers Retirement = true
+is_of_these callers step = true
 
 module _ (callers : List ℕ) where
   abbrev keep : ActorStep → Bool
   keep = is_of_these callers
 
   pub lost_kill : (step : ActorStep) → keep step ≡ false → is_kill_step step ≡ false
-  lost_kill (LetterTaken letter) e = refl
-  lost_kill (CallRun item) e = refl
   lost_kill (KillTaken kill) e = cc
-  lost_kill (DeathTold c) e = refl
-  lost_kill Retirement e = refl
+  lost_kill step e = refl
 
   pub lost_retirement : (step : ActorStep) → keep step ≡ false → is_retirement step ≡ false
-  lost_retirement (LetterTaken letter) e = refl
-  lost_retirement (CallRun item) e = refl
-  lost_retirement (KillTaken kill) e = refl
-  lost_retirement (DeathTold c) e = refl
   lost_retirement Retirement e = cc
+  lost_retirement step e = refl
 
   pub lost_run : (step : ActorStep) → keep step ≡ false → call_run step ≡ None
-  lost_run (LetterTaken letter) e = refl
   lost_run (CallRun item) e = cc
-  lost_run (KillTaken kill) e = refl
-  lost_run (DeathTold c) e = refl
-  lost_run Retirement e = refl
+  lost_run step e = refl
 
   log_same : (steps : List ActorStep) → log_of_steps (filter keep steps) ≡ log_of_steps steps
   log_same steps = kept_found keep call_run lost_run steps
@@ -56,11 +44,8 @@ module _ (callers : List ℕ) where
 
   -- a call that runs is of one of these
   abbrev pub RunsFor : ActorStep → Type 0
-  RunsFor (LetterTaken letter) = Unit {0}
   RunsFor (CallRun item) = contains item.caller callers ≡ true
-  RunsFor (KillTaken kill) = Unit {0}
-  RunsFor (DeathTold c) = Unit {0}
-  RunsFor Retirement = Unit {0}
+  RunsFor step = Unit {0}
 
   module _ (a : ℕ) (others : List ℕ) (same_callers : (c : ℕ) → contains c others ≡ contains c callers) where
     -- a step that stays may be done after those that stay

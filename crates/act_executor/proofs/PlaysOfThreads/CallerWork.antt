@@ -1,5 +1,5 @@
 -- What a caller's thread did, without the notices of actors that don't name it: they change nothing of it.
-use Rattle.act_executor.proofs.Common.{◌≡◌, ℕ, ◌+◌, ◌-◌, Bool, true, false, List, [], ◌∷◌, ◌++◌, length, Some, None, inl, inr, refl, ap, sym, ◌∙◌, subst, ◌==◌}
+use Rattle.act_executor.proofs.Common.{◌≡◌, ℕ, ◌+◌, ◌-◌, Bool, true, false, List, [], ◌∷◌, length, Some, None, inl, inr, refl, ap, sym, ◌∙◌, subst, ◌==◌}
 use Rattle.act_executor.proofs.Common.{◌&&◌, not, filter, Option, option_map, slice_get, is_some, if◌then◌else◌, option_or, AllByRecursion, eqb-true, eqb_tells}
 use Rattle.act_executor.proofs.Common.{Notice, Answered, Death, Arg, Submission, contains, kept_at, submit_refusal, limit_refusal, All_at, All_more, Handle}
 use Rattle.act_executor.proofs.Common.{copies_in, with_copy, without_copy, copies-with_copy, copies-without_copy, copies-with_copy-other}
@@ -17,11 +17,6 @@ is_from_these actors (Some notice) = contains (notice_actor notice) actors
 -- whether a step collects no notice, or one of an actor among these
 abbrev pub is_by_these : List ℕ → CallerStep → Bool
 is_by_these actors step = is_from_these actors (notice_collected step)
-
--- a caller that may do all of some steps may do those of any prefix of them
-pub may_front : (owner : OwnerView) (before later : List CallerStep) → CallerMayDoAll owner (before ++ later) → CallerMayDoAll owner before
-may_front owner [] later may = tt
-may_front owner (step ∷ before) later may = (may.0, may_front (owner_after_steps owner (step ∷ [])) before later may.1)
 
 module _ (actors : List ℕ) where
   abbrev IsToThese : Submission → Type 0

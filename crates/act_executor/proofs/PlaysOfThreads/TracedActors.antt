@@ -3,12 +3,12 @@ use Rattle.act_executor.proofs.Common.{◌≡◌, ℕ, ◌≤◌, Bool, true, fa
 use Rattle.act_executor.proofs.Common.{filter_map, slice_get, AllZip, list_any, AllPairs-filter, Notice, Answered, Death, RunItem, has_terminated, ActorSpec}
 use Rattle.act_executor.proofs.Common.{contains, filter-slice_get, Asked, Letter, Endpoint, caller_of, ControlExecView, RepliesView, ReplyExecView, steps_in}
 use Rattle.act_executor.proofs.Common.{found_in, ExecPasses, EndView, Killed, Retired, Starved, end_id, end_log, caller_at, endpoint_callers, KillsOfDead}
-use Rattle.act_executor.proofs.Common.{KillsTaken, cast_at, ActorStep, LetterTaken, CallRun, KillTaken, DeathTold, Retirement, letter_taken, call_run}
+use Rattle.act_executor.proofs.Common.{KillsTaken, cast_at, ActorStep, LetterTaken, CallRun, KillTaken, DeathTold, letter_taken, call_run}
 use Rattle.act_executor.proofs.Common.{kill_taken, is_kill_step, is_retirement, log_of_steps, has_died_in, ActorMayDoAll, IsGivenAfter, IsActorTrace}
 use Rattle.act_executor.proofs.Common.{IsActorTraced, is_killed, is_starved, ServedView, IsServed, all_from_places}
 use Rattle.act_executor.proofs.PlaysOfThreads.AsPlay.{has_retired}
 use Rattle.act_executor.proofs.Lists.Elements.{IsIn, in_from_contains, contains_from_in, all_in, in_filter, contains_is}
-use Rattle.act_executor.proofs.PlaysOfThreads.FoundSteps.{found_is as found_alone}
+use Rattle.act_causes.proofs.Found.{found_is as found_alone}
 use Rattle.act_executor.proofs.Lists.Stamped.{IsTakenFrom, mapped_at, found_step, found_taken, zipped}
 use Rattle.act_executor.proofs.PlaysOfPlans.Letters.{letter_in_step, letter_from, letters_kept, letters_lost}
 use Rattle.act_executor.proofs.Lists.Kept.{keep_stamped, kept_steps, kept_in}
@@ -17,11 +17,11 @@ use Rattle.act_executor.proofs.PlaysOfThreads.ActorWork.{is_of_these, lost_run, 
 -- ---- how an actor ended
 
 -- an actor that was refused no memory has a trace
-trace_of : (a : ℕ) (lines : List RepliesView) (end : EndView) (passes : ExecPasses) → is_starved end ≡ false → IsActorTraced a lines end passes →
+trace_left : (a : ℕ) (lines : List RepliesView) (end : EndView) (passes : ExecPasses) → is_starved end ≡ false → IsActorTraced a lines end passes →
     (trace : List (ℕ × ActorStep)) × IsActorTrace a lines (end_log end) passes trace × (list_any is_retirement (steps_in trace) ≡ has_retired end)
-trace_of a lines (Killed dead) passes fed traced = (traced.0, traced.1, traced.2)
-trace_of a lines (Retired retired) passes fed traced = (traced.0, traced.1, traced.2)
-trace_of a lines (Starved dead) passes fed traced = cc
+trace_left a lines (Killed dead) passes fed traced = (traced.0, traced.1, traced.2)
+trace_left a lines (Retired retired) passes fed traced = (traced.0, traced.1, traced.2)
+trace_left a lines (Starved dead) passes fed traced = cc
 
 is_any : {X : Type 0} → List X → Bool
 is_any [] = false
@@ -30,11 +30,8 @@ is_any (x ∷ xs) = true
 any_kill : (steps : List ActorStep) → list_any is_kill_step steps ≡ is_any (filter_map kill_taken steps)
 unfolding is_any
 any_kill [] = refl
-any_kill (LetterTaken letter ∷ steps) = any_kill steps
-any_kill (CallRun item ∷ steps) = any_kill steps
 any_kill (KillTaken kill ∷ steps) = refl
-any_kill (DeathTold c ∷ steps) = any_kill steps
-any_kill (Retirement ∷ steps) = any_kill steps
+any_kill (step ∷ steps) = any_kill steps
 
 why_dead : (b : Bool) (log : List RunItem) (kills : ControlExecView) → KillsOfDead b log kills → (is_any kills.taken || b) ≡ true
 unfolding is_any
@@ -80,14 +77,11 @@ module _ (casts : List ActorSpec) (replies : List RepliesView) (s : ServedView) 
   log_is = sym (found_alone call_run t) ∙ is.runs
 
   runs_for : (step : ActorStep) → IsIn (steps_in t) step → RunsFor cast.callers step
-  runs_for (LetterTaken letter) i = tt
   runs_for (CallRun item) i =
       let ran = mapped_at call_run (steps_in t) i.place (CallRun item) item i.at refl in
       let logged = subst (λ (log : List RunItem). IsIn log item) log_is ran in
       sym (serving.same_callers item.caller) ∙ all_in (λ (x : RunItem). contains x.caller serving.callers ≡ true) (end_log s.end) item serving.log.listed logged
-  runs_for (KillTaken kill) i = tt
-  runs_for (DeathTold c) i = tt
-  runs_for Retirement i = tt
+  runs_for step i = tt
 
   same_callers : (c : ℕ) → contains c (endpoint_callers replies s.passes.notices.items) ≡ contains c cast.callers
   same_callers c = ap (contains c) serving.endpoints ∙ serving.same_callers c
@@ -151,5 +145,5 @@ module _ (casts : List ActorSpec) (replies : List RepliesView) (s : ServedView) 
 pub actor_works : (casts : List ActorSpec) (replies : List RepliesView) (s : ServedView) (cast : ActorSpec) → cast_at (end_id s.end) casts ≡ Some cast → IsServed replies cast s → is_starved s.end ≡ false → IsActorTraced (end_id s.end) replies s.end s.passes →
     (trace : List (ℕ × ActorStep)) × IsActorWork casts replies s trace
 actor_works casts replies s cast at serving fed traced =
-    let t = trace_of (end_id s.end) replies s.end s.passes fed traced in
+    let t = trace_left (end_id s.end) replies s.end s.passes fed traced in
     (filter (keep_stamped (is_of_these cast.callers)) t.0, actor_work casts replies s cast at serving fed t.0 t.1 t.2)

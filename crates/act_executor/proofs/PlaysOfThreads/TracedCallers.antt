@@ -8,8 +8,9 @@ use Rattle.act_executor.proofs.Common.{false, cond, [], ◌∷◌, Some, None, O
 use Rattle.act_executor.proofs.Lists.Elements.{IsIn, in_from_contains, contains_from_in, all_in, in_filter, contains_is}
 use Rattle.act_executor.proofs.Lists.Stamped.{IsTakenFrom, found_step, found_taken, zipped}
 use Rattle.act_executor.proofs.Lists.Kept.{keep_stamped, kept_steps}
-use Rattle.act_executor.proofs.PlaysOfThreads.CallerWork.{is_by_these, is_from_these, may_front, HoldsThese, opened_holds, IsStill, still}
-use Rattle.act_executor.proofs.PlaysOfThreads.FoundSteps.{found_is as found_alone}
+use Rattle.act_executor.proofs.PlaysOfThreads.Allowed.{may_front}
+use Rattle.act_executor.proofs.PlaysOfThreads.CallerWork.{is_by_these, is_from_these, HoldsThese, opened_holds, IsStill, still}
+use Rattle.act_causes.proofs.Found.{found_is as found_alone}
 use Rattle.act_executor.proofs.Lists.Kept.{kept_first}
 use Rattle.act_executor.proofs.PlaysOfPlans.KeptPlan.{plan_kept}
 
