@@ -18,13 +18,11 @@ use Rattle.act_plans.specs.Runs.{limits_naming, callers_of_casts, actors_of_cast
 
 abbrev pub is_killed : EndView → Bool
 is_killed (Killed dead) = true
-is_killed (Retired retired) = false
-is_killed (Starved dead) = false
+is_killed end = false
 
 abbrev pub is_starved : EndView → Bool
-is_starved (Killed dead) = false
-is_starved (Retired retired) = false
 is_starved (Starved dead) = true
+is_starved end = false
 
 abbrev pub owner_of : ℕ → List OwnerView → Option OwnerView
 owner_of c owners = find (λ owner. owner.id == c) owners

@@ -22,14 +22,8 @@ abbrev pub step_of : ℕ → Event → Option Step
 step_of c (Submit d a method args) = if d == c then Some (SubmitStep a method args) else None
 step_of c (Copy d a) = if d == c then Some (CopyStep a) else None
 step_of c (Release d a) = if d == c then Some (ReleaseStep a) else None
-step_of c (Send d k) = None
-step_of c (Deliver i) = None
-step_of c (Run a d) = None
-step_of c (Collect j) = None
 step_of c (AskKill d a) = if d == c then Some (KillStep a) else None
-step_of c (TakeKill a) = None
-step_of c (Tell a d) = None
-step_of c (Retire a) = None
+step_of c event = None
 
 -- none of the events is a step of the caller's
 abbrev pub IsMeanwhile : ℕ → List Event → Type 0

@@ -28,10 +28,9 @@ plan_view plan = (plan.0, plan.1.items)
 
 -- a fault that the threads and the memory of the machine give
 abbrev pub IsThreadFault : RunFault → Type 0
-IsThreadFault TooMany = ⊥
-IsThreadFault (BadPlan caller place) = ⊥
 IsThreadFault NoThread = Unit {0}
 IsThreadFault NoMemory = Unit {0}
+IsThreadFault fault = ⊥
 
 -- why a thread's refusal ends a run
 abbrev pub fault_of : {S X : Type 0} → Refusal S X → RunFault

@@ -54,14 +54,12 @@ first_is a c n (letter ∷ letters) e = go (note_in a c letter) refl (first_is a
 -- a killed actor that did not terminate took a kill of an asker
 kill_taken : (control : ControlExecView) (end : EndView) → is_killed end ≡ true → has_terminated (end_log end) ≡ false → KillsTaken control end → (kill : Asked) × (control.taken ≡ kill ∷ []) × Contains control.askers kill.asker
 kill_taken control (Killed dead) e on k = let at : IsTakenAt dead.log control = subst (λ (b : Bool). KillsOfDead b dead.log control) on k in (at.0, at.1, at.2)
-kill_taken control (Retired retired) e on k = cc
-kill_taken control (Starved dead) e on k = cc
+kill_taken control end e on k = cc
 
 -- an actor that terminated is killed
 end_killed : (control : ControlExecView) (end : EndView) → KillsTaken control end → has_terminated (end_log end) ≡ true → is_killed end ≡ true
 end_killed control (Killed dead) k e = refl
-end_killed control (Retired retired) k e = absurd (true≢false (sym e ∙ k.1))
-end_killed control (Starved dead) k e = absurd (true≢false (sym e ∙ k.1))
+end_killed control end k e = absurd (true≢false (sym e ∙ k.1))
 
 -- no more kills were asked than wanted
 no_more : (collected : List Notice) (a wanted asked : ℕ) → AreAsked collected a wanted asked → asked ≤ wanted
@@ -213,8 +211,6 @@ module _ {mails : List MailView} {controls : List ControlView} {replies : List R
       go false is = ap (map (λ (item : RunItem). item.future)) (strange_items a c s t is) ∙ sym (ap (map (λ (call : ℕ × Submission). call.0)) (strange_calls a c s t is))
 
   retired_end : (end : EndView) (passes : ExecPasses) → IsIn served (record { end = end; passes = passes }) → IfRetired end (RanAll casts owners)
-  retired_end (Killed dead) passes i = tt
-  retired_end (Starved dead) passes i = tt
   retired_end (Retired retired) passes i =
       let s : ServedView = record { end = Retired retired; passes = passes } in
       let t = thread_in j retired.id s i refl in
@@ -224,6 +220,7 @@ module _ {mails : List MailView} {controls : List ControlView} {replies : List R
         at = t.cast.at;
         state = t.serving.drained.state;
       }
+  retired_end end passes i = tt
 
   retired : All (λ end. IfRetired end (RanAll casts owners)) ends
   retired = all_by_places (λ (end : EndView). IfRetired end (RanAll casts owners)) ends (λ k end at.

@@ -38,10 +38,7 @@ holder actors p a args accepted = go (list_any (λ b. b == a) actors) refl accep
 
 known_step : (actors : List ℕ) (p : Progress) (s : Step) → AllByRecursion (IsKnownCall actors) p.submitted → is_refused actors p s ≡ false → AllByRecursion (IsKnownCall actors) (do_step p s).submitted
 known_step actors p (step.Submit a method args) all accepted = All_more (IsKnownCall actors) p.submitted (record { actor = a; method = method; args = args }) all (holder actors p a args accepted)
-known_step actors p (step.Copy a) all accepted = all
-known_step actors p (step.Release a) all accepted = all
-known_step actors p (step.Kill a) all accepted = all
-known_step actors p (step.Await k) all accepted = all
+known_step actors p s all accepted = all
 
 known_done : (actors : List ℕ) (p : Progress) (plan : List Step) → AllByRecursion (IsKnownCall actors) p.submitted → AllByRecursion (IsKnownCall actors) (done_by actors p plan).submitted
 known_done actors p [] all = all
@@ -61,11 +58,8 @@ none_waits p false steps e = e
 
 none_done : (p : Progress) (plan : List Step) → done_by [] p plan ≡ p
 none_done p [] = refl
-none_done p (step.Submit a method args ∷ steps) = none_done p steps
-none_done p (step.Copy a ∷ steps) = none_done p steps
-none_done p (step.Release a ∷ steps) = none_done p steps
-none_done p (step.Kill a ∷ steps) = none_done p steps
 none_done p (step.Await k ∷ steps) = none_waits p (is_refused [] p (step.Await k)) steps (none_done p steps)
+none_done p (other ∷ steps) = none_done p steps
 
 -- a caller that no actor knows submits nothing
 pub planned_none : (plan : List Step) → planned [] plan ≡ []

@@ -37,12 +37,12 @@ module _ (c a : ℕ) where
   collected_part [] = refl
   collected_part (OfCaller d (ChangeMade (Noticed (Answered reply))) ∷ deeds) =
       one_heard d (Answered reply) (filter (is_between c a) (filter_map post_of deeds)) (caller_steps c deeds) (collected_part deeds) (d == c) refl
-          (reply.actor == a) refl
+      (reply.actor == a) refl
   collected_part (OfCaller d (ChangeMade (Noticed (Death b))) ∷ deeds) =
       one_heard d (Death b) (filter (is_between c a) (filter_map post_of deeds)) (caller_steps c deeds) (collected_part deeds) (d == c) refl (b == a) refl
   collected_part (OfCaller d step ∷ deeds) =
       collected_part deeds ∙ ap (λ (l : List Notice). map (post_from c) (items_from notice_actor a l))
-          (sym (gives_none notice_collected (d == c) step (caller_steps c deeds) refl))
+      (sym (gives_none notice_collected (d == c) step (caller_steps c deeds) refl))
   collected_part (OfActor b step ∷ deeds) = collected_part deeds
 
 -- ---- of one actor alone
@@ -83,9 +83,8 @@ as_posts opening a c log (Answered reply ∷ notices) (place ∷ places) e all =
     ∙ ap (λ (l : List Post). ReplyPost c a place ∷ l) (as_posts opening a c log notices places tail all.1)
 
 end_posts : (a c : ℕ) (end : EndView) → IsPrefix (map (post_from c) (deaths a end)) (DeathPost c a ∷ [])
-end_posts a c (Killed dead) = whole_front (DeathPost c a ∷ [])
 end_posts a c (RetiredEnd retired) = (DeathPost c a ∷ [], refl)
-end_posts a c (Starved dead) = whole_front (DeathPost c a ∷ [])
+end_posts a c end = whole_front (DeathPost c a ∷ [])
 
 -- a prefix behind the same list
 pub front_after : {A : Type 0} (xs ys zs : List A) → IsPrefix ys zs → IsPrefix (xs ++ ys) (xs ++ zs)

@@ -27,14 +27,12 @@ module _ (actors : List ℕ) where
 
   -- the steps before a plan's step are some of those with it
   before_may : (owner : OwnerView) (step : Step) (before steps later : List CallerStep) → DoesStep owner step before steps → CallerMayDoAll owner (steps ++ later) → CallerMayDoAll owner before
-  before_may owner (Submit a method args) before steps later does may = may_front owner before _ (subst (CallerMayDoAll owner) does (may_front owner steps later may))
-  before_may owner (Copy a) before steps later does may = may_front owner before _ (subst (CallerMayDoAll owner) does (may_front owner steps later may))
-  before_may owner (Release a) before steps later does may = may_front owner before _ (subst (CallerMayDoAll owner) does (may_front owner steps later may))
   before_may owner (Kill a) before steps later does may = elim does [
     | inl unasked ↦ subst (CallerMayDoAll owner) unasked.0 (may_front owner steps later may)
     | inr asked ↦ may_front owner before _ (subst (CallerMayDoAll owner) asked (may_front owner steps later may))
   ]
   before_may owner (Await k) before steps later does may = subst (CallerMayDoAll owner) does.0 (may_front owner steps later may)
+  before_may owner step before steps later does may = may_front owner before _ (subst (CallerMayDoAll owner) does (may_front owner steps later may))
 
   pub plan_kept : (plan : List Step) (owner : OwnerView) (steps : List CallerStep) → HoldsThese actors owner → CallerMayDoAll owner steps → DoesPlan owner plan steps → DoesPlan owner plan (filter keep steps)
   plan_kept [] owner steps holds may does = All-filter keep IsMeanwhile steps does

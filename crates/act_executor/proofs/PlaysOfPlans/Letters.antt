@@ -108,10 +108,10 @@ module _ (c a : ℕ) where
   arrived_part (OfCaller d step ∷ deeds) = arrived_part deeds
   arrived_part (OfActor b (LetterTaken (Call packet)) ∷ deeds) =
       one_taken b (Call packet) (filter (is_sent_between c a) (filter_map letter_of deeds)) (actor_steps a deeds) (arrived_part deeds)
-          (packet.caller == c) refl (b == a) refl
+      (packet.caller == c) refl (b == a) refl
   arrived_part (OfActor b (LetterTaken (Note note)) ∷ deeds) =
       one_taken b (Note note) (filter (is_sent_between c a) (filter_map letter_of deeds)) (actor_steps a deeds) (arrived_part deeds) (note.caller == c) refl
-          (b == a) refl
+      (b == a) refl
   arrived_part (OfActor b step ∷ deeds) = arrived_part deeds ∙ sym (gives_none (letter_in_step c a) (b == a) step (actor_steps a deeds) refl)
 
 -- ---- the steps of an actor's thread

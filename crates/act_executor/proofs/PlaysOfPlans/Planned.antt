@@ -104,12 +104,11 @@ quiet_event c h (OfCaller d (ChangeMade (Released a))) event is quiet = ap (step
 quiet_event c h (OfCaller d (ChangeMade (Submitted a method args))) event is quiet =
     ap (step_of c) is ∙ not_quiet (d == c) (ChangeMade (Submitted a method args)) (SubmitStep a method args) (λ no. no) quiet
 quiet_event c h (OfCaller d (KillAsked a)) event is quiet = ap (step_of c) is ∙ not_quiet (d == c) (KillAsked a) (KillStep a) (λ no. no) quiet
-quiet_event c h (OfCaller d (ChangeMade (Sent k))) event is quiet = ap (step_of c) is
 quiet_event c h (OfCaller d (ChangeMade (Noticed (Answered reply)))) event is quiet = ap (step_of c) is.1
 quiet_event c h (OfCaller d (ChangeMade (Noticed (Death a)))) event is quiet = ap (step_of c) is.1
 quiet_event c h (OfActor a (LetterTaken (Call packet))) event is quiet = ap (step_of c) is.1
 quiet_event c h (OfActor a (LetterTaken (Note note))) event is quiet = ap (step_of c) is.1
-quiet_event c h (OfActor a step) event is quiet = ap (step_of c) is
+quiet_event c h deed event is quiet = ap (step_of c) is
 
 -- ---- what the caller's own steps leave of it
 
@@ -215,7 +214,7 @@ module _ (casts : List ActorSpec) (c : ℕ) (h : History) where
       let cut = cut_at casts h before first by.first by.later events (subst (λ (l : List Deed). AllZip (IsEventOf h) l events) by.whole stands.zip) (subst (λ (l : List Deed). EachFront casts before first l events) by.whole stands.fronts) in
       let owner_is : owner_by casts c (before ++ by.first) ≡ owner_after_steps owner skipped =
       owner_on casts c before by.first ∙ ap (λ (o : OwnerView). owner_after_steps o (caller_steps c by.first)) stands.owner_is
-          ∙ ap (owner_after_steps owner) by.first_is in
+      ∙ ap (owner_after_steps owner) by.first_is in
       record {
         deeds = before ++ by.first;
         done = cut.done;

@@ -66,7 +66,7 @@ module _ (casts : List ActorSpec) (callers : CallerThreads) (actors : ActorThrea
       let may : CallerMayDoAll o (steps_in posted.before ++ steps_in shorter.0) = subst (CallerMayDoAll o) cut (may_front o (did c) (rest c) (may_all c)) in
       let gone : copies_in a (left_by casts c (did c)).handles ≡ Some 0 =
       ap (λ (steps : List CallerStep). copies_in a (left_by casts c steps).handles) cut
-          ∙ (gone_stays o (steps_in posted.before) (steps_in shorter.0) a may posted.gone).0 in
+      ∙ (gone_stays o (steps_in posted.before) (steps_in shorter.0) a may posted.gone).0 in
       let same : did c ≡ caller_steps c (steps_in before) = found_is (caller_step c) before in
       record {
         to = posted.to;

@@ -50,9 +50,7 @@ module _ (callers : List ℕ) where
   module _ (a : ℕ) (others : List ℕ) (same_callers : (c : ℕ) → contains c others ≡ contains c callers) where
     -- a step that stays may be done after those that stay
     may_still : (before : List ActorStep) (step : ActorStep) → RunsFor step → ActorMayDo a others before step → ActorMayDo a callers (filter keep before) step
-    may_still before (LetterTaken letter) runs may = ended_same before ∙ may
     may_still before (CallRun item) runs may = (ended_same before ∙ may.0, still_in before (LetterTaken (Call (packet_of_item a item))) runs may.1, may.2 ∙ ap (λ (log : List RunItem). length (items_of item.caller log)) (sym (log_same before)))
-    may_still before (KillTaken kill) runs may = ended_same before ∙ may
     may_still before (DeathTold c) runs may = (died_same before ∙ may.0, sym (same_callers c) ∙ may.1)
     may_still before Retirement runs may = (
       ended_same before ∙ may.0,
@@ -61,6 +59,7 @@ module _ (callers : List ℕ) where
           subst (λ (log : List RunItem). Contains (filter keep before) (LetterTaken (Note (note_after_calls c a (length (items_of c log)))))) (sym (log_same before))
           (still_in before (LetterTaken (Note (note_after_calls c a (length (items_of c (log_of_steps before)))))) named noted),
     )
+    may_still before step runs may = ended_same before ∙ may
 
     pub may_all : (before steps : List ActorStep) → AllByRecursion RunsFor steps → ActorMayDoAll a others before steps → ActorMayDoAll a callers (filter keep before) (filter keep steps)
     may_all before [] runs may = tt

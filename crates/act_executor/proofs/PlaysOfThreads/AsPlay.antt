@@ -11,9 +11,8 @@ use Rattle.act_executor.proofs.EndsOfRuns.Found.{one_of}
 
 -- whether an actor retired
 abbrev pub has_retired : EndView → Bool
-has_retired (Killed dead) = false
 has_retired (Retired retired) = true
-has_retired (Starved dead) = false
+has_retired end = false
 
 abbrev pub is_retired_end : Option EndView → Bool
 is_retired_end None = false

@@ -54,7 +54,7 @@ module _ (casts : List ActorSpec) (callers : CallerThreads) (actors : ActorThrea
         at = given.at;
         answered = ap (λ (steps : List ActorStep). answer_at given.cast.opening (log_of_steps steps) reply.place) same
             ∙ sym (answer_at-front given.cast.opening (log_of_steps (steps_in front)) (log_of_steps (steps_in trace)) reply.place given.item
-                (log_front m trace front (seen.actor a)) ran)
+            (log_front m trace front (seen.actor a)) ran)
             ∙ given.answered;
       }
 
@@ -75,7 +75,7 @@ module _ (casts : List ActorSpec) (callers : CallerThreads) (actors : ActorThrea
       ap steps_in whole ∙ map-append (λ (x : ℕ × CallerStep). x.1) front ((m, step) ∷ later) in
       let may =
       may_rest (opened_of c casts) (steps_in front) (step ∷ steps_in later)
-          (subst (CallerMayDoAll (opened_of c casts)) steps (caller_may casts callers c traced.callers_may)) in
+      (subst (CallerMayDoAll (opened_of c casts)) steps (caller_may casts callers c traced.callers_may)) in
       record {
         named = caller_named casts callers c (m, step) traced.callers_named here;
         may = subst (λ (l : List CallerStep). CallerMayDo (left_by casts c l) step) (found_is (caller_step c) before) may.0;

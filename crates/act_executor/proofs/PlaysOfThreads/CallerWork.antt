@@ -121,15 +121,12 @@ module _ (actors : List ℕ) where
       }
 
   one_more : (owner : OwnerView) (change : Change) (steps : List CallerStep) → HoldsThese owner → MayChange owner change → IsStill (after_change owner change) steps → IsStill owner (ChangeMade change ∷ steps)
-  one_more owner (Copied a) steps holds may rest = more owner (Copied a) steps may refl rest
-  one_more owner (Released a) steps holds may rest = more owner (Released a) steps may refl rest
-  one_more owner (Submitted a method args) steps holds may rest = more owner (Submitted a method args) steps may refl rest
-  one_more owner (Sent k) steps holds may rest = more owner (Sent k) steps may refl rest
   one_more owner (Noticed notice) steps holds may rest = go (contains (notice_actor notice) actors) refl
     where
       go : (b : Bool) → contains (notice_actor notice) actors ≡ b → IsStill owner (ChangeMade (Noticed notice) ∷ steps)
       go true is = more owner (Noticed notice) steps may is rest
       go false is = less owner (Noticed notice) steps is (stranger_ignored owner notice holds is) rest
+  one_more owner change steps holds may rest = more owner change steps may refl rest
 
   -- a caller of these actors alone may do its steps without the notices of others, and ends as with them
   pub still : (owner : OwnerView) (steps : List CallerStep) → HoldsThese owner → CallerMayDoAll owner steps → IsStill owner steps

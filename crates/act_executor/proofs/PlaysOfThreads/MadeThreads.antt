@@ -30,10 +30,10 @@ module _ {A S : Type 0} (number : A → ℕ) (Work : A → List (ℕ × S) → T
       go true is later e =
           let same : y ≡ x = cc in
           subst (λ (b : Bool). Work x (trace_in (cond b (Some (record { number = number y; trace = all.0.0 }))
-              (find (λ (thread : Thread S). thread.number == t) (made_of xs all.1))))) (sym is) (subst (λ (z : A). Work z all.0.0) same all.0.1)
+          (find (λ (thread : Thread S). thread.number == t) (made_of xs all.1))))) (sym is) (subst (λ (z : A). Work z all.0.0) same all.0.1)
       go false is later e =
           subst (λ (b : Bool). Work x (trace_in (cond b (Some (record { number = number y; trace = all.0.0 }))
-              (find (λ (thread : Thread S). thread.number == t) (made_of xs all.1))))) (sym is) (later e)
+          (find (λ (thread : Thread S). thread.number == t) (made_of xs all.1))))) (sym is) (later e)
 
   -- nothing stands under a number that none has
   pub work_none : (t : ℕ) (xs : List A) (all : AllByRecursion HasWork xs) → find (λ y. number y == t) xs ≡ None → trace_of t (made_of xs all) ≡ []
@@ -45,7 +45,7 @@ module _ {A S : Type 0} (number : A → ℕ) (Work : A → List (ℕ × S) → T
       go true is later e = cc
       go false is later e =
           subst (λ (b : Bool). trace_in (cond b (Some (record { number = number y; trace = all.0.0 }))
-              (find (λ (thread : Thread S). thread.number == t) (made_of xs all.1))) ≡ []) (sym is) (later e)
+          (find (λ (thread : Thread S). thread.number == t) (made_of xs all.1))) ≡ []) (sym is) (later e)
 
   each_made : (P : Thread S → Type 0) → ((x : A) (trace : List (ℕ × S)) → Work x trace → P (record { number = number x; trace = trace })) → (xs : List A)
       (all : AllByRecursion HasWork xs) → AllByRecursion P (made_of xs all)

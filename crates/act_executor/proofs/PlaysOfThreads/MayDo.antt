@@ -45,7 +45,7 @@ pub record ActorMay (casts : List ActorSpec) (a : ℕ) (trace : List (ℕ × Act
 
 pub actor_may : (casts : List ActorSpec) (actors : ActorThreads) (a : ℕ) (x : ℕ × ActorStep)
     → All (λ thread. (cast : ActorSpec) × (cast_at thread.number casts ≡ Some cast) × ActorMayDoAll thread.number cast.callers []
-        (steps_in thread.trace)) actors
+    (steps_in thread.trace)) actors
     → Contains (trace_of a actors) x → ActorMay casts a (trace_of a actors)
 actor_may casts actors a x may =
     of_thread (λ n trace. Contains trace x → ActorMay casts n trace) a (contains_none x (ActorMay casts a [])) actors

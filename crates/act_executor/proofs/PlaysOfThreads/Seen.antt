@@ -53,7 +53,7 @@ module _ {callers : CallerThreads} {actors : ActorThreads} {merged : List (ℕ �
     caller_next c step e =
         sym (merge.of_callers c) ∙ ap (found_in (caller_step c)) e ∙ found_append (caller_step c) before ((m, OfCaller c step) ∷ later)
         ∙ ap (λ (b : Bool). found_in (caller_step c) before ++ cons_option (option_map (λ (s : CallerStep). (m, s)) (cond b (Some step) None))
-            (found_in (caller_step c) later))
+        (found_in (caller_step c) later))
         (eq-eqb c c refl)
 
     pub actor_next : (a : ℕ) (step : ActorStep) → merged ≡ before ++ (m, OfActor a step) ∷ later
@@ -61,7 +61,7 @@ module _ {callers : CallerThreads} {actors : ActorThreads} {merged : List (ℕ �
     actor_next a step e =
         sym (merge.of_actors a) ∙ ap (found_in (actor_step a)) e ∙ found_append (actor_step a) before ((m, OfActor a step) ∷ later)
         ∙ ap (λ (b : Bool). found_in (actor_step a) before ++ cons_option (option_map (λ (s : ActorStep). (m, s)) (cond b (Some step) None))
-            (found_in (actor_step a) later))
+        (found_in (actor_step a) later))
         (eq-eqb a a refl)
 
 -- before a deed with stamp m stands of each thread a front, with all its earlier steps

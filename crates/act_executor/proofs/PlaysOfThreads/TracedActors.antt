@@ -19,9 +19,8 @@ use Rattle.act_executor.proofs.PlaysOfThreads.ActorWork.{is_of_these, lost_run, 
 -- an actor that was refused no memory has a trace
 trace_left : (a : ℕ) (lines : List RepliesView) (end : EndView) (passes : ExecPasses) → is_starved end ≡ false → IsActorTraced a lines end passes →
     (trace : List (ℕ × ActorStep)) × IsActorTrace a lines (end_log end) passes trace × (list_any is_retirement (steps_in trace) ≡ has_retired end)
-trace_left a lines (Killed dead) passes fed traced = (traced.0, traced.1, traced.2)
-trace_left a lines (Retired retired) passes fed traced = (traced.0, traced.1, traced.2)
 trace_left a lines (Starved dead) passes fed traced = cc
+trace_left a lines end passes fed traced = (traced.0, traced.1, traced.2)
 
 is_any : {X : Type 0} → List X → Bool
 is_any [] = false
