@@ -9,17 +9,14 @@ use Rattle.act_orders.specs.declared.told.Outcome.TheVariants.{Answered}
 
 -- the method of a call that ends so
 abbrev pub method_of : Outcome → Method
-method_of Answered = Get
 method_of Failed = Put
-method_of Died = Get
-method_of Open = Get
+method_of outcome = Get
 
 -- whether its answer is taken
 abbrev pub IsTaken : Outcome → Type 0
-IsTaken Answered = Unit {0}
-IsTaken Failed = Unit {0}
 IsTaken Died = ⊥
 IsTaken Open = ⊥
+IsTaken outcome = Unit {0}
 
 -- what is kept of an answer that is told so
 abbrev pub Suits : Outcome → Option Answer → Type 0
@@ -98,12 +95,7 @@ told_went Failed state behaviour values is tells =
     let reply : call_reply state Put values ≡ Err BadArgs =
     ap (λ (s : KindState). call_reply s Put values) is ∙ ap (told_reply (OwnAt (after_ask ask behaviour))) (tells [] ask) in
     rw reply (record { ours = record { behaviour = behaviour; is = is; tells = tells }; answer = λ taken. (BadArgs, refl, λ e. absurd (cc)) })
-told_went Died state behaviour values is tells =
-    let ask : Ask = record { method = Get; args = values } in
-    let reply : call_reply state Get values ≡ Ok (OwnAt (after_ask ask behaviour), Nothing) =
-    ap (λ (s : KindState). call_reply s Get values) is ∙ ap (told_reply (OwnAt (after_ask ask behaviour))) (tells [] ask) in
-    rw reply (record { ours = asked_ours ask behaviour tells; answer = λ taken. absurd taken })
-told_went Open state behaviour values is tells =
+told_went outcome state behaviour values is tells =
     let ask : Ask = record { method = Get; args = values } in
     let reply : call_reply state Get values ≡ Ok (OwnAt (after_ask ask behaviour), Nothing) =
     ap (λ (s : KindState). call_reply s Get values) is ∙ ap (told_reply (OwnAt (after_ask ask behaviour))) (tells [] ask) in
@@ -113,8 +105,7 @@ told_went Open state behaviour values is tells =
 not_asked : (outcome : Outcome) (state : KindState) (k : ℕ) → IsOurs state → (outcome ≡ Answered → ⊥) → Went outcome (state, Err (Dependency k))
 not_asked Answered state k ours differs = absurd (differs refl)
 not_asked Failed state k ours differs = record { ours = ours; answer = λ taken. (Dependency k, refl, λ e. absurd (cc)) }
-not_asked Died state k ours differs = record { ours = ours; answer = λ taken. absurd taken }
-not_asked Open state k ours differs = record { ours = ours; answer = λ taken. absurd taken }
+not_asked outcome state k ours differs = record { ours = ours; answer = λ taken. absurd taken }
 
 item_went : (told : Told) (n : ℕ) (state : KindState) (item : RunItem) → IsOurs state → IsItem told n item →
     Went (call_of told n).outcome (after_item state item)
@@ -144,9 +135,7 @@ answer_fits told state (item ∷ items) (m ∷ ns) (suc place) n answer ours are
 
 not_end : (outcome : Outcome) (item : RunItem) → item.method ≡ method_of outcome → ends_actor (Some item) ≡ false
 not_end Answered item e = rw e refl
-not_end Failed item e = rw e refl
-not_end Died item e = rw e refl
-not_end Open item e = rw e refl
+not_end outcome item e = rw e refl
 
 -- where a run list is of calls that are told, its last item doesn't end the actor
 pub none_terminated : (told : Told) (items : List RunItem) (ns : List ℕ) → AreItems told items ns → has_terminated items ≡ false

@@ -218,10 +218,8 @@ good_more told before x fits turn good next = record {
   where
     calls : (x : Happening) (c : ℕ) → IsNext told before x → IsPrefix (subs_of told before c ++ subs_of told (x ∷ []) c) (calls_by told c)
     calls (Submitted n) c next = next_call told before n c fits good next
-    calls (Ran n) c next = rw (append-nil (subs_of told before c)) (good.calls c)
-    calls (Answered n) c next = rw (append-nil (subs_of told before c)) (good.calls c)
+    calls x c next = rw (append-nil (subs_of told before c)) (good.calls c)
 
     runs : (x : Happening) (a : ℕ) → IsNext told before x → IsPrefix (rans_of told before a ++ rans_of told (x ∷ []) a) (runs_by told a)
-    runs (Submitted n) a next = rw (append-nil (rans_of told before a)) (good.runs a)
     runs (Ran n) a next = next_run told before n a fits turn good next
-    runs (Answered n) a next = rw (append-nil (rans_of told before a)) (good.runs a)
+    runs x a next = rw (append-nil (rans_of told before a)) (good.runs a)

@@ -32,10 +32,8 @@ pub killed_or : (killed : List ℕ) (a b : ℕ) → contains b (killed ++ a ∷ 
 killed_or killed a b is = elim (has_pushed killed a b (has_contains (killed ++ a ∷ []) b is)) [ inl h ↦ inl (contains_has killed b h) | inr e ↦ inr e ]
 
 died_or_not : (o : Outcome) → (o ≡ out.Died) ⊎ (o ≢ out.Died)
-died_or_not out.Answered = inr (λ e. cc)
-died_or_not out.Failed = inr (λ e. cc)
 died_or_not out.Died = inl refl
-died_or_not out.Open = inr (λ e. cc)
+died_or_not o = inr (λ e. cc)
 
 module _ (told : Told) (fits : Premises told) (turn : RunsInTurn told) (before : List Happening) (n : ℕ) (good : Good told before)
     (next : IsNext told before (Answered n)) (role : Has (actor_of told (call_of told n).actor).callers (call_of told n).caller)

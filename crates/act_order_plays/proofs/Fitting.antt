@@ -10,7 +10,7 @@ use Rattle.act_order_plays.proofs.Common.{submission_refusal, refusal_of, after_
 use Rattle.act_order_plays.proofs.Common.{after_all_keeps, needs-none, filter-slice_get, map-slice_get, IsSound, answers_are, consistent, Outcome}
 use Rattle.act_order_plays.proofs.Common.{Failed, Died, Open, Told, call_of, IsWhole, kept_for, IsKeptFor, LeavesTold, Fits, args_of, future_of, few_more}
 use Rattle.act_types.specs.declared.call.Value.TheVariants.{Unit as Nothing}
-use Rattle.act_rules.specs.declared.event.Event.TheVariants.{Submit, Copy, Release, Send, Deliver, Run as RunNext, Collect, AskKill, TakeKill, Tell, Retire}
+use Rattle.act_rules.specs.declared.event.Event.TheVariants.{Submit, Run as RunNext}
 use Rattle.act_rules.specs.declared.outcome.SubmitRefusal.TheVariants.{NoActor as NoSuchActor, NoHandle as NoCopy, TooManyArgs, BadFuture, TooManyCalls}
 use Rattle.act_rules.specs.declared.outcome.WorldRefusal.TheVariants.{Submit as SubmitRefused, NoCaller}
 use Rattle.act_orders.specs.declared.told.Outcome.TheVariants.{Answered}
@@ -54,20 +54,12 @@ limited_step h (Submit c a method args) s accepted =
       args = All_more HasFew h.submitted (c, call) s.args fits.0;
       calls = λ d. few_more h c d call fits.1 (s.calls d);
     }
-limited_step h (Copy c a) s accepted = record { args = s.args; calls = s.calls }
-limited_step h (Release c a) s accepted = record { args = s.args; calls = s.calls }
-limited_step h (Send c k) s accepted = record { args = s.args; calls = s.calls }
-limited_step h (Deliver i) s accepted = record { args = s.args; calls = s.calls }
 limited_step h (RunNext a c) s accepted = go (next_item a c h)
   where
     go : (o : Option RunItem) → Limited (after_run a c h o)
     go None = s
     go (Some item) = record { args = s.args; calls = s.calls }
-limited_step h (Collect j) s accepted = record { args = s.args; calls = s.calls }
-limited_step h (AskKill c a) s accepted = record { args = s.args; calls = s.calls }
-limited_step h (TakeKill a) s accepted = record { args = s.args; calls = s.calls }
-limited_step h (Tell a c) s accepted = record { args = s.args; calls = s.calls }
-limited_step h (Retire a) s accepted = record { args = s.args; calls = s.calls }
+limited_step h other s accepted = record { args = s.args; calls = s.calls }
 
 limited : (casts : List ActorSpec) (events : List Event) → Limited (after_all (opening casts) events)
 limited casts events = after_all_keeps Limited limited_step (opening casts) events (record { args = tt; calls = λ c. omega arith })

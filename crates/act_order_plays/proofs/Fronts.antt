@@ -2,19 +2,17 @@
 use Rattle.act_order_plays.proofs.Common.{◌≡◌, ℕ, zero, suc, ◌<◌, ◌==◌, inl, inr, Bool, true, false, cond, List, [], ◌∷◌, length, filter, take, Option, Some}
 use Rattle.act_order_plays.proofs.Common.{None, slice_get, refl, sym, ap, subst, ◌∙◌, arith, filter_map, option_map, Contains, eqb-true, eq-eqb, slice_get-map}
 use Rattle.act_order_plays.proofs.Common.{IsPrefix, element, slice_get_front, slice_get-filter, IsPrefix-filter, filter-slice_get, map-slice_get, Happening}
-use Rattle.act_order_plays.proofs.Common.{Submitted, Ran, Answered, Run, Told, call_of, calls_run, SameCaller, RunsInTurn, calls_by, future_of, runs_by}
+use Rattle.act_order_plays.proofs.Common.{Submitted, Ran, Run, Told, call_of, calls_run, SameCaller, RunsInTurn, calls_by, future_of, runs_by}
 use Rattle.act_order_plays.proofs.Common.{get_taken}
 use Rattle.act_order_plays.proofs.Lists.{Has, has_of, contains_of, has_filter, filter_has, has_filter_map, filter_map_has, Differ, below, below_at, below_has, below_differ, cases_le}
 
 abbrev pub submitted_in : Happening → Option ℕ
 submitted_in (Submitted n) = Some n
-submitted_in (Ran n) = None
-submitted_in (Answered n) = None
+submitted_in happening = None
 
 abbrev pub ran_in : Happening → Option ℕ
-ran_in (Submitted n) = None
 ran_in (Ran n) = Some n
-ran_in (Answered n) = None
+ran_in happening = None
 
 -- the calls that were submitted, in the order of the happenings
 abbrev pub submits : List Happening → List ℕ
@@ -44,13 +42,11 @@ rans_of told before a = filter (is_to told a) (rans before)
 
 submitted_is : (x : Happening) (n : ℕ) → submitted_in x ≡ Some n → x ≡ Submitted n
 submitted_is (Submitted m) n e = let same : m ≡ n = cc in ap (λ (k : ℕ). Submitted k) same
-submitted_is (Ran m) n e = absurd (cc)
-submitted_is (Answered m) n e = absurd (cc)
+submitted_is x n e = absurd (cc)
 
 ran_is : (x : Happening) (n : ℕ) → ran_in x ≡ Some n → x ≡ Ran n
-ran_is (Submitted m) n e = absurd (cc)
 ran_is (Ran m) n e = let same : m ≡ n = cc in ap (λ (k : ℕ). Ran k) same
-ran_is (Answered m) n e = absurd (cc)
+ran_is x n e = absurd (cc)
 
 pub submits_has : (before : List Happening) (n : ℕ) → Has before (Submitted n) → Has (submits before) n
 submits_has before n has = has_filter_map submitted_in before (Submitted n) n has refl

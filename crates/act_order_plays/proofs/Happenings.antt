@@ -49,22 +49,16 @@ states h (event ∷ events) = (after h event, h) ∷ ((after h event, after h ev
 -- ---- all that happens
 
 abbrev pub is_told : Outcome → Bool
-is_told out.Answered = true
-is_told out.Failed = true
-is_told out.Died = true
 is_told out.Open = false
+is_told outcome = true
 
 told_is : (outcome : Outcome) → is_told outcome ≡ true → outcome ≢ out.Open
-told_is out.Answered is = λ e. cc
-told_is out.Failed is = λ e. cc
-told_is out.Died is = λ e. cc
 told_is out.Open is = absurd (cc)
+told_is outcome is = λ e. cc
 
 is_told_of : (outcome : Outcome) → outcome ≢ out.Open → is_told outcome ≡ true
-is_told_of out.Answered differs = refl
-is_told_of out.Failed differs = refl
-is_told_of out.Died differs = refl
 is_told_of out.Open differs = absurd (differs refl)
+is_told_of outcome differs = refl
 
 abbrev any_call : ℕ → Bool
 any_call n = true
@@ -176,9 +170,8 @@ acts_last told h g k (Ran n) way has = run_lasts told h g n way has
 acts_last told h g k (Answered n) way has = has
 
 answers_last : (told : Told) (h g k : History) (x : Happening) → Within h g → has_in told (k, h) x ≡ true → has_in told (k, g) x ≡ true
-answers_last told h g k (Submitted n) way has = has
-answers_last told h g k (Ran n) way has = has
 answers_last told h g k (Answered n) way has = answer_lasts told h g n way has
+answers_last told h g k x way has = has
 
 pub all_lasts : (told : Told) (h : History) (events : List Event) → IsSound h → Lasts (has_in told) (every told) (h, h) (states h events)
 all_lasts told h [] sound = tt

@@ -113,8 +113,7 @@ module _ (told : Told) (events : List Event) (whole : IsWhole told) (play : IsPl
 
   nothing_yet : (x : Happening) → has_in told start x ≡ false
   nothing_yet (Submitted n) = none_less (future_of told n)
-  nothing_yet (Ran n) = refl
-  nothing_yet (Answered n) = refl
+  nothing_yet x = refl
 
   lasts : Lasts (has_in told) (every told) start all
   lasts = all_lasts told (opening casts) events (world_sound casts [])

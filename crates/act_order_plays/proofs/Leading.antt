@@ -109,10 +109,9 @@ module _ (told : Told) (last : History) (whole : IsWhole told) (sound : IsSound 
   end_answer n lt differs = go (call_of told n).outcome differs (leaves.answers n lt)
     where
       go : (o : Outcome) → o ≢ out.Open → IsKeptFor o (kept_for told n last) → has_answer told last n ≡ true
-      go out.Answered differs kept = ap (λ (o : Option Answer). is_some o) kept
       go out.Failed differs kept = ap (λ (o : Option Answer). is_some o) kept.1
-      go out.Died differs kept = ap (λ (o : Option Answer). is_some o) kept
       go out.Open differs kept = absurd (differs refl)
+      go outcome differs kept = ap (λ (o : Option Answer). is_some o) kept
 
   pub at_the_end : (x : Happening) → Happened told x → has_in told (last, last) x ≡ true
   at_the_end (Submitted n) lt = end_call n lt
@@ -137,10 +136,8 @@ module _ (told : Told) (last : History) (whole : IsWhole told) (sound : IsSound 
       alive same has = told_ran m (subst (λ (k : ℕ). k < length told.calls) (sym same) lt) has
 
       go : (o : Outcome) → RunsBefore told o m n → has_run told last m ≡ true → Contains (calls_run told) m
-      go out.Answered before has = alive before has
-      go out.Failed before has = alive before has
       go out.Died before has = run_happened told m before.place _ (record { at = before.at; call = refl })
-      go out.Open before has = alive before has
+      go o before has = alive before has
 
   -- ---- at each event
 

@@ -47,16 +47,12 @@ sub_keys told [] = refl
 sub_keys told (n ∷ ns) = ap (λ (l : List _). call_key told n ∷ l) (sub_keys told ns)
 
 open_or_not : (o : Outcome) → (o ≡ out.Open) ⊎ (o ≢ out.Open)
-open_or_not out.Answered = inr (λ e. cc)
-open_or_not out.Failed = inr (λ e. cc)
-open_or_not out.Died = inr (λ e. cc)
 open_or_not out.Open = inl refl
+open_or_not o = inr (λ e. cc)
 
 suits_kept : (o : Outcome) (kept : Option Answer) → o ≢ out.Open → Suits o kept → IsKeptFor o kept
-suits_kept out.Answered kept differs suits = suits
-suits_kept out.Failed kept differs suits = suits
-suits_kept out.Died kept differs suits = suits
 suits_kept out.Open kept differs suits = absurd (differs refl)
+suits_kept o kept differs suits = suits
 
 module _ (told : Told) (order : List Happening) (by : IsInOrderBy told order) (good : Good told order) where
   all_subs : (c : ℕ) → subs_of told order c ≡ calls_by told c

@@ -6,7 +6,7 @@ use Rattle.act_order_plays.proofs.Common.{Fut, Event, RunItem, Submission, is_kn
 use Rattle.act_order_plays.proofs.Common.{add_event, after_run, after, slice_get_front, slice_get_last, element, runs_grow, under-push, after_keeps}
 use Rattle.act_order_plays.proofs.Common.{IsSoundLetter, has_letter-sound, IsNext, next_item_is, calls_to-at, one_place, IsSound, Run, Told, call_of, RunsNext}
 use Rattle.act_order_plays.proofs.Common.{IsWhole, LeavesTold, args_of, future_of}
-use Rattle.act_rules.specs.declared.event.Event.TheVariants.{Submit, Copy, Release, Send, Deliver, Run as RunNext, Collect, AskKill, TakeKill, Tell, Retire}
+use Rattle.act_rules.specs.declared.event.Event.TheVariants.{Submit, Run as RunNext}
 use Rattle.act_rules.specs.declared.history.Letter.TheVariants.{Call as CallLetter}
 use Rattle.act_order_plays.proofs.Lists.{has_of}
 use Rattle.act_order_plays.proofs.Fronts.{is_run_of, rank, run_ranks}
@@ -33,20 +33,12 @@ added_one h (Submit d a method args) c =
     ap (λ (l : List Submission). length l) (under-push c d h.submitted call) ∙ length-append (calls_of c h) (cond (d == c) (call ∷ []) []) in
     let short = is_longer (d == c) call in
     omega arith
-added_one h (Copy d a) c = omega arith
-added_one h (Release d a) c = omega arith
-added_one h (Send d k) c = omega arith
-added_one h (Deliver i) c = omega arith
 added_one h (RunNext a d) c = go (next_item a d h)
   where
     go : (o : Option RunItem) → OneMore c h (after_run a d h o)
     go None = omega arith
     go (Some item) = omega arith
-added_one h (Collect j) c = omega arith
-added_one h (AskKill d a) c = omega arith
-added_one h (TakeKill a) c = omega arith
-added_one h (Tell a d) c = omega arith
-added_one h (Retire a) c = omega arith
+added_one h event c = omega arith
 
 pub one_call_more : (h : History) (event : Event) (c : ℕ) → length (calls_of c (after h event)) ≤ length (calls_of c h) + 1
 one_call_more h event c = after_keeps (OneMore c h) h event (omega arith) (λ accepted. added_one h event c)
@@ -62,11 +54,6 @@ abbrev pub MayRun : ℕ → History → History → Type 0
 MayRun a h g = (runs_of a g ≡ runs_of a h) ⊎ (RanNext a h g)
 
 added_run : (h : History) (event : Event) (a : ℕ) → MayRun a h (add_event h event)
-added_run h (Submit d b method args) a = inl refl
-added_run h (Copy d b) a = inl refl
-added_run h (Release d b) a = inl refl
-added_run h (Send d k) a = inl refl
-added_run h (Deliver i) a = inl refl
 added_run h (RunNext b d) a = go (next_item b d h) refl
   where
     at : (item : RunItem) → next_item b d h ≡ Some item → (same : Bool) → (b == a) ≡ same →
@@ -82,11 +69,7 @@ added_run h (RunNext b d) a = go (next_item b d h) refl
     go : (o : Option RunItem) → next_item b d h ≡ o → MayRun a h (after_run b d h o)
     go None next = inl refl
     go (Some item) next = at item next (b == a) refl (under-push a b h.ran item)
-added_run h (Collect j) a = inl refl
-added_run h (AskKill d b) a = inl refl
-added_run h (TakeKill b) a = inl refl
-added_run h (Tell b d) a = inl refl
-added_run h (Retire b) a = inl refl
+added_run h event a = inl refl
 
 may_run : (h : History) (event : Event) (a : ℕ) → MayRun a h (after h event)
 may_run h event a = after_keeps (MayRun a h) h event (inl refl) (λ accepted. added_run h event a)

@@ -3,13 +3,12 @@ use Rattle.act_order_plays.proofs.Common.{◌≡◌, ℕ, suc, ◌<◌, ◌==◌
 use Rattle.act_order_plays.proofs.Common.{None, slice_get, refl, sym, ap, subst, ◌∙◌, option_map, eq-eqb, and_from, append-nil, Letter, RunItem, Submission}
 use Rattle.act_order_plays.proofs.Common.{calls_to, number_of, History, cast_of, names, is_caller, calls_of, runs_of, kept_of, ran_count, is_letter, has_letter}
 use Rattle.act_order_plays.proofs.Common.{is_ended, run_item, next_item, refusal_of, add_event, and_also, after_run, call_letter, slice_get_last, added_grows}
-use Rattle.act_order_plays.proofs.Common.{after_run_grows, calls_to-number, IsSound, sound_step, Happening, Outcome, Failed, Died, Open, Told, call_of}
+use Rattle.act_order_plays.proofs.Common.{after_run_grows, calls_to-number, IsSound, sound_step, Happening, Outcome, Died, Open, Told, call_of}
 use Rattle.act_order_plays.proofs.Common.{actor_of, RunsInTurn, kept_for, future_of}
 use Rattle.act_rules.specs.declared.event.Event.TheVariants.{Send, Deliver, Run as RunNext, Collect}
 use Rattle.act_rules.specs.declared.history.Letter.TheVariants.{Call as CallLetter}
 use Rattle.act_rules.specs.declared.history.Post.TheVariants.{Reply as ReplyPost}
 use Rattle.act_orders.specs.declared.told.Happening.TheVariants.{Submitted, Ran, Answered as HasBeenTold}
-use Rattle.act_orders.specs.declared.told.Outcome.TheVariants.{Answered}
 use Rattle.act_order_plays.proofs.Premises.{Premises}
 use Rattle.act_order_plays.proofs.Lists.{Has, has_more, has_last, has_pushed}
 use Rattle.act_order_plays.proofs.Fronts.{submits, rans, is_to, rans_of}
@@ -50,10 +49,9 @@ items_long told (item ∷ items) (n ∷ ns) are = ap (λ (k : ℕ). suc k) (item
 
 -- whether an answer is taken
 taken_or_not : (o : Outcome) → (IsTaken o) ⊎ (IsTaken o → ⊥)
-taken_or_not Answered = inl tt
-taken_or_not Failed = inl tt
 taken_or_not Died = inr (λ t. t)
 taken_or_not Open = inr (λ t. t)
+taken_or_not o = inl tt
 
 module _ (told : Told) (fits : Premises told) (turn : RunsInTurn told) (before : List Happening) (n : ℕ) (good : Good told before)
     (next : IsNext told before (Ran n)) (role : Has (actor_of told (call_of told n).actor).callers (call_of told n).caller)

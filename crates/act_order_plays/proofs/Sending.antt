@@ -27,18 +27,15 @@ answer_kept told before h m good keeps has = go (call_of told m).outcome refl
     ran is = good.closed (HasBeenTold m) (Ran m) has is
 
     go : (o : Outcome) → (call_of told m).outcome ≡ o → Suits o (kept_for told m h)
-    go Answered e = subst (λ (o : Outcome). IsTaken o → Suits o (kept_for told m h)) e
-        (keeps.answers m (ran (subst (λ (o : Outcome). RunsBefore told o m m) (sym e) refl))) tt
-    go Failed e = subst (λ (o : Outcome). IsTaken o → Suits o (kept_for told m h)) e
-        (keeps.answers m (ran (subst (λ (o : Outcome). RunsBefore told o m m) (sym e) refl))) tt
     go Died e = keeps.deaths m has e
     go Open e = tt
+    go outcome e = subst (λ (o : Outcome). IsTaken o → Suits o (kept_for told m h)) e
+        (keeps.answers m (ran (subst (λ (o : Outcome). RunsBefore told o m m) (sym e) refl))) tt
 
 pub kept_some : (o : Outcome) (kept : Option Answer) → o ≢ Open → Suits o kept → is_some kept ≡ true
-kept_some Answered kept not_open is = rw is refl
 kept_some Failed kept not_open is = rw is.1 refl
-kept_some Died kept not_open is = rw is refl
 kept_some Open kept not_open is = absurd (not_open refl)
+kept_some o kept not_open is = rw is refl
 
 send_fine : (kept : List (Option Answer)) (k : ℕ) (sent : Bool) (call : Submission) → list_all (is_known kept) call.args ≡ true → kept_at kept k ≡ None →
     send_refusal kept k sent (Some call) ≡ None

@@ -6,7 +6,6 @@ use Rattle.act_order_plays.proofs.Common.{Grows, PostsAreSound, kept_stays, IsSo
 use Rattle.act_order_plays.proofs.Common.{args_of, future_of}
 use Rattle.act_rules.specs.declared.history.Post.TheVariants.{Reply as ReplyPost, Death as DeathPost}
 use Rattle.act_orders.specs.declared.told.Happening.TheVariants.{Ran, Answered as Told_answer}
-use Rattle.act_orders.specs.declared.told.Outcome.TheVariants.{Answered}
 use Rattle.act_order_plays.proofs.Lists.{Has}
 use Rattle.act_order_plays.proofs.Fronts.{submits, rans, is_by, is_to, subs_of, rans_of}
 use Rattle.act_order_plays.proofs.Answering.{Suits, method_of, IsTaken, IsItem, AreItems}
@@ -87,10 +86,9 @@ pub record Stands (told : Told) (before : List Happening) (h : History) : Type 0
 
 pub kept_for_stays : (h g : History) (c k : ℕ) (outcome : Outcome) → Grows h g → PostsAreSound h → Suits outcome (kept_at (kept_of c h) k) →
     Suits outcome (kept_at (kept_of c g) k)
-kept_for_stays h g c k Answered grows sound kept = kept_stays h g c k _ grows sound kept
 kept_for_stays h g c k Failed grows sound kept = (kept.0, kept_stays h g c k _ grows sound kept.1, kept.2)
-kept_for_stays h g c k Died grows sound kept = kept_stays h g c k _ grows sound kept
 kept_for_stays h g c k Open grows sound kept = tt
+kept_for_stays h g c k outcome grows sound kept = kept_stays h g c k _ grows sound kept
 
 -- kept answers that fit what happened still do in a history that grew, where its posts were sound before
 pub keeps_stays : (told : Told) (before : List Happening) (h g : History) → Grows h g → PostsAreSound h → Keeps told before h → Keeps told before g

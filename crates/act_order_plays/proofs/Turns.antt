@@ -3,7 +3,7 @@ use Rattle.act_order_plays.proofs.Common.{◌≡◌, ℕ, zero, suc, ◌<◌, �
 use Rattle.act_order_plays.proofs.Common.{sym, ap, subst, ◌∙◌, arith, option_map, Option, Contains, eqb-true, eq-eqb, slice_get-map, slice_get_within, Arg}
 use Rattle.act_order_plays.proofs.Common.{RunItem, Submission, items_of, calls_to, number_of, ActorSpec, History, calls_of, runs_of, cast_of, names, is_dead}
 use Rattle.act_order_plays.proofs.Common.{is_retired, element, slice_get_front, IsPrefix-filter, All_at, calls_to-number, filter-slice_get, IsSound, deaths_are}
-use Rattle.act_order_plays.proofs.Common.{IsNamed, Retires, ran_all, End, Live, Dead, Retired, Outcome, Run, Told, call_of, actor_of, calls_run, SameCaller}
+use Rattle.act_order_plays.proofs.Common.{IsNamed, Retires, ran_all, End, Dead, Retired, Outcome, Run, Told, call_of, actor_of, calls_run, SameCaller}
 use Rattle.act_order_plays.proofs.Common.{SameWay, RunsInTurn, EndsRight, IsWhole, casts_of, IsKeptFor, EndsAs, LeavesTold, kept_for, runs_by, future_of}
 use Rattle.act_order_plays.proofs.Common.{get_taken}
 use Rattle.act_rules.proofs.Unique.{map-slice_get, rank as rank_in, same_place, held_call, one_place}
@@ -149,9 +149,8 @@ module _ (told : Told) (last : History) (whole : IsWhole told) (sound : IsSound 
         contains_of (actor_of told a).callers c (has_contains (actor_of told a).callers c told_so)
 
     is_dead_end : (end : End) (dead retired : Bool) → EndsAs end dead retired → dead ≡ true → end ≡ Dead
-    is_dead_end Live dead retired ends is = let bad : true ≡ false = sym is ∙ ends.0 in absurd (cc)
     is_dead_end Dead dead retired ends is = refl
-    is_dead_end Retired dead retired ends is = let bad : true ≡ false = sym is ∙ ends.0 in absurd (cc)
+    is_dead_end end dead retired ends is = let bad : true ≡ false = sym is ∙ ends.0 in absurd (cc)
 
     -- the call of a death went to a dead actor
     died : (n : ℕ) → n < length told.calls → (call_of told n).outcome ≡ out.Died → (actor_of told (call_of told n).actor).end ≡ Dead
