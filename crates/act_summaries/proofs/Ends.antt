@@ -4,7 +4,7 @@ use Rattle.act_rules.proofs.Common.{eqb-true, not-true, append-nil, list_any-app
 use Rattle.act_rules.proofs.Common.{History, ActorSpec, contains, cast_of, runs_of, is_dead, is_retired, is_ended}
 use Rattle.act_rules.proofs.Common.{has_terminated, needs, is_drained, under, next_item, add_event, after_run, after_all, opening}
 use Rattle.act_rules.specs.declared.event.Event.{Event}
-use Rattle.act_rules.specs.declared.event.Event.TheVariants.{Submit, Copy, Release, Send, Deliver, Run, Collect, AskKill, TakeKill, Tell, Retire}
+use Rattle.act_rules.specs.declared.event.Event.TheVariants.{Run, TakeKill, Retire}
 use Rattle.act_rules.specs.declared.history.RunItem.{RunItem}
 use Rattle.act_rules.specs.declared.outcome.HandleRefusal.TheVariants.{NoActor}
 use Rattle.act_rules.specs.declared.outcome.WorldRefusal.TheVariants.{Handle, ActorEnded}
@@ -81,11 +81,6 @@ module _ (h : History) (s : EndOnce h) (b : ℕ) (live : is_ended b h ≡ false)
       there a false e ended = s.cast a (subst (λ (k : Bool). (is_dead a h || k) ≡ true) (other_stays a b h.retired e) ended)
 
 once_step : IsKept EndOnce
-once_step h (Submit c a method args) s accepted = record { apart = s.apart; cast = s.cast }
-once_step h (Copy c a) s accepted = record { apart = s.apart; cast = s.cast }
-once_step h (Release c a) s accepted = record { apart = s.apart; cast = s.cast }
-once_step h (Send c k) s accepted = record { apart = s.apart; cast = s.cast }
-once_step h (Deliver i) s accepted = record { apart = s.apart; cast = s.cast }
 once_step h (Run a c) s accepted = go (next_item a c h)
   where
     go : (o : Option RunItem) → EndOnce (after_run a c h o)
@@ -94,17 +89,15 @@ once_step h (Run a c) s accepted = go (next_item a c h)
         let fits = run_needs h a c accepted in
         let once = ran_once h s a fits.2 (some_cast c (cast_of a h) fits.1) item in
         record { apart = once.apart; cast = once.cast }
-once_step h (Collect j) s accepted = record { apart = s.apart; cast = s.cast }
-once_step h (AskKill c a) s accepted = record { apart = s.apart; cast = s.cast }
 once_step h (TakeKill a) s accepted =
     let first = needs-none (is_some (cast_of a h)) (Handle NoActor) (needs (not (is_ended a h)) ActorEnded (needs (contains a h.asked) NoKill None)) accepted in
     let second = needs-none (not (is_ended a h)) ActorEnded (needs (contains a h.asked) NoKill None) first.1 in
     killed_once h s a (not-true (is_ended a h) second.0) first.0
-once_step h (Tell a c) s accepted = record { apart = s.apart; cast = s.cast }
 once_step h (Retire a) s accepted =
     let first = needs-none (is_some (cast_of a h)) (Handle NoActor) (needs (not (is_ended a h)) ActorEnded (needs (is_drained a h) NotDrained None)) accepted in
     let second = needs-none (not (is_ended a h)) ActorEnded (needs (is_drained a h) NotDrained None) first.1 in
     retired_once h s a (not-true (is_ended a h) second.0) first.0
+once_step h other s accepted = record { apart = s.apart; cast = s.cast }
 
 pub ends_once : (casts : List ActorSpec) (events : List Event) → EndOnce (after_all (opening casts) events)
 ends_once casts events = after_all_keeps EndOnce once_step (opening casts) events (record { apart = λ a dead. cc; cast = λ a ended. cc })

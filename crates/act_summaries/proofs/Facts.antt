@@ -8,7 +8,7 @@ use Rattle.act_rules.proofs.Common.{after_all, opening, Answer, answer_at, answe
 use Rattle.act_rules.proofs.Common.{kept_at, is_sayable, is_sayable_arg, is_sayable_method, is_number, is_actor_number, is_caller_number, actor_spec_of}
 use Rattle.act_rules.proofs.Common.{needs, is_caller, copies_of, copies_held, is_earlier, limit_of, unanswered, submission_refusal, submit_refusal}
 use Rattle.act_rules.specs.declared.event.Event.{Event}
-use Rattle.act_rules.specs.declared.event.Event.TheVariants.{Submit, Copy, Release, Send, Deliver, Run, Collect, AskKill, TakeKill, Tell, Retire}
+use Rattle.act_rules.specs.declared.event.Event.TheVariants.{Submit, Run}
 use Rattle.act_rules.specs.declared.history.RunItem.{RunItem}
 use Rattle.act_rules.specs.declared.history.Submission.{Submission}
 use Rattle.act_rules.specs.declared.outcome.WorldRefusal.TheVariants.{NoCaller}
@@ -78,10 +78,9 @@ pub record IsGoodCast (cast : ActorSpec) : Type 0 where
   pub state : IsGoodState cast.opening
 
 opens_good : (kind : KindName) → IsGoodState (opening_state kind)
-opens_good kind.Counter = refl
 opens_good kind.Table = (tt, omega arith)
-opens_good kind.Account = refl
 opens_good kind.ListKind = (tt, omega arith)
+opens_good name = refl
 
 callers_good : (callers : List ℕ) → list_all is_caller_number callers ≡ true → AllByRecursion IsCallerNumber callers
 callers_good [] e = tt
@@ -176,10 +175,6 @@ good_step h (Submit c a method args) sayable s sound accepted =
     let parts = and_parts (is_sayable_method method) (list_all is_sayable_arg args) sayable in
     let call : Submission = record { actor = a; method = method; args = args } in
     record { casts = s.casts; submitted = All_more (λ (call : ℕ × Submission). IsGoodCall call.1) h.submitted (c, call) s.submitted (parts.0, parts.1); args = s.args }
-good_step h (Copy c a) sayable s sound accepted = record { casts = s.casts; submitted = s.submitted; args = s.args }
-good_step h (Release c a) sayable s sound accepted = record { casts = s.casts; submitted = s.submitted; args = s.args }
-good_step h (Send c k) sayable s sound accepted = record { casts = s.casts; submitted = s.submitted; args = s.args }
-good_step h (Deliver i) sayable s sound accepted = record { casts = s.casts; submitted = s.submitted; args = s.args }
 good_step h (Run a c) sayable s sound accepted = go (next_item a c h) refl
   where
     go : (o : Option RunItem) → next_item a c h ≡ o → IsGood (after_run a c h o)
@@ -189,11 +184,7 @@ good_step h (Run a c) sayable s sound accepted = go (next_item a c h) refl
       submitted = s.submitted;
       args = All_more (λ (run : ℕ × RunItem). AllByRecursion IsGoodArg run.1.args) h.ran (a, item) s.args (next_good h a c item s sound e);
     }
-good_step h (Collect j) sayable s sound accepted = record { casts = s.casts; submitted = s.submitted; args = s.args }
-good_step h (AskKill c a) sayable s sound accepted = record { casts = s.casts; submitted = s.submitted; args = s.args }
-good_step h (TakeKill a) sayable s sound accepted = record { casts = s.casts; submitted = s.submitted; args = s.args }
-good_step h (Tell a c) sayable s sound accepted = record { casts = s.casts; submitted = s.submitted; args = s.args }
-good_step h (Retire a) sayable s sound accepted = record { casts = s.casts; submitted = s.submitted; args = s.args }
+good_step h event sayable s sound accepted = record { casts = s.casts; submitted = s.submitted; args = s.args }
 
 goes_good : (h : History) (events : List Event) → list_all is_sayable_event events ≡ true → IsGood h → IsSound h → IsGood (after_all h events)
 goes_good h [] sayable s sound = s
@@ -226,20 +217,12 @@ room_for h c a method args e =
 
 few_step : IsKept AreFew
 few_step h (Submit c a method args) s accepted = λ d. few_more h c d (record { actor = a; method = method; args = args }) (room_for h c a method args accepted) (s d)
-few_step h (Copy c a) s accepted = s
-few_step h (Release c a) s accepted = s
-few_step h (Send c k) s accepted = s
-few_step h (Deliver i) s accepted = s
 few_step h (Run a c) s accepted = go (next_item a c h)
   where
     go : (o : Option RunItem) → AreFew (after_run a c h o)
     go None = s
     go (Some item) = s
-few_step h (Collect j) s accepted = s
-few_step h (AskKill c a) s accepted = s
-few_step h (TakeKill a) s accepted = s
-few_step h (Tell a c) s accepted = s
-few_step h (Retire a) s accepted = s
+few_step h other s accepted = s
 
 -- ---- all of it
 

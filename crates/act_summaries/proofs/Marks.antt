@@ -21,8 +21,7 @@ word_of Retired = codes "retired"
 -- the last byte of a mark: `*` for an answer, and `?` for a state
 abbrev pub end_of : Mark → ℕ
 end_of Equals = 42
-end_of Live = 63
-end_of Retired = 63
+end_of mark = 63
 
 pub mark_lacks : (mark : Mark) → Lacks 32 (word_of mark)
 mark_lacks Equals = lacks_from 32 (codes "=") refl

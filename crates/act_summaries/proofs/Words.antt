@@ -35,8 +35,7 @@ is_mark text = bytes_eq text (codes "=") || (bytes_eq text (codes "live") || byt
 
 no_mark : (text : List ℕ) → is_mark text ≡ false → IsNoMark text
 no_mark text e Equals is = let bad : true ≡ false = ap is_mark (sym is) ∙ e in cc
-no_mark text e Live is = let bad : true ≡ false = ap is_mark (sym is) ∙ e in cc
-no_mark text e Retired is = let bad : true ≡ false = ap is_mark (sym is) ∙ e in cc
+no_mark text e other is = let bad : true ≡ false = ap is_mark (sym is) ∙ e in cc
 
 -- a word that begins otherwise than each mark's
 begins : (b : ℕ) (text : List ℕ) → b ≢ 61 → b ≢ 108 → b ≢ 114 → IsNoMark (b ∷ text)
@@ -48,37 +47,13 @@ begins b text e l r Retired is = r (heads b 114 text (codes "etired") is)
 
 -- a sayable method is written as a word
 pub method_word : (m : Method) → is_sayable_method m ≡ true → IsWord (method_text m)
-method_word method.Add h = word_from (method_text method.Add) refl
-method_word method.Get h = word_from (method_text method.Get) refl
-method_word method.Put h = word_from (method_text method.Put) refl
-method_word method.Del h = word_from (method_text method.Del) refl
-method_word method.Size h = word_from (method_text method.Size) refl
-method_word method.Deposit h = word_from (method_text method.Deposit) refl
-method_word method.Withdraw h = word_from (method_text method.Withdraw) refl
-method_word method.Balance h = word_from (method_text method.Balance) refl
-method_word method.Push h = word_from (method_text method.Push) refl
-method_word method.Pop h = word_from (method_text method.Pop) refl
-method_word method.At h = word_from (method_text method.At) refl
-method_word method.Len h = word_from (method_text method.Len) refl
-method_word method.Terminate h = word_from (method_text method.Terminate) refl
 method_word (method.Own name) h = cc
+method_word m h = word_from (method_text m) refl
 
 -- a sayable method isn't written as a mark's word
 pub method_no_mark : (m : Method) → is_sayable_method m ≡ true → IsNoMark (method_text m)
-method_no_mark method.Add h = no_mark (method_text method.Add) refl
-method_no_mark method.Get h = no_mark (method_text method.Get) refl
-method_no_mark method.Put h = no_mark (method_text method.Put) refl
-method_no_mark method.Del h = no_mark (method_text method.Del) refl
-method_no_mark method.Size h = no_mark (method_text method.Size) refl
-method_no_mark method.Deposit h = no_mark (method_text method.Deposit) refl
-method_no_mark method.Withdraw h = no_mark (method_text method.Withdraw) refl
-method_no_mark method.Balance h = no_mark (method_text method.Balance) refl
-method_no_mark method.Push h = no_mark (method_text method.Push) refl
-method_no_mark method.Pop h = no_mark (method_text method.Pop) refl
-method_no_mark method.At h = no_mark (method_text method.At) refl
-method_no_mark method.Len h = no_mark (method_text method.Len) refl
-method_no_mark method.Terminate h = no_mark (method_text method.Terminate) refl
 method_no_mark (method.Own name) h = absurd (let bad : false ≡ true = h in cc)
+method_no_mark m h = no_mark (method_text m) refl
 
 -- ---- values
 
@@ -102,8 +77,7 @@ value_word (value.Text text) h = quoted_word text h
 
 digits_no_mark : (text : List ℕ) → AreDigits text → IsNoMark text
 digits_no_mark text digits Equals is = let bad : AreDigits (word_of Equals) = subst AreDigits is digits in omega (arith, bad.0.1)
-digits_no_mark text digits Live is = let bad : AreDigits (word_of Live) = subst AreDigits is digits in omega (arith, bad.0.1)
-digits_no_mark text digits Retired is = let bad : AreDigits (word_of Retired) = subst AreDigits is digits in omega (arith, bad.0.1)
+digits_no_mark text digits other is = let bad : AreDigits (word_of other) = subst AreDigits is digits in omega (arith, bad.0.1)
 
 signed_no_mark : (n : ℤ) → IsNoMark (signed_decimal n)
 signed_no_mark (pos n) = digits_no_mark (decimal n) (decimal_digits n)
@@ -152,20 +126,11 @@ IsGoodAnswer (Ok v) = is_sayable v ≡ true
 IsGoodAnswer (Err f) = is_known_fault f ≡ true
 
 fault_word : (f : Fault) → is_known_fault f ≡ true → IsWord (fault_text f)
-fault_word fault.NoMethod h = word_from (fault_text fault.NoMethod) refl
-fault_word fault.BadArgs h = word_from (fault_text fault.BadArgs) refl
-fault_word fault.Overflow h = word_from (fault_text fault.Overflow) refl
-fault_word fault.NoKey h = word_from (fault_text fault.NoKey) refl
-fault_word fault.BadAmount h = word_from (fault_text fault.BadAmount) refl
-fault_word fault.Insufficient h = word_from (fault_text fault.Insufficient) refl
-fault_word fault.NoItems h = word_from (fault_text fault.NoItems) refl
-fault_word fault.NoItem h = word_from (fault_text fault.NoItem) refl
-fault_word fault.KindFull h = word_from (fault_text fault.KindFull) refl
 fault_word (fault.Dependency k) h =
     Each-append (λ (x : ℕ). 32 < x) (codes "Dependency(") (decimal k ++ codes ")") (word_from (codes "Dependency(") refl)
     (Each-append (λ (x : ℕ). 32 < x) (decimal k) (codes ")") (decimal_word k) (omega arith, tt))
-fault_word fault.ActorDied h = word_from (fault_text fault.ActorDied) refl
 fault_word (fault.Own name) h = cc
+fault_word f h = word_from (fault_text f) refl
 
 -- a good answer is written as a word
 pub answer_word : (answer : Answer) → IsGoodAnswer answer → IsWord (answer_text answer)
@@ -173,18 +138,9 @@ answer_word (Ok v) h = value_word v h
 answer_word (Err f) h = fault_word f h
 
 fault_no_mark : (f : Fault) → is_known_fault f ≡ true → IsNoMark (fault_text f)
-fault_no_mark fault.NoMethod h = no_mark (fault_text fault.NoMethod) refl
-fault_no_mark fault.BadArgs h = no_mark (fault_text fault.BadArgs) refl
-fault_no_mark fault.Overflow h = no_mark (fault_text fault.Overflow) refl
-fault_no_mark fault.NoKey h = no_mark (fault_text fault.NoKey) refl
-fault_no_mark fault.BadAmount h = no_mark (fault_text fault.BadAmount) refl
-fault_no_mark fault.Insufficient h = no_mark (fault_text fault.Insufficient) refl
-fault_no_mark fault.NoItems h = no_mark (fault_text fault.NoItems) refl
-fault_no_mark fault.NoItem h = no_mark (fault_text fault.NoItem) refl
-fault_no_mark fault.KindFull h = no_mark (fault_text fault.KindFull) refl
 fault_no_mark (fault.Dependency k) h = begins 68 (codes "ependency(" ++ decimal k ++ codes ")") (differ 68 61 refl) (differ 68 108 refl) (differ 68 114 refl)
-fault_no_mark fault.ActorDied h = no_mark (fault_text fault.ActorDied) refl
 fault_no_mark (fault.Own name) h = absurd (let bad : false ≡ true = h in cc)
+fault_no_mark f h = no_mark (fault_text f) refl
 
 pub answer_no_mark : (answer : Answer) → IsGoodAnswer answer → IsNoMark (answer_text answer)
 answer_no_mark (Ok v) h = value_no_mark v
