@@ -68,16 +68,5 @@ post_none casts h event told world events is none behind =
     subst (λ (g : History). IsBehind casts g world events) (ap (λ (d : Did). after_mail d (add_event h event)) is) (subst (λ (g : History). IsBehind casts g world events) (sym (same told none)) behind)
   where
     same : (d : Did) → ((i : ℕ) → d ≡ did_so.Mail i → ⊥) → after_mail d (add_event h event) ≡ add_event h event
-    same (did_so.Future c k) none = refl
-    same (did_so.Copies n) none = refl
     same (did_so.Mail i) none = absurd (none i refl)
-    same (did_so.Arrived arrival) none = refl
-    same (did_so.Ran place j) none = refl
-    same did_so.Gap none = refl
-    same (did_so.Kept c k) none = refl
-    same (did_so.Late c k) none = refl
-    same (did_so.Died n) none = refl
-    same did_so.Asked none = refl
-    same did_so.Dead none = refl
-    same (did_so.Told j) none = refl
-    same did_so.Retired none = refl
+    same d none = refl

@@ -39,19 +39,8 @@ deliver_goes casts plans i p play live = go (refusal_of p.history (event.Deliver
 
 mail_goes : (casts : List ActorSpec) (plans : ℕ → List Step) (told : Did) (p : At) → IsPlay casts plans p → p.history.retired ≡ []
     → Quiesces casts plans p (moved p (after_mail told p.history))
-mail_goes casts plans (did_so.Future c k) p play live = quiesces_same casts plans p play live
-mail_goes casts plans (did_so.Copies n) p play live = quiesces_same casts plans p play live
 mail_goes casts plans (did_so.Mail i) p play live = deliver_goes casts plans i p play live
-mail_goes casts plans (did_so.Arrived arrival) p play live = quiesces_same casts plans p play live
-mail_goes casts plans (did_so.Ran place j) p play live = quiesces_same casts plans p play live
-mail_goes casts plans did_so.Gap p play live = quiesces_same casts plans p play live
-mail_goes casts plans (did_so.Kept c k) p play live = quiesces_same casts plans p play live
-mail_goes casts plans (did_so.Late c k) p play live = quiesces_same casts plans p play live
-mail_goes casts plans (did_so.Died n) p play live = quiesces_same casts plans p play live
-mail_goes casts plans did_so.Asked p play live = quiesces_same casts plans p play live
-mail_goes casts plans did_so.Dead p play live = quiesces_same casts plans p play live
-mail_goes casts plans (did_so.Told j) p play live = quiesces_same casts plans p play live
-mail_goes casts plans did_so.Retired p play live = quiesces_same casts plans p play live
+mail_goes casts plans told p play live = quiesces_same casts plans p play live
 
 -- what was asked stays
 deliver_asked : (h : History) (i : ℕ) → (after h (event.Deliver i)).asked ≡ h.asked
@@ -62,19 +51,8 @@ deliver_asked h i = go (refusal_of h (event.Deliver i))
     go (Some refusal) = refl
 
 pub mail_asked : (told : Did) (h : History) → (after_mail told h).asked ≡ h.asked
-mail_asked (did_so.Future c k) h = refl
-mail_asked (did_so.Copies n) h = refl
 mail_asked (did_so.Mail i) h = deliver_asked h i
-mail_asked (did_so.Arrived arrival) h = refl
-mail_asked (did_so.Ran place j) h = refl
-mail_asked did_so.Gap h = refl
-mail_asked (did_so.Kept c k) h = refl
-mail_asked (did_so.Late c k) h = refl
-mail_asked (did_so.Died n) h = refl
-mail_asked did_so.Asked h = refl
-mail_asked did_so.Dead h = refl
-mail_asked (did_so.Told j) h = refl
-mail_asked did_so.Retired h = refl
+mail_asked told h = refl
 
 -- ---- a caller's steps
 
@@ -118,14 +96,11 @@ step_brought c (Await k) h may brought = brought
 -- the caller took the step, and a letter that it told was brought
 step_goes : (casts : List ActorSpec) (plans : ℕ → List Step) (c : ℕ) (step : Step) (p : At) → IsPlay casts plans p → p.history.retired ≡ []
     → next_step plans c p ≡ Some step → MayTake c step p.history → Quiesces casts plans p (record { history = after_move c step p.history; stepped = p.stepped ++ c ∷ [] })
-step_goes casts plans c (Submit a method args) p play live next may = step_quiesces casts plans c (Submit a method args) p play live next may
-step_goes casts plans c (Copy a) p play live next may = step_quiesces casts plans c (Copy a) p play live next may
 step_goes casts plans c (Release a) p play live next may =
     let first = step_quiesces casts plans c (Release a) p play live next may in
     let q = taken c (Release a) p in
     quiesces_trans casts plans p q (moved q (after_post (event.Release c a) p.history)) first (mail_goes casts plans (did p.history (event.Release c a)) q first.play first.live)
-step_goes casts plans c (Kill a) p play live next may = step_quiesces casts plans c (Kill a) p play live next may
-step_goes casts plans c (Await k) p play live next may = step_quiesces casts plans c (Await k) p play live next may
+step_goes casts plans c step p play live next may = step_quiesces casts plans c step p play live next may
 
 pub step_comes : (casts : List ActorSpec) (plans : ℕ → List Step) (c : ℕ) (step : Step) (at : At) (old new : Parts) (slot n : ℕ) → c < 17 → Stands casts plans at old → next_step plans c at ≡ Some step
     → HasDone casts at.history c step new → new.done ≡ old.done → slot ≡ c → n ≡ steps_of c at

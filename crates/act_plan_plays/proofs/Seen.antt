@@ -11,10 +11,8 @@ use Rattle.act_rules.specs.declared.outcome.WorldRefusal.TheVariants.{NoCaller, 
 
 dead_slot : (h : History) (a : ℕ) (o : Option SlotView) → IsStage h a o → option_map_or is_dead_slot (stage_of_slot o) false ≡ true → is_dead a h ≡ true
 dead_slot h a None is e = cc
-dead_slot h a (Some Vacant) is e = cc
-dead_slot h a (Some (Runs live)) is e = cc
 dead_slot h a (Some (Died dead)) is e = is.died
-dead_slot h a (Some (Ended retired)) is e = cc
+dead_slot h a (Some view) is e = cc
 
 pub dead_shown : (h : History) (world : WorldView) (a : ℕ) → Refines h world → shows_dead world a ≡ true → is_dead a h ≡ true
 dead_shown h world a refines e = dead_slot h a (slice_get world.slots a) (refines.actors a) e
@@ -41,10 +39,7 @@ pub left_out : (h : History) (world : WorldView) (c : ℕ) (owner : OwnerView) (
 left_out h world c owner (Kill a) refines is e =
     let parts = and_parts (shows_dead world a) (is_some (copies_in a owner.handles)) e in
     (a, refl, copies_named c a h (ap (λ (o : Option ℕ). is_some o) (sym (is.copies a)) ∙ parts.1), dead_shown h world a refines parts.0)
-left_out h world c owner (Submit a method args) refines is e = cc
-left_out h world c owner (Copy a) refines is e = cc
-left_out h world c owner (Release a) refines is e = cc
-left_out h world c owner (Await k) refines is e = cc
+left_out h world c owner step refines is e = cc
 
 -- ---- a step that is refused
 
