@@ -11,7 +11,7 @@ use Rattle.act_rules.specs.History.{ActorSpec, opening, opening_of, actors_namin
 use Rattle.act_rules.specs.Plans.{planned, kills_to}
 use Rattle.act_owner.specs.Owner.{OwnerView}
 use Rattle.act_actor.specs.View.{RetiredView}
-use Rattle.act_serve.specs.Served.{EndView, Killed, Retired, Starved, end_id, end_log, IfRetired}
+use Rattle.act_serve.specs.Served.{EndView, Killed, Starved, end_id, end_log, IfRetired}
 use Rattle.act_plans.specs.Runs.{limits_naming, callers_of_casts, actors_of_casts, cast_at, plan_of}
 
 -- ---- what the callers and the actors leave, by number

@@ -5,7 +5,7 @@ use Rattle.act_executor.proofs.Common.{map-map, length-map, All-map, length-enum
 use Rattle.act_executor.proofs.Common.{has_terminated, NothingFollowsAnEnd, calls_to, kept_at, planned, kills_to, ActorSpec, contains, actors_naming}
 use Rattle.act_executor.proofs.Common.{filter-slice_get, calls_to-at, numbered, numbers, map-slice_get, OwnerView, MailView, caller_of, ControlView}
 use Rattle.act_executor.proofs.Common.{ControlExecView, asker_of, starter, RepliesView, Asked, Letter, Call, Note, ExecPasses, EndView, Killed, Retired}
-use Rattle.act_executor.proofs.Common.{Starved, end_id, end_log, IfRetired, note_in, first_note, IsTakenAt, KillsOfDead, KillsTaken, Driven, IsSent, AreAsked}
+use Rattle.act_executor.proofs.Common.{end_id, end_log, IfRetired, note_in, first_note, IsTakenAt, KillsOfDead, KillsTaken, Driven, IsSent, AreAsked}
 use Rattle.act_executor.proofs.Common.{HasAsked, limits_naming, plan_of, callers_of_casts, actors_of_casts, is_killed, is_starved, owner_of, calls_of_owner}
 use Rattle.act_executor.proofs.Common.{kept_of_owner, log_of_end, is_killed_end, calls_in, kept_in, log_in, killed_in, RanAll, IsJoined, CallsThatDiedNeverRan}
 use Rattle.act_executor.proofs.Common.{ServedView, AreJoined}

@@ -5,7 +5,7 @@ use Rattle.act_executor.proofs.Common.{Answered, Death, Post, RunItem, IsPrefix,
 use Rattle.act_executor.proofs.Common.{items_from, Deed, OfCaller, OfActor, caller_steps, CallerStep, ChangeMade, notice_collected, replies_are_due, post_of}
 use Rattle.act_executor.proofs.Common.{is_between}
 use Rattle.act_rules.specs.declared.history.Post.TheVariants.{Reply as ReplyPost, Death as DeathPost}
-use Rattle.act_serve.specs.Served.{EndView, Killed, Retired as RetiredEnd, Starved, replies_to, deaths, places_of, place_of, IsReplyOf}
+use Rattle.act_serve.specs.Served.{EndView, Retired as RetiredEnd, replies_to, deaths, places_of, place_of, IsReplyOf}
 use Rattle.act_executor.proofs.Lists.Kept.{gives_none}
 
 -- a notice to this caller, as the rules name it

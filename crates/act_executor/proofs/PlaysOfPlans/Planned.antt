@@ -2,7 +2,7 @@
 use Rattle.act_executor.proofs.Common.{◌≡◌, ℕ, ◌==◌, Bool, true, false, cond, List, [], ◌∷◌, ◌++◌, Option, Some, None, inl, inr, refl, ap, sym, ◌∙◌, subst, All}
 use Rattle.act_executor.proofs.Common.{append_assoc, append-nil, filter_map, is_some, AllByRecursion, AllZip, cons_option, All-from_recursion}
 use Rattle.act_executor.proofs.Common.{recursion_from_All, filter_map-append, Answered, Death, Event, Step, history, Answer, ActorSpec, History, kept_at}
-use Rattle.act_executor.proofs.Common.{OwnerView, is_known_dead, Copied, Released, Submitted, Sent, Noticed, Call, Note, Deed, OfCaller, OfActor, caller_step}
+use Rattle.act_executor.proofs.Common.{OwnerView, is_known_dead, Copied, Released, Submitted, Noticed, Call, Note, Deed, OfCaller, OfActor, caller_step}
 use Rattle.act_executor.proofs.Common.{caller_steps, left_by, opened_of, owner_by, IsEventOf, LetterTaken, CallerStep, ChangeMade, KillAsked}
 use Rattle.act_executor.proofs.Common.{owner_after_steps, KeepsAnswers, EachFront, step_of, DoesStepIn, DoesPlanIn, DoesPlan, death_listed}
 use Rattle.act_rules.specs.declared.script.Step.TheVariants.{Submit as SubmitStep, Copy as CopyStep, Release as ReleaseStep, Kill as KillStep, Await as AwaitStep}
