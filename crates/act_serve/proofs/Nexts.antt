@@ -82,4 +82,4 @@ pub came_some : {E S : Type 0} (result : Result Received E) (letters : List Lett
     → IfOk result (λ came. HasCome came letters (letters ++ letter ∷ []) endpoints given old new) → IfOk result (λ came. came ≡ Nothing → P)
 came_some (Ok Nothing) letters letter endpoints given old new P h = λ _. let long : length (letters ++ letter ∷ []) ≡ length letters = ap length h.0 in absurd (omega (arith, long, length-append letters (letter ∷ [])))
 came_some (Err e) letters letter endpoints given old new P h = tt
-came_some (Ok other) letters letter endpoints given old new P h = λ e. absurd (cc)
+came_some (Ok came) letters letter endpoints given old new P h = λ e. absurd (cc)

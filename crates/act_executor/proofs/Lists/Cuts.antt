@@ -1,7 +1,7 @@
 -- Lists that are cut: what stands in a front of them.
 use Rattle.act_executor.proofs.Common.{◌≡◌, ℕ, zero, suc, ◌≤◌, ◌<◌, List, [], ◌∷◌, ◌++◌, Option, Some, None, All, refl, ap, sym, ◌∙◌, arith, Contains}
-use Rattle.act_executor.proofs.Common.{filter_map, slice_get, AllPairs, cons_option, All-append, All-head, All-tail, recursion_from_All}
-use Rattle.act_executor.proofs.Common.{Contains-append_right, AllPairs-cons, IsPrefix, slice_get_front, contains-more, IsFrontBelow, place_in_front}
+use Rattle.act_executor.proofs.Common.{filter_map, slice_get, AllPairs, cons_option, All-append, All-head, All-tail, recursion_from_All, Contains-append_right}
+use Rattle.act_executor.proofs.Common.{AllPairs-cons, IsPrefix, slice_get_front, contains-more, IsFrontBelow, place_in_front}
 use Rattle.act_executor.proofs.Lists.Elements.{IsIn, in_from_contains, contains_from_in, all_in, front_by_places}
 
 -- ---- what is contained
@@ -43,7 +43,7 @@ module _ {S : Type 0} (m : ℕ) (trace front : List (ℕ × S)) (seen : IsFrontB
       place_in_front front seen.later k m n step (recursion_from_All (λ (x : ℕ × S). m ≤ x.0) seen.later seen.from)
       (ap (λ (l : List (ℕ × S)). slice_get l k) (sym seen.cut) ∙ at) lt
 
-  -- and is contained in it
+  -- an earlier step that the trace contains is contained in the front
   pub step_seen : (n : ℕ) (step : S) → Contains trace (n, step) → n < m → Contains front (n, step)
   step_seen n step has lt =
       let i : IsIn {A = ℕ × S} trace (n, step) = in_from_contains trace (n, step) has in

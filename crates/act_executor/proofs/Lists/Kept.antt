@@ -1,7 +1,6 @@
 -- What stays of a list that loses some elements, none of which gives anything.
 use Rattle.act_executor.proofs.Common.{◌≡◌, ℕ, Bool, true, false, cond, List, [], ◌∷◌, ◌++◌, Some, None, refl, ap, sym, ◌∙◌, append-nil, ◌||◌, filter}
-use Rattle.act_executor.proofs.Common.{filter_map}
-use Rattle.act_executor.proofs.Common.{Option, option_map, list_any, cons_option, filter-append, steps_in, found_in}
+use Rattle.act_executor.proofs.Common.{filter_map, Option, option_map, list_any, cons_option, filter-append, steps_in, found_in}
 
 module _ {S : Type 0} (keep : S → Bool) where
   abbrev pub keep_stamped : ℕ × S → Bool

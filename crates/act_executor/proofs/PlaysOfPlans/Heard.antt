@@ -1,6 +1,6 @@
 -- What a caller collects of an actor in the play is what its thread took of the actor's line.
-use Rattle.act_executor.proofs.Common.{◌≡◌, ℕ, ◌==◌, Bool, true, false, cond, List, [], ◌∷◌, ◌++◌, Some, None, refl, ap, sym, ◌∙◌, subst, append_assoc}
-use Rattle.act_executor.proofs.Common.{◌&&◌, map, filter, filter_map, AllByRecursion, cons_option, eqb-true, map-append, recursion_from_All, KindState, Notice}
+use Rattle.act_executor.proofs.Common.{◌≡◌, ℕ, ◌==◌, Bool, true, false, cond, List, [], ◌∷◌, ◌++◌, Some, None, refl, ap, sym, ◌∙◌, subst, append_assoc, ◌&&◌}
+use Rattle.act_executor.proofs.Common.{map, filter, filter_map, AllByRecursion, cons_option, eqb-true, map-append, recursion_from_All, KindState, Notice}
 use Rattle.act_executor.proofs.Common.{Answered, Death, Post, RunItem, IsPrefix, contains, IsPrefix-map, front_trans, whole_front, Noticed, notice_actor}
 use Rattle.act_executor.proofs.Common.{items_from, Deed, OfCaller, OfActor, caller_steps, CallerStep, ChangeMade, notice_collected, replies_are_due, post_of}
 use Rattle.act_executor.proofs.Common.{is_between}

@@ -1,9 +1,9 @@
 -- No letter that an actor takes of a caller comes twice, and so it is of the letters that are delivered.
 use Rattle.act_executor.proofs.Common.{◌≡◌, ◌≢◌, ℕ, suc, ◌==◌, Bool, true, false, cond, List, [], ◌∷◌, ◌++◌, Option, Some, None, refl, ap, sym, ◌∙◌, subst}
 use Rattle.act_executor.proofs.Common.{arith, All, AllPairs, ◌&&◌, map, filter, filter_map, slice_get, option_map, AllByRecursion, cons_option, eqb-true}
-use Rattle.act_executor.proofs.Common.{eq-eqb, map-append, recursion_from_All, Packet, ReleaseNote, Submission, number_of, same_place, OwnerView}
-use Rattle.act_executor.proofs.Common.{packet_for, Letter, Call, Note, Deed, OfCaller, OfActor, actor_steps, IsSent, AreTwo, letter_of, IsPrefix, contains}
-use Rattle.act_executor.proofs.Common.{items_from, caller_of, steps_in, found_in, ActorStep, LetterTaken, letter_taken}
+use Rattle.act_executor.proofs.Common.{eq-eqb, map-append, recursion_from_All, Packet, ReleaseNote, Submission, number_of, same_place, OwnerView, packet_for}
+use Rattle.act_executor.proofs.Common.{Letter, Call, Note, Deed, OfCaller, OfActor, actor_steps, IsSent, AreTwo, letter_of, IsPrefix, contains, items_from}
+use Rattle.act_executor.proofs.Common.{caller_of, steps_in, found_in, ActorStep, LetterTaken, letter_taken}
 use Rattle.act_rules.specs.declared.history.Letter.{Letter as SentLetter}
 use Rattle.act_rules.specs.declared.history.Letter.TheVariants.{Call as CallLetter, Note as NoteLetter}
 use Rattle.act_executor.proofs.PlaysOfPlans.Once.{Differ, differ_pairs, front_differs, HasEnds, both_same, all_differ}

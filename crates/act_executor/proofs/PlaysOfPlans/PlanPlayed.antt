@@ -2,10 +2,10 @@
 use Rattle.act_executor.proofs.Common.{◌≡◌, ◌≢◌, ℕ, ◌==◌, Bool, true, false, List, [], ◌∷◌, ◌++◌, map, slice_get, Option, Some, None, refl, ap, sym, ◌∙◌, subst}
 use Rattle.act_executor.proofs.Common.{All, AllPairs, filter, option_map, eq-eqb, eqb-true, KindState, Event, Post, RunItem, Step, Release, IsPrefix, ActorSpec}
 use Rattle.act_executor.proofs.Common.{contains, opening_of, actors_naming, runs_of, history, Answer, kept_at, world_sound, map-slice_get, Notice, OwnerView}
-use Rattle.act_executor.proofs.Common.{items_from, MailView, ControlView, RepliesView, notice_actor, steps_in, Driven, CallerStep, notice_collected}
-use Rattle.act_executor.proofs.Common.{SpecsFit, plan_of, end_log, places_of, ServedView, AreJoined, IsPlayOfSteps}
-use Rattle.act_executor.proofs.Common.{pairs_of_map, cast_at, ActorStep, log_of_steps, filter_map, CallsThatDiedNeverRan}
-use Rattle.act_executor.proofs.Common.{kept_in, log_in, is_between, DoesPlanIn, CollectsInLine, IsPlayOfPlans, IsPlayedAsPlanned, HasPosted, IsSent}
+use Rattle.act_executor.proofs.Common.{items_from, MailView, ControlView, RepliesView, notice_actor, steps_in, Driven, CallerStep, notice_collected, SpecsFit}
+use Rattle.act_executor.proofs.Common.{plan_of, end_log, places_of, ServedView, AreJoined, IsPlayOfSteps, pairs_of_map, cast_at, ActorStep, log_of_steps}
+use Rattle.act_executor.proofs.Common.{filter_map, CallsThatDiedNeverRan, kept_in, log_in, is_between, DoesPlanIn, CollectsInLine, IsPlayOfPlans}
+use Rattle.act_executor.proofs.Common.{IsPlayedAsPlanned, HasPosted, IsSent}
 use Rattle.act_rules.specs.declared.history.Post.TheVariants.{Reply as ReplyPost, Death as DeathPost}
 use Rattle.act_rules.specs.declared.history.Letter.{Letter as SentLetter}
 use Rattle.act_executor.proofs.Lists.Elements.{IsIn, in_from_contains, all_in, all_by_places, finds, found_is, contains_is}

@@ -1,7 +1,7 @@
 -- What the threads did by their plans, each caller does by its plan in the play.
 use Rattle.act_executor.proofs.Common.{◌≡◌, ℕ, List, [], ap, ◌∙◌, map, filter, filter_map, Event, Step, history, ActorSpec, items_from, notice_actor, steps_in}
-use Rattle.act_executor.proofs.Common.{opened_of, trace_of, SpecsFit, ActorStep, CallerStep, notice_collected, DoesPlan, CallerThreads, ActorThreads}
-use Rattle.act_executor.proofs.Common.{AreTraced, IsPlayOfSteps, DoesPlanIn, is_between}
+use Rattle.act_executor.proofs.Common.{opened_of, trace_of, SpecsFit, ActorStep, CallerStep, notice_collected, DoesPlan, CallerThreads, ActorThreads, AreTraced}
+use Rattle.act_executor.proofs.Common.{IsPlayOfSteps, DoesPlanIn, is_between}
 use Rattle.act_rules.specs.declared.history.Letter.{Letter}
 use Rattle.act_executor.proofs.PlaysOfThreads.Seen.{callers_are, actors_are}
 use Rattle.act_executor.proofs.PlaysOfThreads.Traced.{IsMergedPlay, merged_play}

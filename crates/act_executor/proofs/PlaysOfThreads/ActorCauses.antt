@@ -1,9 +1,8 @@
 -- Each step of an actor's thread is caused by the deeds before it.
-use Rattle.act_executor.proofs.Common.{◌≡◌, ℕ, true, List, [], ◌∷◌, ◌++◌, length, Some, refl, ap, sym, ◌∙◌, subst, Contains, map-append, Packet, ReleaseNote, Call}
-use Rattle.act_executor.proofs.Common.{Note}
-use Rattle.act_executor.proofs.Common.{steps_in, found_in, copies_in, OwnerView, packet_at, Sent, is_known_at, places_all, packet_stays_all, IsPrefix}
-use Rattle.act_executor.proofs.Common.{ActorSpec, calls_to, Submission, Deed, caller_step, actor_step, caller_steps, left_by, opened_of, IsSentCall, IsLastNote}
-use Rattle.act_executor.proofs.Common.{IsSentTo, IsActorCaused, trace_of, ActorStep, LetterTaken, KillTaken, ActorMayDo, ActorMayDoAll, CallerStep}
+use Rattle.act_executor.proofs.Common.{◌≡◌, ℕ, true, List, [], ◌∷◌, ◌++◌, length, Some, refl, ap, sym, ◌∙◌, subst, Contains, map-append, Packet, ReleaseNote}
+use Rattle.act_executor.proofs.Common.{Call, Note, steps_in, found_in, copies_in, OwnerView, packet_at, Sent, is_known_at, places_all, packet_stays_all}
+use Rattle.act_executor.proofs.Common.{IsPrefix, ActorSpec, calls_to, Submission, Deed, caller_step, actor_step, caller_steps, left_by, opened_of, IsSentCall}
+use Rattle.act_executor.proofs.Common.{IsLastNote, IsSentTo, IsActorCaused, trace_of, ActorStep, LetterTaken, KillTaken, ActorMayDo, ActorMayDoAll, CallerStep}
 use Rattle.act_executor.proofs.Common.{ChangeMade, KillAsked, changes_made, owner_after_steps, CallerMayDoAll, CallerThreads, ActorThreads, IsCallPosted}
 use Rattle.act_executor.proofs.Common.{IsNotePosted, AreTraced, contains_map}
 use Rattle.act_causes.proofs.Found.{found_is}

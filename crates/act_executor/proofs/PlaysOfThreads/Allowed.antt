@@ -1,14 +1,12 @@
 -- What steps leave that a caller may do: a call that was sent has its packet, and a handle that was let go stays so.
 use Rattle.act_executor.proofs.Common.{◌≡◌, ℕ, zero, suc, ◌+◌, Bool, true, false, cond, List, [], ◌∷◌, ◌++◌, length, Option, Some, None, inl, inr, refl, ap}
-use Rattle.act_executor.proofs.Common.{sym}
-use Rattle.act_executor.proofs.Common.{◌∙◌, subst, arith, Contains, slice_get, is_some, list_all, eqb_tells, append-nil, filter_map-append, Answered, Death}
-use Rattle.act_executor.proofs.Common.{Reply, Submission, calls_to, kept_at, is_known, copy_refusal, handle_refusal, submit_refusal, limit_refusal, copies_in}
-use Rattle.act_executor.proofs.Common.{copies-with_copy-other, copies-without_copy-other, copies-with_number, First, Late, Stray, OwnerView, is_sent}
-use Rattle.act_executor.proofs.Common.{is_of_call}
-use Rattle.act_executor.proofs.Common.{owner_limit, pending, sending_refusal, with_death, after_reply_that, Change, Copied, Released, Submitted, Sent, Noticed}
-use Rattle.act_executor.proofs.Common.{after_change, is_known_at, packet_stays_all, after_all-append, CallerStep, ChangeMade, KillAsked, change_made}
-use Rattle.act_executor.proofs.Common.{changes_made, owner_after_steps, MayChange, CallerMayDo, CallerMayDoAll, after_changes, send_refusal, needs-none}
-use Rattle.act_executor.proofs.Common.{option_or-none, calls_to-push, NotReady}
+use Rattle.act_executor.proofs.Common.{sym, ◌∙◌, subst, arith, Contains, slice_get, is_some, list_all, eqb_tells, append-nil, filter_map-append, Answered}
+use Rattle.act_executor.proofs.Common.{Death, Reply, Submission, calls_to, kept_at, is_known, copy_refusal, handle_refusal, submit_refusal, limit_refusal}
+use Rattle.act_executor.proofs.Common.{copies_in, copies-with_copy-other, copies-without_copy-other, copies-with_number, First, Late, Stray, OwnerView, is_sent}
+use Rattle.act_executor.proofs.Common.{is_of_call, owner_limit, pending, sending_refusal, with_death, after_reply_that, Change, Copied, Released, Submitted}
+use Rattle.act_executor.proofs.Common.{Sent, Noticed, after_change, is_known_at, packet_stays_all, after_all-append, CallerStep, ChangeMade, KillAsked}
+use Rattle.act_executor.proofs.Common.{change_made, changes_made, owner_after_steps, MayChange, CallerMayDo, CallerMayDoAll, after_changes, send_refusal}
+use Rattle.act_executor.proofs.Common.{needs-none, option_or-none, calls_to-push, NotReady}
 use Rattle.act_owner.proofs.Life.{step}
 
 -- ---- the front, and the rest
@@ -18,14 +16,14 @@ pub may_front : (owner : OwnerView) (before later : List CallerStep) → CallerM
 may_front owner [] later may = tt
 may_front owner (step ∷ before) later may = (may.0, may_front (owner_after_steps owner (step ∷ [])) before later may.1)
 
--- and the rest of them after these
+-- a caller that may do all of some steps may do the rest of them after any first ones
 pub may_rest : (owner : OwnerView) (before later : List CallerStep) → CallerMayDoAll owner (before ++ later)
     → CallerMayDoAll (owner_after_steps owner before) later
 may_rest owner [] later may = may
 may_rest owner (ChangeMade change ∷ before) later may = may_rest (after_change owner change) before later may.1
 may_rest owner (KillAsked a ∷ before) later may = may_rest owner before later may.1
 
--- the owner after some steps and later ones
+-- steps and later ones leave the owner that the later ones leave of what the first left
 pub after_steps-append : (owner : OwnerView) (before later : List CallerStep)
     → owner_after_steps owner (before ++ later) ≡ owner_after_steps (owner_after_steps owner before) later
 after_steps-append owner before later =

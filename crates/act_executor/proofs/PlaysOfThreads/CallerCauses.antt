@@ -1,9 +1,9 @@
 -- Each step of a caller's thread is caused by the deeds before it.
-use Rattle.act_executor.proofs.Common.{◌≡◌, ℕ, ◌<◌, List, ◌∷◌, ◌++◌, Some, ap, sym, ◌∙◌, subst, Contains, slice_get, option_map, map-append}
-use Rattle.act_executor.proofs.Common.{filter_map-append, slice_get-map, Answered, Death, Reply, steps_in, found_in, Noticed, RunItem, IsPrefix, ActorSpec}
-use Rattle.act_executor.proofs.Common.{answer_at, answer_at-front, Deed, caller_step, actor_step, actor_steps, left_by, opened_of, IsReplyGiven, IsGiven}
-use Rattle.act_executor.proofs.Common.{IsCallerCaused, IsFrontBelow, trace_of, ActorStep, DeathTold, call_run, log_of_steps, CallerStep, ChangeMade}
-use Rattle.act_executor.proofs.Common.{CallerMayDo, CallerMayDoAll, CallerThreads, ActorThreads, IsReplyGivenBy, AreTraced}
+use Rattle.act_executor.proofs.Common.{◌≡◌, ℕ, ◌<◌, List, ◌∷◌, ◌++◌, Some, ap, sym, ◌∙◌, subst, Contains, slice_get, option_map, map-append, filter_map-append}
+use Rattle.act_executor.proofs.Common.{slice_get-map, Answered, Death, Reply, steps_in, found_in, Noticed, RunItem, IsPrefix, ActorSpec, answer_at}
+use Rattle.act_executor.proofs.Common.{answer_at-front, Deed, caller_step, actor_step, actor_steps, left_by, opened_of, IsReplyGiven, IsGiven, IsCallerCaused}
+use Rattle.act_executor.proofs.Common.{IsFrontBelow, trace_of, ActorStep, DeathTold, call_run, log_of_steps, CallerStep, ChangeMade, CallerMayDo}
+use Rattle.act_executor.proofs.Common.{CallerMayDoAll, CallerThreads, ActorThreads, IsReplyGivenBy, AreTraced}
 use Rattle.act_causes.proofs.Found.{found_is}
 use Rattle.act_executor.proofs.Lists.Cuts.{contains_mid, place_seen}
 use Rattle.act_executor.proofs.PlaysOfThreads.Allowed.{may_rest}

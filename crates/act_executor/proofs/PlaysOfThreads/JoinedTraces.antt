@@ -7,10 +7,10 @@ use Rattle.act_executor.proofs.Common.{OwnerView, packet_at, Noticed, Asked, Let
 use Rattle.act_executor.proofs.Common.{starter, RepliesView, notice_actor, steps_in, found_in, EndView, Killed, Retired, Starved, end_id, end_log, replies_to}
 use Rattle.act_executor.proofs.Common.{deaths, KillsOfDead, KillsTaken, Driven, IsSent, cast_at, numbers_differ, trace_of, IsNamed, left_by, ActorStep}
 use Rattle.act_executor.proofs.Common.{LetterTaken, KillTaken, call_run, is_retirement, log_of_steps, has_died_in, ActorMayDoAll, IsGivenAfter, IsActorTraced}
-use Rattle.act_executor.proofs.Common.{CallerStep, ChangeMade, owner_after_steps, CallerMayDoAll, IsPostedAfter, IsAskedAfter, CallerThreads}
-use Rattle.act_executor.proofs.Common.{ActorThreads, IsPosted, IsKillAsked, IsNoticeGiven, AreTraced, IsPlayOfSteps, IsPlayOf}
-use Rattle.act_executor.proofs.Common.{is_starved, calls_of_owner, kept_of_owner, log_of_end, is_killed_end, calls_in, kept_in, log_in, killed_in, opened_of}
-use Rattle.act_executor.proofs.Common.{HasDonePlan, plan_of, ServedView, NoticesAudited, AreJoined}
+use Rattle.act_executor.proofs.Common.{CallerStep, ChangeMade, owner_after_steps, CallerMayDoAll, IsPostedAfter, IsAskedAfter, CallerThreads, ActorThreads}
+use Rattle.act_executor.proofs.Common.{IsPosted, IsKillAsked, IsNoticeGiven, AreTraced, IsPlayOfSteps, IsPlayOf, is_starved, calls_of_owner, kept_of_owner}
+use Rattle.act_executor.proofs.Common.{log_of_end, is_killed_end, calls_in, kept_in, log_in, killed_in, opened_of, HasDonePlan, plan_of, ServedView}
+use Rattle.act_executor.proofs.Common.{NoticesAudited, AreJoined}
 use Rattle.act_mailbox.specs.Lines.{items_from as items_put}
 use Rattle.act_executor.proofs.EndsOfRuns.Ends.{owners_are, ends_are, fed as ends_fed}
 use Rattle.act_executor.proofs.PlaysOfThreads.AsPlay.{is_retired_end, retired_in, LeavesAll, is_play}
@@ -110,10 +110,11 @@ module _ {mails : List MailView} {controls : List ControlView} {replies : List R
   abbrev pub actors : ActorThreads
   actors = made_of number_of_end ActorWork served all_actors
 
-  -- what each caller and each actor did
+  -- what each caller did
   abbrev pub caller_did : ℕ → List CallerStep
   caller_did c = steps_in (trace_of c callers)
 
+  -- what each actor did
   abbrev pub actor_did : ℕ → List ActorStep
   actor_did a = steps_in (trace_of a actors)
 
@@ -240,7 +241,8 @@ module _ {mails : List MailView} {controls : List ControlView} {replies : List R
       record { stamp = after.0; told = after.1; earlier = omega (arith, no_later, below) }
 
   given_after : (a c n : ℕ) (notice : Notice) (s : ServedView) (d : Driven) → served_of a served ≡ Some s → NoticesAudited replies a c d s
-      → notice_actor notice ≡ a → IsIn {A = Notice × ℕ} (zip d.passes.collects.taken d.passes.collects.stamps) (notice, n) → IsGivenAfter (trace_of a actors) c notice n
+      → notice_actor notice ≡ a → IsIn {A = Notice × ℕ} (zip d.passes.collects.taken d.passes.collects.stamps) (notice, n)
+      → IsGivenAfter (trace_of a actors) c notice n
   given_after a c n notice s d e audit of at =
       let given = put_with notice_actor a d.passes.collects.taken d.passes.collects.stamps audit.endpoint.pass.given audit.endpoint.pass.stamps notice n audit.stamped of at in
       let there = (actor_found a s e).given audit.endpoint (in_from_contains s.passes.notices.items audit.endpoint audit.sits) notice n given in

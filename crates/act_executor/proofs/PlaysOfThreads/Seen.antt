@@ -1,13 +1,13 @@
 -- What stands before one step of a thread: of each thread a front, with all its earlier steps.
 use Rattle.act_executor.proofs.Common.{◌≡◌, ℕ, ◌≤◌, ◌<◌, ◌==◌, Bool, true, false, cond, List, ◌∷◌, ◌++◌, Option, Some, None, refl, ap, sym, ◌∙◌, subst}
-use Rattle.act_executor.proofs.Common.{Contains}
-use Rattle.act_executor.proofs.Common.{option_map, cons_option, eq-eqb, eqb-true, recursion_from_All, All-from_recursion, contains_map, steps_in, found_in}
-use Rattle.act_executor.proofs.Common.{Deed, OfCaller, OfActor, caller_step, actor_step, caller_steps, actor_steps, CallerThreads, ActorThreads, trace_of}
-use Rattle.act_executor.proofs.Common.{IsFrontBelow, IsMergeOf, ActorStep, CallerStep}
+use Rattle.act_executor.proofs.Common.{Contains, option_map, cons_option, eq-eqb, eqb-true, recursion_from_All, All-from_recursion, contains_map, steps_in}
+use Rattle.act_executor.proofs.Common.{found_in, Deed, OfCaller, OfActor, caller_step, actor_step, caller_steps, actor_steps, CallerThreads, ActorThreads}
+use Rattle.act_executor.proofs.Common.{trace_of, IsFrontBelow, IsMergeOf, ActorStep, CallerStep}
 use Rattle.act_causes.proofs.Found.{found_append, found_from, found_is}
+use Rattle.act_causes.proofs.Made.{deed_of}
 use Rattle.act_executor.proofs.Lists.Cuts.{contains_given, step_seen}
 
--- ---- the steps of one caller, and of one actor
+-- ---- the steps of one thread
 
 -- a deed that gives a step of the caller's is that step of it
 pub deed_of_caller : (c : ℕ) (deed : Deed) (step : CallerStep) → caller_step c deed ≡ Some step → deed ≡ OfCaller c step
@@ -17,14 +17,6 @@ deed_of_caller c (OfCaller d s) step e = go (d == c) refl e
     go true is e = let same : s ≡ step = cc in λ i. OfCaller (eqb-true d c is i) (same i)
     go false is e = cc
 deed_of_caller c (OfActor a s) step e = cc
-
-deed_of_actor : (a : ℕ) (deed : Deed) (step : ActorStep) → actor_step a deed ≡ Some step → deed ≡ OfActor a step
-deed_of_actor a (OfCaller c s) step e = cc
-deed_of_actor a (OfActor b s) step e = go (b == a) refl e
-  where
-    go : (x : Bool) → (b == a) ≡ x → cond x (Some s) None ≡ Some step → OfActor b s ≡ OfActor a step
-    go true is e = let same : s ≡ step = cc in λ i. OfActor (eqb-true b a is i) (same i)
-    go false is e = cc
 
 -- what is found in a trace and in a front of it
 pub found_below : {S X : Type 0} (part : S → Option X) (m : ℕ) (trace front : List (ℕ × S)) → IsFrontBelow m trace front
@@ -39,15 +31,16 @@ found_below {S} {X} part m trace front seen = record {
 -- ---- where the merged steps are cut before one
 
 module _ {callers : CallerThreads} {actors : ActorThreads} {merged : List (ℕ × Deed)} (merge : IsMergeOf callers actors merged) where
-  -- of a caller, and of an actor, all of them have the steps of its thread
+  -- of each caller the merged deeds have the steps of its thread
   pub callers_are : (c : ℕ) → caller_steps c (steps_in merged) ≡ steps_in (trace_of c callers)
   callers_are c = sym (found_is (caller_step c) merged) ∙ ap steps_in (merge.of_callers c)
 
+  -- and of each actor
   pub actors_are : (a : ℕ) → actor_steps a (steps_in merged) ≡ steps_in (trace_of a actors)
   actors_are a = sym (found_is (actor_step a) merged) ∙ ap steps_in (merge.of_actors a)
 
   module _ (before later : List (ℕ × Deed)) (m : ℕ) where
-    -- the one is its thread's next
+    -- a caller's step there is the next of its thread
     pub caller_next : (c : ℕ) (step : CallerStep) → merged ≡ before ++ (m, OfCaller c step) ∷ later
         → trace_of c callers ≡ found_in (caller_step c) before ++ (m, step) ∷ found_in (caller_step c) later
     caller_next c step e =
@@ -56,6 +49,7 @@ module _ {callers : CallerThreads} {actors : ActorThreads} {merged : List (ℕ �
         (found_in (caller_step c) later))
         (eq-eqb c c refl)
 
+    -- and so is an actor's
     pub actor_next : (a : ℕ) (step : ActorStep) → merged ≡ before ++ (m, OfActor a step) ∷ later
         → trace_of a actors ≡ found_in (actor_step a) before ++ (m, step) ∷ found_in (actor_step a) later
     actor_next a step e =
@@ -82,6 +76,6 @@ module _ {callers : CallerThreads} {actors : ActorThreads} {before : List (ℕ �
   pub by_actor : (a n : ℕ) (step : ActorStep) → Contains (trace_of a actors) (n, step) → n < m → Contains (steps_in before) (OfActor a step)
   by_actor a n step has lt =
       let front : List (ℕ × ActorStep) = found_in (actor_step a) before in
-      contains_given (actor_step a) (steps_in before) (OfActor a step) step (λ deed e. deed_of_actor a deed step e)
+      deed_of a (steps_in before) step
       (subst (λ (l : List ActorStep). Contains l step) (found_is (actor_step a) before)
       (contains_map (λ (x : ℕ × ActorStep). x.1) front (n, step) (step_seen m (trace_of a actors) front (seen.actor a) n step has lt)))

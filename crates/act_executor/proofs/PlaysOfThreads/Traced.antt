@@ -1,8 +1,7 @@
 -- What threads did, merged by their stamps, is a play.
-use Rattle.act_executor.proofs.Common.{◌≡◌, ℕ, List, [], ◌∷◌, ◌++◌, refl, sym, ◌∙◌, subst, append_assoc, map-append, steps_in, found_in, Event, ActorSpec}
-use Rattle.act_executor.proofs.Common.{Deed, OfCaller, OfActor, caller_step, actor_step, IsCaused, AreCaused, trace_of, IsMergeOf, merge_of, SpecsFit}
-use Rattle.act_executor.proofs.Common.{IsPlayOfSteps, IsStepwisePlay, play_of, ActorStep, CallerStep, CallerThreads, ActorThreads, AreTraced}
-use Rattle.act_executor.proofs.Common.{TracedRunsArePlayed}
+use Rattle.act_executor.proofs.Common.{◌≡◌, ℕ, List, [], ◌∷◌, ◌++◌, refl, sym, ◌∙◌, subst, append_assoc, map-append, steps_in, found_in, Event, ActorSpec, Deed}
+use Rattle.act_executor.proofs.Common.{OfCaller, OfActor, caller_step, actor_step, IsCaused, AreCaused, trace_of, IsMergeOf, merge_of, SpecsFit, IsPlayOfSteps}
+use Rattle.act_executor.proofs.Common.{IsStepwisePlay, play_of, ActorStep, CallerStep, CallerThreads, ActorThreads, AreTraced, TracedRunsArePlayed}
 use Rattle.act_executor.proofs.PlaysOfThreads.Seen.{callers_are, actors_are, caller_next, actor_next, IsSeen}
 use Rattle.act_executor.proofs.PlaysOfThreads.CallerCauses.{caller_caused}
 use Rattle.act_executor.proofs.PlaysOfThreads.ActorCauses.{actor_caused}
