@@ -3,3 +3,4 @@ pub mod Actor
 pub mod StateViews
 pub mod Cast
 pub mod Casts
+pub mod Life

@@ -1,14 +1,14 @@
 -- A caller that copies, releases, submits, sends, or asks a kill.
-use Rattle.act_causes.proofs.Common.{◌≡◌, ℕ, ◌+◌, ◌<◌, ◌≤◌, Bool, true, false, cond, List, [], ◌∷◌, ◌++◌, length, Option, Some, None, Ok, All, inl, inr, refl}
+use Rattle.act_causes.proofs.Common.{◌≡◌, ℕ, ◌+◌, ◌<◌, ◌≤◌, Bool, true, false, cond, List, ◌∷◌, ◌++◌, length, Option, Some, None, Ok, All, inl, inr, refl}
 use Rattle.act_causes.proofs.Common.{ap, sym, ◌∙◌, subst, arith, get_or, ◌==◌, find, slice_get, slice_set, unwrap_or, is_some, nat_lt, list_all, eqb-true}
-use Rattle.act_causes.proofs.Common.{eqb_tells, get_or-set_same, length-set, slice_get_within, slice_get-get_or, Arg, Method, KillNote, Submit, Copy, Release}
-use Rattle.act_causes.proofs.Common.{Send, AskKill, Submission, Future, Copies, Mail, Asked, HandleRefusal, NoActor, NoHandle, NotReady, needs, number_of}
-use Rattle.act_causes.proofs.Common.{is_known, copies_held, copy_refusal, handle_refusal, send_refusal, ActorSpec, History, names, add_event, needs-none}
-use Rattle.act_causes.proofs.Common.{find-tells, copies_in, or_else, with_copy, without_copy, OwnerView, is_sent, address_at, refusal_to_submit}
-use Rattle.act_causes.proofs.Common.{sending_refusal, release_note, with_handles, with_submission, with_sent, Change, Copied, Released, Submitted, Sent}
-use Rattle.act_causes.proofs.Common.{after_change, is_known_at, cast_at, NetworkView, is_owner, SlotView, ask_follows, copy_follows, contains-last}
-use Rattle.act_causes.proofs.Common.{get_set-same, release_follows, last_follows, is_named, send_follows, submit_follows, Deed, IsNamed, owner_by, OfCaller}
-use Rattle.act_causes.proofs.Common.{ChangeMade, KillAsked}
+use Rattle.act_causes.proofs.Common.{eqb_tells, get_or-set_same, length-set, slice_get_within, slice_get-get_or, Arg, Method, KillNote, Submit, Copy}
+use Rattle.act_causes.proofs.Common.{Release, Send, AskKill, Submission, Future, Copies, Mail, Asked, HandleRefusal, NoActor, NoHandle, NotReady, needs}
+use Rattle.act_causes.proofs.Common.{number_of, is_known, copies_held, copy_refusal, handle_refusal, send_refusal, ActorSpec, History, names, add_event}
+use Rattle.act_causes.proofs.Common.{needs-none, find-tells, copies_in, or_else, with_copy, without_copy, OwnerView, is_sent, address_at, refusal_to_submit}
+use Rattle.act_causes.proofs.Common.{sending_refusal, release_note, with_handles, with_submission, with_sent, Action, Copied, Released, Submitted, Sent}
+use Rattle.act_causes.proofs.Common.{after_action, is_known_at, cast_at, NetworkView, is_owner, SlotView, ask_follows, copy_follows, contains-last}
+use Rattle.act_causes.proofs.Common.{get_set-same, release_follows, last_follows, is_named, send_follows, submit_follows, Site, IsNamed, owner_by, Caller}
+use Rattle.act_causes.proofs.Common.{KillAsked, []}
 use Rattle.act_world.specs.declared.network.MailEntry.TheVariants.{Call as CallEntry, Note as NoteEntry}
 use Rattle.act_causes.proofs.Made.{owner_changed, owner_other, owner_asked, owner_id, by_caller, actors_stay}
 use Rattle.act_causes.proofs.Places.{IsFoundAt, found_at, written_here, written_other}
@@ -28,7 +28,7 @@ actor_small casts c a small named = go (cast_at a casts) refl named
         subst (λ (n : ℕ). n ≤ 8) same told.0
 
 -- a caller that may let a handle go has one of the actor, whose cast names it
-pub holder_named : (casts : List ActorSpec) (deeds : List Deed) (h : History) (c a : ℕ) → Keeps casts deeds h → IsNamed casts c → is_some (copies_in a (owner_by casts c deeds).handles) ≡ true → names c (cast_at a casts) ≡ true
+pub holder_named : (casts : List ActorSpec) (deeds : List (Site × Action)) (h : History) (c a : ℕ) → Keeps casts deeds h → IsNamed casts c → is_some (copies_in a (owner_by casts c deeds).handles) ≡ true → names c (cast_at a casts) ≡ true
 holder_named casts deeds h c a keeps named some =
     ap (names c) (sym (cast_is casts h a keeps.casts_are)) ∙ sym (is_named h c a (owner_by casts c deeds) (owner_of casts deeds h c keeps named)) ∙ some
 
@@ -37,25 +37,25 @@ handle_there copies e = (needs-none (is_some copies) NoActor (needs (nat_lt 0 (c
 
 -- ---- a caller that changes
 
-module _ (casts : List ActorSpec) (deeds : List Deed) (h : History) (c : ℕ) (keeps : Keeps casts deeds h) (named : IsNamed casts c) where
+module _ (casts : List ActorSpec) (deeds : List (Site × Action)) (h : History) (c : ℕ) (keeps : Keeps casts deeds h) (named : IsNamed casts c) where
   pub caller_at : IsFoundAt (is_owner c) keeps.world.network.owners (owner_by casts c deeds)
   caller_at = found_at (is_owner c) keeps.world.network.owners (owner_by casts c deeds) (keeps.reached.owners c named)
 
-  -- the callers after a change of this one
-  pub owners_after : (change : Change) (new : OwnerView) → new ≡ after_change (owner_by casts c deeds) change
-      → (d : ℕ) → IsNamed casts d → find (is_owner d) (slice_set keeps.world.network.owners caller_at.place new) ≡ Some (owner_by casts d (deeds ++ OfCaller c (ChangeMade change) ∷ []))
-  owners_after change new new_is d other = elim (eqb_tells c d) [
-    | inl t ↦ subst (λ (x : ℕ). find (is_owner x) (slice_set keeps.world.network.owners caller_at.place new) ≡ Some (owner_by casts x (deeds ++ OfCaller c (ChangeMade change) ∷ []))) t.1
+  -- the callers after a action of this one
+  pub owners_after : (action : Action) (new : OwnerView) → new ≡ after_action (owner_by casts c deeds) action
+      → (d : ℕ) → IsNamed casts d → find (is_owner d) (slice_set keeps.world.network.owners caller_at.place new) ≡ Some (owner_by casts d (deeds ++ (Caller c, action) ∷ []))
+  owners_after action new new_is d other = elim (eqb_tells c d) [
+    | inl t ↦ subst (λ (x : ℕ). find (is_owner x) (slice_set keeps.world.network.owners caller_at.place new) ≡ Some (owner_by casts x (deeds ++ (Caller c, action) ∷ []))) t.1
         (written_here keeps.world.network.owners c (owner_by casts c deeds) new caller_at id ∙ ap (λ (o : OwnerView). Some o) changed)
     | inr f ↦ written_other keeps.world.network.owners c (owner_by casts c deeds) new caller_at id d f.1 ∙ keeps.reached.owners d other
-        ∙ ap (λ (o : OwnerView). Some o) (sym (owner_other casts c d deeds (ChangeMade change) f.1))
+        ∙ ap (λ (o : OwnerView). Some o) (sym (owner_other casts c d deeds action f.1))
   ]
     where
-      changed : new ≡ owner_by casts c (deeds ++ OfCaller c (ChangeMade change) ∷ [])
-      changed = new_is ∙ sym (owner_changed casts c deeds change)
+      changed : new ≡ owner_by casts c (deeds ++ (Caller c, action) ∷ [])
+      changed = new_is ∙ sym (owner_changed casts c deeds action)
 
       id : new.id ≡ c
-      id = ap (λ (o : OwnerView). o.id) changed ∙ owner_id casts c (deeds ++ OfCaller c (ChangeMade change) ∷ [])
+      id = ap (λ (o : OwnerView). o.id) changed ∙ owner_id casts c (deeds ++ (Caller c, action) ∷ [])
 
   abbrev owner : OwnerView
   owner = owner_by casts c deeds
@@ -66,23 +66,23 @@ module _ (casts : List ActorSpec) (deeds : List Deed) (h : History) (c : ℕ) (k
   abbrev slots : List SlotView
   slots = keeps.world.slots
 
-  pub copied : (a : ℕ) → copy_refusal (copies_in a (owner_by casts c deeds).handles) ≡ None → GoesOn casts deeds h (OfCaller c (ChangeMade (Copied a)))
+  pub copied : (a : ℕ) → copy_refusal (copies_in a (owner_by casts c deeds).handles) ≡ None → GoesOn casts deeds h (Caller c, Copied a)
   copied a free =
       let copies = copies_held (copies_in a owner.handles) + 1 in
       let new = with_handles owner (with_copy a owner.handles) in
       let told : Ok copies ≡ or_else (copy_refusal (copies_in a owner.handles)) copies = ap (λ (r : Option HandleRefusal). or_else r copies) (sym free) in
-      go_on casts deeds h (OfCaller c (ChangeMade (Copied a))) (Copy c a) (Copies copies) (record { network = record network { owners = slice_set network.owners caller_at.place new }; slots = slots }) keeps refl named
+      go_on casts deeds h (Caller c, Copied a) (Copy c a) (Copies copies) (record { network = record network { owners = slice_set network.owners caller_at.place new }; slots = slots }) keeps refl named
       (copy_follows h network slots c a caller_at.place copies owner new keeps.lawful keeps.reached.refines caller_at.at caller_at.is told refl)
       (owners_after (Copied a) new refl) keeps.reached.inboxes keeps.reached.room
-      (actors_stay deeds (OfCaller c (ChangeMade (Copied a))) h (add_event h (Copy c a)) (by_caller c (ChangeMade (Copied a))) refl refl refl keeps.actors) tt
+      (actors_stay deeds (Caller c, Copied a) h (add_event h (Copy c a)) (by_caller c (Copied a)) refl refl refl keeps.actors) tt
 
-  pub submitted : (a : ℕ) (method : Method) (args : List Arg) → refusal_to_submit (owner_by casts c deeds) a args ≡ None → GoesOn casts deeds h (OfCaller c (ChangeMade (Submitted a method args)))
+  pub submitted : (a : ℕ) (method : Method) (args : List Arg) → refusal_to_submit (owner_by casts c deeds) a args ≡ None → GoesOn casts deeds h (Caller c, Submitted a method args)
   submitted a method args free =
       let new = with_submission owner a method args in
-      go_on casts deeds h (OfCaller c (ChangeMade (Submitted a method args))) (Submit c a method args) (Future c (length owner.calls)) (record { network = record network { owners = slice_set network.owners caller_at.place new }; slots = slots }) keeps refl named
+      go_on casts deeds h (Caller c, Submitted a method args) (Submit c a method args) (Future c (length owner.calls)) (record { network = record network { owners = slice_set network.owners caller_at.place new }; slots = slots }) keeps refl named
       (submit_follows h network slots c a caller_at.place (length owner.calls) method args owner new keeps.lawful keeps.reached.refines caller_at.at caller_at.is free refl refl)
       (owners_after (Submitted a method args) new refl) keeps.reached.inboxes keeps.reached.room
-      (actors_stay deeds (OfCaller c (ChangeMade (Submitted a method args))) h (add_event h (Submit c a method args)) (by_caller c (ChangeMade (Submitted a method args))) refl refl refl keeps.actors) tt
+      (actors_stay deeds (Caller c, Submitted a method args) h (add_event h (Submit c a method args)) (by_caller c (Submitted a method args)) refl refl refl keeps.actors) tt
 
   -- a release tells of the last copy, or of none
   release_told : (a : ℕ) (last : Bool) → handle_refusal (copies_in a (owner_by casts c deeds).handles) ≡ None → (copies_held (copies_in a (owner_by casts c deeds).handles) == 1) ≡ last
@@ -92,35 +92,35 @@ module _ (casts : List ActorSpec) (deeds : List Deed) (h : History) (c : ℕ) (k
       ap (λ (r : Option HandleRefusal). or_else r (cond last (Some (release_note owner a)) None)) (sym free)
       ∙ ap (λ (b : Bool). or_else (handle_refusal (copies_in a owner.handles)) (cond b (Some (release_note owner a)) None)) (sym is)
 
-  pub released : (a : ℕ) → handle_refusal (copies_in a (owner_by casts c deeds).handles) ≡ None → GoesOn casts deeds h (OfCaller c (ChangeMade (Released a)))
+  pub released : (a : ℕ) → handle_refusal (copies_in a (owner_by casts c deeds).handles) ≡ None → GoesOn casts deeds h (Caller c, Released a)
   released a free = go (copies_held (copies_in a owner.handles) == 1) refl
     where
       new : OwnerView
       new = with_handles owner (without_copy a owner.handles)
 
-      go : (last : Bool) → (copies_held (copies_in a (owner_by casts c deeds).handles) == 1) ≡ last → GoesOn casts deeds h (OfCaller c (ChangeMade (Released a)))
+      go : (last : Bool) → (copies_held (copies_in a (owner_by casts c deeds).handles) == 1) ≡ last → GoesOn casts deeds h (Caller c, Released a)
       go true is =
-          go_on casts deeds h (OfCaller c (ChangeMade (Released a))) (Release c a) (Mail (length network.mail))
+          go_on casts deeds h (Caller c, Released a) (Release c a) (Mail (length network.mail))
           (record { network = record network { owners = slice_set network.owners caller_at.place new; mail = network.mail ++ NoteEntry (release_note owner a) ∷ [] }; slots = slots }) keeps refl named
           (last_follows h network (network.mail ++ NoteEntry (release_note owner a) ∷ []) slots c a caller_at.place (length network.mail) (release_note owner a) owner new
           keeps.lawful keeps.reached.refines caller_at.at caller_at.is (release_told a true free is) refl refl refl)
           (owners_after (Released a) new refl) keeps.reached.inboxes keeps.reached.room
-          (actors_stay deeds (OfCaller c (ChangeMade (Released a))) h (add_event h (Release c a)) (by_caller c (ChangeMade (Released a))) refl refl refl keeps.actors) tt
+          (actors_stay deeds (Caller c, Released a) h (add_event h (Release c a)) (by_caller c (Released a)) refl refl refl keeps.actors) tt
       go false is =
-          go_on casts deeds h (OfCaller c (ChangeMade (Released a))) (Release c a) (Copies (copies_held (copies_in a new.handles)))
+          go_on casts deeds h (Caller c, Released a) (Release c a) (Copies (copies_held (copies_in a new.handles)))
           (record { network = record network { owners = slice_set network.owners caller_at.place new }; slots = slots }) keeps refl named
           (release_follows h network slots c a caller_at.place (copies_held (copies_in a new.handles)) owner new new
           keeps.lawful keeps.reached.refines caller_at.at caller_at.is (release_told a false free is) refl (sym (get_or-set_same network.owners caller_at.place new new caller_at.below)) refl)
           (owners_after (Released a) new refl) keeps.reached.inboxes keeps.reached.room
-          (actors_stay deeds (OfCaller c (ChangeMade (Released a))) h (add_event h (Release c a)) (by_caller c (ChangeMade (Released a))) refl refl refl keeps.actors) tt
+          (actors_stay deeds (Caller c, Released a) h (add_event h (Release c a)) (by_caller c (Released a)) refl refl refl keeps.actors) tt
 
-  pub sent : (k : ℕ) → sending_refusal (owner_by casts c deeds) k ≡ None → GoesOn casts deeds h (OfCaller c (ChangeMade (Sent k)))
+  pub sent : (k : ℕ) → sending_refusal (owner_by casts c deeds) k ≡ None → GoesOn casts deeds h (Caller c, Sent k)
   sent k free = go (slice_get owner.calls k) refl free
     where
       new : OwnerView
       new = with_sent owner k
 
-      go : (o : Option Submission) → slice_get (owner_by casts c deeds).calls k ≡ o → send_refusal (owner_by casts c deeds).kept k (is_sent (owner_by casts c deeds) k) o ≡ None → GoesOn casts deeds h (OfCaller c (ChangeMade (Sent k)))
+      go : (o : Option Submission) → slice_get (owner_by casts c deeds).calls k ≡ o → send_refusal (owner_by casts c deeds).kept k (is_sent (owner_by casts c deeds) k) o ≡ None → GoesOn casts deeds h (Caller c, Sent k)
       go None at e = cc
       go (Some call) at e =
           let is = owner_of casts deeds h c keeps named in
@@ -131,13 +131,13 @@ module _ (casts : List ActorSpec) (deeds : List Deed) (h : History) (c : ℕ) (k
           let marks : length owner.sent ≡ length owner.calls = is.marks ∙ ap (λ (calls : List Submission). length calls) (sym is.calls) in
           let within : k < length owner.sent = omega arith in
           let marked : is_sent new k ≡ true = ap (λ (o : Option Bool). unwrap_or o false) (get_set-same owner.sent k (get_or owner.sent k false) true (slice_get-get_or owner.sent k false within)) in
-          let after_is : owner_by casts c (deeds ++ OfCaller c (ChangeMade (Sent k)) ∷ []) ≡ new = owner_changed casts c deeds (Sent k) in
-          go_on casts deeds h (OfCaller c (ChangeMade (Sent k))) (Send c k) (Mail (length network.mail))
+          let after_is : owner_by casts c (deeds ++ (Caller c, Sent k) ∷ []) ≡ new = owner_changed casts c deeds (Sent k) in
+          go_on casts deeds h (Caller c, Sent k) (Send c k) (Mail (length network.mail))
           (record { network = record network { owners = slice_set network.owners caller_at.place new; mail = network.mail ++ CallEntry (record { caller = c; actor = address.0; number = address.1; future = k }) ∷ [] }; slots = slots }) keeps refl named
           (send_follows h network slots c k caller_at.place (length network.mail) owner new address (network.mail ++ CallEntry (record { caller = c; actor = address.0; number = address.1; future = k }) ∷ [])
           keeps.lawful keeps.reached.refines (record { place_is = caller_at.at; owner_is = caller_at.is }) free address_is refl refl refl)
           (owners_after (Sent k) new refl) keeps.reached.inboxes keeps.reached.room
-          (actors_stay deeds (OfCaller c (ChangeMade (Sent k))) h (add_event h (Send c k)) (by_caller c (ChangeMade (Sent k))) refl refl refl keeps.actors)
+          (actors_stay deeds (Caller c, Sent k) h (add_event h (Send c k)) (by_caller c (Sent k)) refl refl refl keeps.actors)
           (record {
             named = named;
             known = subst (λ (o : OwnerView). is_known_at o k ≡ true) (sym after_is) known;
@@ -146,7 +146,7 @@ module _ (casts : List ActorSpec) (deeds : List Deed) (h : History) (c : ℕ) (k
 
   -- ---- a kill
 
-  pub asked : (a : ℕ) → All (λ cast. cast.actor ≤ 8) casts → handle_refusal (copies_in a (owner_by casts c deeds).handles) ≡ None → GoesOn casts deeds h (OfCaller c (KillAsked a))
+  pub asked : (a : ℕ) → All (λ cast. cast.actor ≤ 8) casts → handle_refusal (copies_in a (owner_by casts c deeds).handles) ≡ None → GoesOn casts deeds h (Caller c, KillAsked a)
   asked a small free =
       let note : KillNote = record { caller = owner.id; actor = a } in
       let told : Ok note ≡ or_else (handle_refusal (copies_in a owner.handles)) note = ap (λ (r : Option HandleRefusal). or_else r note) (sym free) in
@@ -155,8 +155,8 @@ module _ (casts : List ActorSpec) (deeds : List Deed) (h : History) (c : ℕ) (k
       let room : 9 ≤ length network.asked = keeps.reached.room in
       let within : a < length network.asked = omega arith in
       let long : length (slice_set network.asked a true) ≡ length network.asked = length-set network.asked a true in
-      go_on casts deeds h (OfCaller c (KillAsked a)) (AskKill c a) Asked (record { network = record network { asked = slice_set network.asked a true }; slots = slots }) keeps refl named
+      go_on casts deeds h (Caller c, KillAsked a) (AskKill c a) Asked (record { network = record network { asked = slice_set network.asked a true }; slots = slots }) keeps refl named
       (ask_follows h network slots c a caller_at.place note owner keeps.lawful keeps.reached.refines caller_at.at caller_at.is told within)
       (λ d other. keeps.reached.owners d other ∙ ap (λ (o : OwnerView). Some o) (sym (owner_asked casts c d a deeds))) keeps.reached.inboxes (omega arith)
-      (actors_stay deeds (OfCaller c (KillAsked a)) h (add_event h (AskKill c a)) (by_caller c (KillAsked a)) refl refl refl keeps.actors)
+      (actors_stay deeds (Caller c, KillAsked a) h (add_event h (AskKill c a)) (by_caller c (KillAsked a)) refl refl refl keeps.actors)
       (here, contains-last a h.asked)

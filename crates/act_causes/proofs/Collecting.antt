@@ -1,10 +1,10 @@
 -- A caller that collects a notice.
-use Rattle.act_causes.proofs.Common.{◌≡◌, ℕ, ◌<◌, ◌≤◌, Bool, true, false, cond, List, length, Option, Some, None, All, refl, ap, sym, ◌∙◌, subst, arith, get_or}
-use Rattle.act_causes.proofs.Common.{Contains, slice_get, slice_set, option_map, option_and_then, unwrap_or, is_some, slice_get-get_or, KindState, Notice}
-use Rattle.act_causes.proofs.Common.{Answered, Death, Reply, Collect, Post, RunItem, WorldRefusal, NoReply, Answer, answer_at, needs, ActorSpec, History}
-use Rattle.act_causes.proofs.Common.{runs_of, answer_of, did, refusal_of, outcome_by, add_event, copies_in, Noticed, Posted, told_collected, reply_as, reply_at}
-use Rattle.act_causes.proofs.Common.{posted_notice, collect_follows, get_set-same, Deed, IsNamed, IsReplyGiven, owner_by, IsEventOf, OfActor, OfCaller}
-use Rattle.act_causes.proofs.Common.{ChangeMade, DeathTold}
+use Rattle.act_causes.proofs.Common.{◌≡◌, ℕ, ◌<◌, ◌≤◌, Bool, true, false, cond, List, length, Option, Some, None, All, refl, ap, sym, ◌∙◌, subst, arith}
+use Rattle.act_causes.proofs.Common.{get_or, Contains, slice_get, slice_set, option_map, option_and_then, unwrap_or, is_some, slice_get-get_or, KindState}
+use Rattle.act_causes.proofs.Common.{Notice, Answered, Death, Reply, Collect, Post, RunItem, WorldRefusal, NoReply, Answer, answer_at, needs, ActorSpec}
+use Rattle.act_causes.proofs.Common.{History, runs_of, answer_of, did, refusal_of, outcome_by, add_event, copies_in, Noticed, Posted, told_collected}
+use Rattle.act_causes.proofs.Common.{reply_as, reply_at, posted_notice, collect_follows, get_set-same, Site, Action, IsNamed, IsReplyGiven, owner_by}
+use Rattle.act_causes.proofs.Common.{IsEventOf, Actor, Caller, DeathTold}
 use Rattle.act_rules.specs.declared.history.Post.TheVariants.{Reply as ReplyPost, Death as DeathPost}
 use Rattle.act_owner.specs.Owner.{OwnerView, is_known_dead as knows_dead, collect_result, after_collect, with_death, KnowsDeath}
 use Rattle.act_causes.proofs.Made.{marks_are, by_caller, actors_stay}
@@ -18,13 +18,13 @@ reply_is c reply item caller future =
     ap (λ (x : ℕ). record { actor = reply.actor; caller = x; future = item.future; place = reply.place; answer = reply.answer }) (sym caller)
     ∙ ap (λ (x : ℕ). record { actor = reply.actor; caller = reply.caller; future = x; place = reply.place; answer = reply.answer }) future
 
-module _ (casts : List ActorSpec) (deeds : List Deed) (h : History) (c : ℕ) (keeps : Keeps casts deeds h) (named : IsNamed casts c) where
+module _ (casts : List ActorSpec) (deeds : List (Site × Action)) (h : History) (c : ℕ) (keeps : Keeps casts deeds h) (named : IsNamed casts c) where
   abbrev owner : OwnerView
   owner = owner_by casts c deeds
 
   -- a post that there is, and what it tells
-  collects : (j : ℕ) (post : Post) (notice : Notice) → IsEventOf h (OfCaller c (ChangeMade (Noticed notice))) (Collect j) → slice_get h.posts j ≡ Some post → posted_notice h post ≡ Some (record { caller = c; notice = notice })
-      → KnowsDeath notice (owner_by casts c deeds) (after_collect (owner_by casts c deeds) notice) → GoesOn casts deeds h (OfCaller c (ChangeMade (Noticed notice)))
+  collects : (j : ℕ) (post : Post) (notice : Notice) → IsEventOf h (Caller c, Noticed notice) (Collect j) → slice_get h.posts j ≡ Some post → posted_notice h post ≡ Some (record { caller = c; notice = notice })
+      → KnowsDeath notice (owner_by casts c deeds) (after_collect (owner_by casts c deeds) notice) → GoesOn casts deeds h (Caller c, Noticed notice)
   collects j post notice is at tells known =
       let here = caller_at casts deeds h c keeps named in
       let told : Posted = record { caller = c; notice = notice } in
@@ -33,15 +33,15 @@ module _ (casts : List ActorSpec) (deeds : List Deed) (h : History) (c : ℕ) (k
       let free : refusal_of h (Collect j) ≡ None = ap (λ (o : Option Post). needs (is_some o) NoReply None) at in
       let follows = collect_follows h keeps.world.network keeps.world.slots j told keeps.lawful keeps.reached.refines there here.place owner new (told_collected c (collect_result owner notice))
       (record { place_is = here.at; owner_is = here.is }) refl refl known in
-      go_on casts deeds h (OfCaller c (ChangeMade (Noticed notice))) (Collect j) (did h (Collect j))
+      go_on casts deeds h (Caller c, Noticed notice) (Collect j) (did h (Collect j))
       (record { network = record keeps.world.network { owners = slice_set keeps.world.network.owners here.place new }; slots = keeps.world.slots }) keeps is named
       (ap (λ (r : Option WorldRefusal). outcome_by h (Collect j) r) (sym free), follows.1)
       (owners_after casts deeds h c keeps named (Noticed notice) new refl) keeps.reached.inboxes keeps.reached.room
-      (actors_stay deeds (OfCaller c (ChangeMade (Noticed notice))) h (add_event h (Collect j)) (by_caller c (ChangeMade (Noticed notice))) refl refl refl keeps.actors) tt
+      (actors_stay deeds (Caller c, Noticed notice) h (add_event h (Collect j)) (by_caller c (Noticed notice)) refl refl refl keeps.actors) tt
 
-  pub heard_death : (a : ℕ) → All (λ cast. cast.actor ≤ 8) casts → Contains deeds (OfActor a (DeathTold c)) → GoesOn casts deeds h (OfCaller c (ChangeMade (Noticed (Death a))))
+  pub heard_death : (a : ℕ) → All (λ cast. cast.actor ≤ 8) casts → Contains deeds (Actor a, DeathTold c) → GoesOn casts deeds h (Caller c, Noticed (Death a))
   heard_death a small told =
-      let post = keeps.left (OfActor a (DeathTold c)) told in
+      let post = keeps.left (Actor a, DeathTold c) told in
       collects post.0 (DeathPost c a) (Death a) (post.0, refl, post.1) post.1 refl (λ listed. known listed)
     where
       known : is_some (copies_in a (owner_by casts c deeds).handles) ≡ true → knows_dead (after_collect (owner_by casts c deeds) (Death a)) a ≡ true
@@ -52,7 +52,7 @@ module _ (casts : List ActorSpec) (deeds : List Deed) (h : History) (c : ℕ) (k
           ap (λ (b : Bool). knows_dead (cond b (with_death owner a) owner) a) listed
           ∙ ap (λ (o : Option Bool). unwrap_or o false) (get_set-same owner.dead a (get_or owner.dead a false) true (slice_get-get_or owner.dead a false within))
 
-  pub heard_reply : (reply : Reply) → IsReplyGiven casts deeds c reply → GoesOn casts deeds h (OfCaller c (ChangeMade (Noticed (Answered reply))))
+  pub heard_reply : (reply : Reply) → IsReplyGiven casts deeds c reply → GoesOn casts deeds h (Caller c, Noticed (Answered reply))
   heard_reply reply r =
       let ran : slice_get (runs_of reply.actor h) reply.place ≡ Some r.item = ap (λ (items : List RunItem). slice_get items reply.place) (keeps.actors.runs reply.actor) ∙ r.ran in
       let has : HasPost h (ReplyPost c reply.actor reply.place) = subst (λ (x : ℕ). HasPost h (ReplyPost x reply.actor reply.place)) r.for_caller (keeps.replied reply.actor reply.place r.item ran) in

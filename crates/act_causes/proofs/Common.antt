@@ -2,25 +2,26 @@
 pub use Rattle.act_actor.specs.Actor.{arrival_at, note_arrival_at, packet_of_item}
 pub use Rattle.act_actor.specs.View.{ActorView, RetiredView}
 pub use Rattle.act_actor.specs.declared.cast.Cast.{Cast}
-pub use Rattle.act_causes.specs.Deeds.{AreCaused, Deed, IsActorCaused, IsCallerCaused, IsCaused, IsGiven, IsLastNote, IsNamed, IsReplyGiven, IsSentCall}
-pub use Rattle.act_causes.specs.Deeds.{IsSentTo, OfActor, OfCaller, actor_step, actor_steps, caller_step, caller_steps, left_by, opened_of, owner_by}
-pub use Rattle.act_causes.specs.Merge.{ActorThreads, AreApart, CallerThreads, IsFrontBelow, IsMergeOf, NeverFall, Thread, trace_in, trace_of}
+pub use Rattle.act_causes.specs.Deeds.{AreCaused, IsCaused, IsGiven, IsLastNote, IsNamed, IsReplyGiven, IsSentCall, left_by, opened_of, owner_by}
+pub use Rattle.act_causes.specs.Merge.{AreBelow, IsFrontBelow, IsMergeOf, NeverFall, Threads, site_number}
 pub use Rattle.act_causes.specs.Plays.{IsEventOf, IsPlayOfDeeds, SpecsFit}
-pub use Rattle.act_drive.specs.CallerSteps.{CallerMayDo, CallerStep, ChangeMade, KillAsked, change_made, changes_made, owner_after_steps}
+pub use Rattle.act_rules.specs.Actions.{Site, Caller, Actor, Action, is_site, action_at, actions_of, KillAsked, Copied, Noticed, Released, Sent, Submitted}
+pub use Rattle.act_rules.specs.Actions.{CallRun, DeathTold, KillTaken, CallTaken, NoteTaken, Retirement}
+pub use Rattle.act_owner.specs.Life.{CallerMayDo, after_actions, after_action, is_known_at}
+pub use Rattle.act_actor.specs.Life.{ActorMayDo, call_run, has_died_in, has_ended_in, is_kill_taken, is_retirement, log_of}
 pub use Rattle.act_handles.specs.Handles.{copies_in, or_else, with_copy, without_copy}
 pub use Rattle.act_inbox.proofs.Lanes.{one_more}
 pub use Rattle.act_inbox.proofs.Opening.{no_notes, opened, opened_is_inbox}
 pub use Rattle.act_inbox.proofs.Packets.{listed_next, new_tells, unlisted_next, waits_holding}
 pub use Rattle.act_inbox.proofs.Taking.{next_taken, sound_then}
-pub use Rattle.act_inbox.specs.Inbox.{InboxView, IsNextTaken, IsOpened, arrival_of, handed_of, is_lane_of, lane_at_first, lane_of, next_of, note_of, with_held}
+pub use Rattle.act_inbox.specs.Inbox.{InboxView, IsNextTaken, IsOpened, arrival_of, handed_of, is_lane_of, lane_at_first, lane_of, next_of, note_of}
+pub use Rattle.act_inbox.specs.Inbox.{with_held}
 pub use Rattle.act_inbox.specs.View.{IsInbox}
 pub use Rattle.act_inbox.specs.declared.inbox.Lane.{Lane}
 pub use Rattle.act_lists.proofs.Lists.{slice_get_pushed}
 pub use Rattle.act_mailbox.specs.Traces.{found_in, steps_in}
-pub use Rattle.act_mailbox.specs.declared.mail.Letter.TheVariants.{Call, Note}
 pub use Rattle.act_owner.proofs.Life.{after_all-append, packet_stays_all, places_all, step}
 pub use Rattle.act_owner.proofs.Told.{sent_stays_all}
-pub use Rattle.act_owner.specs.Life.{Change, Copied, Noticed, Released, Sent, Submitted, after_change, after_changes, is_known_at}
 pub use Rattle.act_owner.specs.Owner.{OwnerView, address_at, after_reply_that, is_known_dead, is_of_call, is_sent, opened_under, opened_with, packet_at}
 pub use Rattle.act_owner.specs.Owner.{packet_for, refusal_to_submit, release_note, sending_refusal, with_death, with_handles, with_sent, with_submission}
 pub use Rattle.act_owner.specs.declared.owner.Collected.TheVariants.{First, Late, Stray}
@@ -36,8 +37,8 @@ pub use Rattle.act_rules.proofs.RanAll.{AllNamed, named_call}
 pub use Rattle.act_rules.proofs.Retired.{gone_step, times-push}
 pub use Rattle.act_rules.proofs.Steps.{IsKept, outcomes-append}
 pub use Rattle.act_rules.specs.Consistent.{IsPrefix}
-pub use Rattle.act_rules.specs.History.{ActorSpec, History, answer_of, calls_of, cast_of, contains, copies_of, count_pairs, first_answer, has_letter, is_caller}
-pub use Rattle.act_rules.specs.History.{is_dead, is_ended, is_retired, kept_of, names, next_item, opening, ran_count, run_item, runs_of, under}
+pub use Rattle.act_rules.specs.History.{ActorSpec, History, answer_of, calls_of, cast_of, contains, copies_of, count_pairs, first_answer, has_letter}
+pub use Rattle.act_rules.specs.History.{is_caller, is_dead, is_ended, is_retired, kept_of, names, next_item, opening, ran_count, run_item, runs_of, under}
 pub use Rattle.act_rules.specs.Laws.{history}
 pub use Rattle.act_rules.specs.Rules.{Outcome, add_event, after, after_by, after_run, and_also, did, is_last, outcome_by, outcome_of, outcomes, refusal_of}
 pub use Rattle.act_rules.specs.Rules.{was_sent}
@@ -58,8 +59,6 @@ pub use Rattle.act_rules.specs.declared.outcome.HandleRefusal.TheVariants.{NoAct
 pub use Rattle.act_rules.specs.declared.outcome.SendRefusal.TheVariants.{NotReady}
 pub use Rattle.act_rules.specs.declared.outcome.WorldRefusal.{WorldRefusal}
 pub use Rattle.act_rules.specs.declared.outcome.WorldRefusal.TheVariants.{Handle, NoCaller, NoReply}
-pub use Rattle.act_serve.specs.ActorSteps.{ActorMayDo, ActorStep, CallRun, DeathTold, KillTaken, LetterTaken, Retirement, call_run, has_died_in, has_ended_in}
-pub use Rattle.act_serve.specs.ActorSteps.{is_kill_step, is_retirement, log_of_steps}
 pub use Rattle.act_types.specs.KindState.{CounterAt, KindState}
 pub use Rattle.act_types.specs.declared.call.Arg.{Arg}
 pub use Rattle.act_types.specs.declared.call.Arg.TheVariants.{Plain}
@@ -90,8 +89,8 @@ pub use Rattle.act_world.proofs.Seeing.{is_named}
 pub use Rattle.act_world.proofs.Sending.{send_follows}
 pub use Rattle.act_world.proofs.Submitting.{submit_follows}
 pub use Rattle.act_world.specs.Network.{NetworkView, entry_actor, is_owner, named_as, naming_refusal, packet_in, told_collected}
-pub use Rattle.act_world.specs.Refines.{IsLive, IsOwnerAt, IsOwnerOf, IsStage, Refines, call_key, is_death_to, is_note_of, mail_entry, posted_notice, reply_as}
-pub use Rattle.act_world.specs.Refines.{reply_at}
+pub use Rattle.act_world.specs.Refines.{IsLive, IsOwnerAt, IsOwnerOf, IsStage, Refines, call_key, is_death_to, is_note_of, mail_entry, posted_notice}
+pub use Rattle.act_world.specs.Refines.{reply_as, reply_at}
 pub use Rattle.act_world.specs.Slots.{HasArrived, HasNoted, HasRunNext, HasTakenCall, HasTakenPacket, bury_ended, dead_slot, is_dead_slot}
 pub use Rattle.act_world.specs.View.{Died, Ended, Runs, SlotView, Vacant, WorldView}
 pub use Rattle.act_world.specs.declared.network.CallKey.{CallKey}
@@ -99,13 +98,13 @@ pub use Rattle.act_world.specs.declared.network.MailEntry.{MailEntry}
 pub use Rattle.act_world.specs.declared.network.Posted.{Posted}
 pub use Rattle.std.proofs.Common.{All, AllPairs, Bool, Contains, IfSome, IsOk, List, None, Ok, Option, Some, [], ap, arith, cond, false, filter, filter_map}
 pub use Rattle.std.proofs.Common.{find, get_or, inl, inr, is_some, length, map, nat_le, nat_lt, option_and_then, option_map, pos, position, refl, replicate}
-pub use Rattle.std.proofs.Common.{slice_get, slice_index_or, slice_set, subst, suc, sym, true, unwrap_or, zero, ℕ, ◌&&◌, ◌++◌, ◌+◌, ◌-◌, ◌<◌, ◌==◌, ◌||◌, ◌∙◌}
-pub use Rattle.std.proofs.Common.{◌∷◌, ◌≡◌, ◌≢◌, ◌≤◌, ◌⊎◌}
+pub use Rattle.std.proofs.Common.{slice_get, slice_index_or, slice_set, subst, suc, sym, true, unwrap_or, zero, ℕ, ◌&&◌, ◌++◌, ◌+◌, ◌-◌, ◌<◌, ◌==◌, ◌||◌}
+pub use Rattle.std.proofs.Common.{◌∙◌, ◌∷◌, ◌≡◌, ◌≢◌, ◌≤◌, ◌⊎◌}
 pub use Rattle.std.proofs.Math.Bool.{or-false}
-pub use Rattle.std.proofs.lemmas.Bool.{and_parts, eq-eqb, eqb-true, leb-false, leb-true, ltb-true, ne_eqb}
+pub use Rattle.std.proofs.lemmas.Bool.{and_parts, eq-eqb, eqb-true, leb-false, leb-true, ltb-true}
 pub use Rattle.std.proofs.lemmas.Bool.Decides.{eqb_tells, leb_tells}
 pub use Rattle.std.proofs.lemmas.List.{append-nil, append_assoc, get_or-set_same, length-set}
-pub use Rattle.std.proofs.lemmas.List.Elements.{All-cons, All-contains, All-from_recursion, All-head, All-nil, All-tail, Contains-push_cases, filter_map-append}
+pub use Rattle.std.proofs.lemmas.List.Elements.{All-cons, All-contains, All-from_recursion, All-nil, Contains-push_cases, filter_map-append}
 pub use Rattle.std.proofs.lemmas.List.Elements.{recursion_from_All}
 pub use Rattle.std.proofs.lemmas.List.Folds.{find-set, find_past, list_any-append}
 pub use Rattle.std.proofs.lemmas.List.FromFn.{get_or-map-range_with_len, length-map-range_with_len}

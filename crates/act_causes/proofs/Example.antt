@@ -1,14 +1,12 @@
 -- Deeds of each sort that meet all premises: one caller, a counter that ran its call and retired, and one that died.
-use Rattle.act_causes.proofs.Common.{◌≡◌, ◌≢◌, ℕ, zero, suc, ◌≤◌, Bool, true, false, List, [], ◌∷◌, ◌++◌, length, None, Ok, All, AllPairs, refl, subst, arith}
-use Rattle.act_causes.proofs.Common.{Contains, ◌==◌, ◌||◌, pos, eqb-true, All-nil, All-cons, CounterAt, Plain, Good, Answered, Death, Reply, ReleaseNote}
-use Rattle.act_causes.proofs.Common.{RunItem, ActorSpec, items_of, All-two, Copied, Released, Submitted, Sent, Noticed, packet_of_item, Deed, AreCaused}
-use Rattle.act_causes.proofs.Common.{SpecsFit, IsActorCaused, IsCallerCaused, IsGiven, IsSentTo, OfActor, OfCaller, actor_steps, owner_by, CallerMayDo}
-use Rattle.act_causes.proofs.Common.{CallerStep, ChangeMade, KillAsked, Call, Note, Change, cast_at, contains, ActorMayDo, ActorStep}
-use Rattle.act_causes.proofs.Common.{CallRun, DeathTold, KillTaken, LetterTaken, Retirement, Some}
+use Rattle.act_causes.proofs.Common.{◌≡◌, ◌≢◌, ℕ, zero, suc, ◌≤◌, Bool, true, false, List, ◌∷◌, ◌++◌, length, None, Ok, All, AllPairs, refl, subst, arith}
+use Rattle.act_causes.proofs.Common.{Contains, ◌==◌, pos, eqb-true, All-nil, All-cons, CounterAt, Plain, Good, Answered, Death, Reply, ReleaseNote, RunItem}
+use Rattle.act_causes.proofs.Common.{ActorSpec, items_of, All-two, Copied, Released, Submitted, Sent, Noticed, packet_of_item, Site, Action, AreCaused}
+use Rattle.act_causes.proofs.Common.{SpecsFit, IsGiven, Actor, Caller, actions_of, owner_by, CallerMayDo, KillAsked, cast_at, contains, ActorMayDo, CallRun}
+use Rattle.act_causes.proofs.Common.{DeathTold, KillTaken, CallTaken, NoteTaken, Retirement, Some, KillNote, IsCaused, [], ◌||◌}
 use Rattle.act_types.specs.declared.call.Method.TheVariants as method
 use Rattle.act_types.specs.declared.call.Value.TheVariants as value
 use Rattle.act_actor.specs.Actor.{note_after_calls}
-use Rattle.act_mailbox.specs.declared.control.Asked.{Asked}
 
 -- a counter that this caller may call
 abbrev counter : ℕ → ActorSpec
@@ -27,20 +25,20 @@ abbrev note : ReleaseNote
 note = record { caller = 1; actor = 1; after = 1 }
 
 -- somebody asked it
-abbrev kill : Asked
-kill = record { asker = 0; note = record { caller = 1; actor = 2 } }
+abbrev kill : KillNote
+kill = record { caller = 1; actor = 2 }
 
-abbrev by_one : Change → Deed
-by_one change = OfCaller 1 (ChangeMade change)
+abbrev by_one : Action → Site × Action
+by_one action = (Caller 1, action)
 
-abbrev front : List Deed
+abbrev front : List (Site × Action)
 front =
-    by_one (Submitted 1 method.Add (Plain (value.Int (pos 5)) ∷ [])) ∷ by_one (Copied 1) ∷ OfCaller 1 (KillAsked 2) ∷ by_one (Sent 0) ∷
-    OfActor 1 (LetterTaken (Call (packet_of_item 1 item))) ∷ OfActor 2 (KillTaken kill) ∷ OfActor 1 (CallRun item) ∷ OfActor 2 (DeathTold 1) ∷
-    by_one (Noticed (Answered reply)) ∷ by_one (Released 1) ∷ by_one (Released 1) ∷ by_one (Noticed (Death 2)) ∷ OfActor 1 (LetterTaken (Note note)) ∷ []
+    by_one (Submitted 1 method.Add (Plain (value.Int (pos 5)) ∷ [])) ∷ by_one (Copied 1) ∷ (Caller 1, KillAsked 2) ∷ by_one (Sent 0) ∷
+    (Actor 1, CallTaken (packet_of_item 1 item)) ∷ (Actor 2, KillTaken 0 kill) ∷ (Actor 1, CallRun item) ∷ (Actor 2, DeathTold 1) ∷
+    by_one (Noticed (Answered reply)) ∷ by_one (Released 1) ∷ by_one (Released 1) ∷ by_one (Noticed (Death 2)) ∷ (Actor 1, NoteTaken note) ∷ []
 
-abbrev deeds : List Deed
-deeds = front ++ OfActor 1 Retirement ∷ []
+abbrev deeds : List (Site × Action)
+deeds = front ++ (Actor 1, Retirement) ∷ []
 
 -- what holds of one element holds of all of a list of it alone
 pub all_one : {A : Type 0} (P : A → Type 0) (x : A) → P x → All P (x ∷ [])
@@ -76,59 +74,30 @@ only_one c e = go (1 == c) refl e
     go true is e = eqb-true 1 c is
     go false is e = cc
 
--- a step of the caller that collects nothing, and one of an actor that takes nothing
-alone : {before : List Deed} (step : CallerStep) → CallerMayDo (owner_by casts 1 before) step → IsGiven casts before 1 step → IsCallerCaused casts before 1 step
-alone step may given = record { named = refl; may = may; given = given }
+-- what the caller does, and what an actor does
+alone : {before : List (Site × Action)} (action : Action) → CallerMayDo (owner_by casts 1 before) action → IsGiven casts before (Caller 1, action) → IsCaused casts before (Caller 1, action)
+alone action may given = record { may = (refl, may); given = given }
 
-takes : {before : List Deed} (a : ℕ) (step : ActorStep) → cast_at a casts ≡ Some (counter a) → ActorMayDo a (1 ∷ []) (actor_steps a before) step
-    → IsSentTo casts before a step → IsActorCaused casts before a step
-takes a step at may sent = record { cast = counter a; at = at; may = may; sent = sent }
+takes : {before : List (Site × Action)} (a : ℕ) (action : Action) → cast_at a casts ≡ Some (counter a) → ActorMayDo a (1 ∷ []) (actions_of (Actor a) before) action
+    → IsGiven casts before (Actor a, action) → IsCaused casts before (Actor a, action)
+takes a action at may given = record { may = (counter a, at, may); given = given }
 
 -- the counter has the note of each caller that it knows
-all_noted : (c : ℕ) → contains c (1 ∷ []) ≡ true → Contains (actor_steps 1 front) (LetterTaken (Note (note_after_calls c 1 (length (items_of c (item ∷ []))))))
-all_noted c named = subst (λ (x : ℕ). Contains (actor_steps 1 front) (LetterTaken (Note (note_after_calls x 1 (length (items_of x (item ∷ []))))))) (only_one c named) (2, omega arith, refl)
+all_noted : (c : ℕ) → contains c (1 ∷ []) ≡ true → Contains (actions_of (Actor 1) front) (NoteTaken ((note_after_calls c 1 (length (items_of c (item ∷ []))))))
+all_noted c named = subst (λ (x : ℕ). Contains (actions_of (Actor 1) front) (NoteTaken ((note_after_calls x 1 (length (items_of x (item ∷ []))))))) (only_one c named) (2, omega arith, refl)
+
+-- one deed is caused, and the others after it
+then : {A B : Type 0} → A → B → A × B
+then one others = (one, others)
 
 pub caused : AreCaused casts [] deeds
-caused = (
-  alone _ refl tt,
-  (
-    alone _ refl tt,
-    (
-      alone _ refl tt,
-      (
-        alone _ refl tt,
-        (
-          takes 1 _ refl refl (record { to = refl; sent = (3, omega arith, refl); is = refl }),
-          (
-            takes 2 _ refl refl (1, (2, omega arith, refl)),
-            (
-              takes 1 _ refl (refl, (0, omega arith, refl), refl) tt,
-              (
-                takes 2 _ refl (refl, refl) tt,
-                (
-                  alone _ tt (record { caller = refl; item = item; ran = refl; for_caller = refl; future = refl; cast = counter 1; at = refl; answered = refl }),
-                  (
-                    alone _ refl tt,
-                    (
-                      alone _ refl tt,
-                      (
-                        alone _ tt (7, omega arith, refl),
-                        (
-                          takes 1 _ refl refl (record { to = refl; named = refl; gone = refl; counts = refl }),
-                          (
-                            takes 1 _ refl (refl, all_noted) tt,
-                            tt,
-                          ),
-                        ),
-                      ),
-                    ),
-                  ),
-                ),
-              ),
-            ),
-          ),
-        ),
-      ),
-    ),
-  ),
-)
+caused =
+    then (alone _ refl tt) (then (alone _ refl tt) (then (alone _ refl tt) (then (alone _ refl tt)
+    (then (takes 1 _ refl refl (record { to = refl; sent = (3, omega arith, refl); is = refl }))
+    (then (takes 2 _ refl refl (1, (2, omega arith, refl)))
+    (then (takes 1 _ refl (refl, (0, omega arith, refl), refl) tt)
+    (then (takes 2 _ refl (refl, refl) tt)
+    (then (alone _ tt (record { caller = refl; item = item; ran = refl; for_caller = refl; future = refl; cast = counter 1; at = refl; answered = refl }))
+    (then (alone _ refl tt) (then (alone _ refl tt) (then (alone _ tt (7, omega arith, refl))
+    (then (takes 1 _ refl refl (record { to = refl; named = refl; gone = refl; counts = refl }))
+    (then (takes 1 _ refl (refl, all_noted) tt) tt)))))))))))))

@@ -1,5 +1,6 @@
 pub mod Common
 pub mod Found
+pub mod Sites
 pub mod Merging
 pub mod Made
 pub mod Places

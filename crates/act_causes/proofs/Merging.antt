@@ -1,11 +1,11 @@
--- The steps of threads, merged by their stamps.
-use Rattle.act_causes.proofs.Common.{◌≡◌, ◌≢◌, ℕ, suc, ◌≤◌, ◌<◌, ◌==◌, Bool, true, false, cond, List, [], ◌∷◌, ◌++◌, Option, Some, None, refl, sym, ap, subst}
-use Rattle.act_causes.proofs.Common.{◌∙◌, arith, find, map, nat_le, AllPairs, AllByRecursion, cons_option, option_map, eq-eqb, ne_eqb, eqb_tells, leb-true}
-use Rattle.act_causes.proofs.Common.{leb-false, All-from_recursion, recursion_from_All, All-head, All-tail, AllPairs-cons, inl, inr, Deed, OfCaller, OfActor}
-use Rattle.act_causes.proofs.Common.{caller_step, actor_step, CallerStep, ActorStep, found_in, Thread, trace_in, trace_of, AreApart, NeverFall, CallerThreads}
-use Rattle.act_causes.proofs.Common.{ActorThreads, IsFrontBelow, IsMergeOf, append-nil, ◌⊎◌}
+-- What threads did, merged by stamps.
+use Rattle.act_causes.proofs.Common.{◌≡◌, ◌≢◌, ℕ, zero, suc, ◌≤◌, ◌<◌, Bool, true, false, cond, List, ◌∷◌, ◌++◌, Option, Some, None, refl, sym, ap, subst}
+use Rattle.act_causes.proofs.Common.{◌∙◌, arith, map, nat_le, AllPairs, cons_option, option_map, leb-true, leb-false, append-nil, leb_tells, eqb_tells, inl}
+use Rattle.act_causes.proofs.Common.{inr, All-from_recursion, recursion_from_All, AllPairs-cons, Site, Caller, Actor, Action, action_at, found_in, Threads}
+use Rattle.act_causes.proofs.Common.{site_number, AreBelow, NeverFall, IsFrontBelow, IsMergeOf, []}
 pub use Rattle.act_causes.proofs.Found.{IsLeast, place_in_front}
 use Rattle.act_causes.proofs.Found.{found_append, found_from}
+use Rattle.act_causes.proofs.Sites.{action_here, action_elsewhere}
 
 -- ---- one step more, before the first with no lower stamp
 
@@ -100,158 +100,99 @@ module _ {D S : Type 0} (part : D → Option S) where
 
 -- ---- the deeds of all threads, one thread after another
 
--- each of these has another number
-abbrev IsNoneOf : {S : Type 0} → ℕ → List (Thread S) → Type 0
-IsNoneOf t threads = AllByRecursion (λ thread. t ≢ thread.number) threads
+abbrev as_deeds : Site → List (ℕ × Action) → List (ℕ × (Site × Action))
+as_deeds site trace = map (λ x. (x.0, (site, x.1))) trace
 
-apart_first : {S : Type 0} (thread : Thread S) (threads : List (Thread S)) → AreApart (thread ∷ threads) → IsNoneOf thread.number threads
-apart_first thread threads apart = recursion_from_All (λ other. thread.number ≢ other.number) threads (λ k d below. apart 0 (suc k) d (omega arith) (omega (arith, below)))
+-- of the callers and actors with numbers below n
+abbrev all_deeds : Threads → ℕ → List (ℕ × (Site × Action))
+all_deeds threads zero = []
+all_deeds threads (suc n) = as_deeds (Caller n) (threads (Caller n)) ++ (as_deeds (Actor n) (threads (Actor n)) ++ all_deeds threads n)
 
-apart_rest : {S : Type 0} (thread : Thread S) (threads : List (Thread S)) → AreApart (thread ∷ threads) → AreApart threads
-apart_rest thread threads apart i j d lt below = apart (suc i) (suc j) d (omega (arith, lt)) (omega (arith, below))
+found_here : (site : Site) (trace : List (ℕ × Action)) → found_in (action_at site) (as_deeds site trace) ≡ trace
+found_here site [] = refl
+found_here site (x ∷ trace) =
+    ap (λ (o : Option Action). cons_option (option_map (λ (found : Action). (x.0, found)) o) (found_in (action_at site) (as_deeds site trace))) (action_here site x.1)
+    ∙ ap (λ (l : List (ℕ × Action)). x ∷ l) (found_here site trace)
 
-module _ {S : Type 0} (of : ℕ → S → Deed) where
-  abbrev as_deeds : ℕ → List (ℕ × S) → List (ℕ × Deed)
-  as_deeds t trace = map (λ x. (x.0, of t x.1)) trace
+found_elsewhere : (site other : Site) → other ≢ site → (trace : List (ℕ × Action)) → found_in (action_at site) (as_deeds other trace) ≡ []
+found_elsewhere site other apart [] = refl
+found_elsewhere site other apart (x ∷ trace) =
+    ap (λ (o : Option Action). cons_option (option_map (λ (found : Action). (x.0, found)) o) (found_in (action_at site) (as_deeds other trace))) (action_elsewhere site other x.1 apart)
+    ∙ found_elsewhere site other apart trace
 
-  abbrev all_deeds : List (Thread S) → List (ℕ × Deed)
-  all_deeds [] = []
-  all_deeds (thread ∷ threads) = as_deeds thread.number thread.trace ++ all_deeds threads
+module _ (threads : Threads) (site : Site) where
+  -- what is found in those of number n, and below
+  found_two : (n : ℕ) (one two rest : List (ℕ × Action)) → found_in (action_at site) (as_deeds (Caller n) (threads (Caller n))) ≡ one → found_in (action_at site) (as_deeds (Actor n) (threads (Actor n))) ≡ two
+      → found_in (action_at site) (all_deeds threads n) ≡ rest → found_in (action_at site) (all_deeds threads (suc n)) ≡ one ++ (two ++ rest)
+  found_two n one two rest first second behind =
+      found_append (action_at site) (as_deeds (Caller n) (threads (Caller n))) (as_deeds (Actor n) (threads (Actor n)) ++ all_deeds threads n)
+      ∙ ap (λ (l : List (ℕ × Action)). found_in (action_at site) (as_deeds (Caller n) (threads (Caller n))) ++ l) (found_append (action_at site) (as_deeds (Actor n) (threads (Actor n))) (all_deeds threads n))
+      ∙ (λ i. first i ++ (second i ++ behind i))
 
-  found_none : {X : Type 0} (part : Deed → Option X) (t : ℕ) → ((step : S) → part (of t step) ≡ None) → (trace : List (ℕ × S)) → found_in part (as_deeds t trace) ≡ []
-  found_none part t none [] = refl
-  found_none {X = X} part t none (x ∷ trace) =
-      ap (λ (o : Option X). cons_option (option_map (λ (found : X). (x.0, found)) o) (found_in part (as_deeds t trace))) (none x.1)
-      ∙ found_none part t none trace
+  other_number : (n : ℕ) (other : Site) → site_number other ≡ n → n ≢ site_number site → other ≢ site
+  other_number n other is apart same = apart (sym is ∙ ap site_number same)
 
-  none_in : {X : Type 0} (part : Deed → Option X) (threads : List (Thread S)) → AllByRecursion (λ thread. (step : S) → part (of thread.number step) ≡ None) threads → found_in part (all_deeds threads) ≡ []
-  none_in part [] none = refl
-  none_in {X = X} part (thread ∷ threads) none =
-      found_append part (as_deeds thread.number thread.trace) (all_deeds threads)
-      ∙ ap (λ (l : List (ℕ × X)). l ++ found_in part (all_deeds threads)) (found_none part thread.number none.0 thread.trace)
-      ∙ none_in part threads none.1
+  found_none : (n : ℕ) → n ≤ site_number site → found_in (action_at site) (all_deeds threads n) ≡ []
+  found_none zero past = refl
+  found_none (suc n) past =
+      let apart : n ≢ site_number site = λ same. omega (arith, past, same) in
+      found_two n [] [] [] (found_elsewhere site (Caller n) (other_number n (Caller n) refl apart) (threads (Caller n))) (found_elsewhere site (Actor n) (other_number n (Actor n) refl apart) (threads (Actor n))) (found_none n (omega (arith, past)))
 
-  none_of_any : {X : Type 0} (part : Deed → Option X) (threads : List (Thread S)) → ((t : ℕ) (step : S) → part (of t step) ≡ None) → found_in part (all_deeds threads) ≡ []
-  none_of_any part threads none = none_in part threads (each threads)
-    where
-      each : (threads : List (Thread S)) → AllByRecursion (λ thread. (step : S) → part (of thread.number step) ≡ None) threads
-      each [] = tt
-      each (thread ∷ threads) = (none thread.number, each threads)
+found_last : (threads : Threads) (site : Site) → found_in (action_at site) (all_deeds threads (suc (site_number site))) ≡ threads site
+found_last threads (Caller c) =
+    found_two threads (Caller c) c (threads (Caller c)) [] [] (found_here (Caller c) (threads (Caller c))) (found_elsewhere (Caller c) (Actor c) (λ same. cc) (threads (Actor c))) (found_none threads (Caller c) c (omega arith))
+    ∙ append-nil (threads (Caller c))
+found_last threads (Actor a) =
+    found_two threads (Actor a) a [] (threads (Actor a)) [] (found_elsewhere (Actor a) (Caller a) (λ same. cc) (threads (Caller a))) (found_here (Actor a) (threads (Actor a))) (found_none threads (Actor a) a (omega arith))
+    ∙ append-nil (threads (Actor a))
 
-  -- a part that has the steps of one number finds the trace of its thread
-  module _ (part : ℕ → Deed → Option S) (mine : (t : ℕ) (step : S) → part t (of t step) ≡ Some step) (others : (t u : ℕ) (step : S) → t ≢ u → part t (of u step) ≡ None) where
-    found_here : (t : ℕ) (trace : List (ℕ × S)) → found_in (part t) (as_deeds t trace) ≡ trace
-    found_here t [] = refl
-    found_here t (x ∷ trace) =
-        ap (λ (o : Option S). cons_option (option_map (λ (found : S). (x.0, found)) o) (found_in (part t) (as_deeds t trace))) (mine t x.1)
-        ∙ ap (λ (l : List (ℕ × S)). x ∷ l) (found_here t trace)
-
-    none_left : (t : ℕ) (threads : List (Thread S)) → IsNoneOf t threads → AllByRecursion (λ thread. (step : S) → part t (of thread.number step) ≡ None) threads
-    none_left t [] none = tt
-    none_left t (thread ∷ threads) none = ((λ step. others t thread.number step none.0), none_left t threads none.1)
-
-    found_all : (t : ℕ) (threads : List (Thread S)) → AreApart threads → found_in (part t) (all_deeds threads) ≡ trace_of t threads
-    found_all t [] apart = refl
-    found_all t (thread ∷ threads) apart =
-        found_append (part t) (as_deeds thread.number thread.trace) (all_deeds threads) ∙ go (found_all t threads (apart_rest thread threads apart)) (eqb_tells thread.number t)
-      where
-        found : Bool → List (ℕ × S)
-        found b = trace_in (cond b (Some thread) (find (λ (x : Thread S). x.number == t) threads))
-
-        go : found_in (part t) (all_deeds threads) ≡ trace_of t threads → (((thread.number == t) ≡ true) × (thread.number ≡ t)) ⊎ (((thread.number == t) ≡ false) × (thread.number ≢ t))
-            → found_in (part t) (as_deeds thread.number thread.trace) ++ found_in (part t) (all_deeds threads) ≡ trace_of t (thread ∷ threads)
-        go rest (inl same) =
-            let here : found_in (part t) (as_deeds thread.number thread.trace) ≡ thread.trace = subst (λ (n : ℕ). found_in (part n) (as_deeds thread.number thread.trace) ≡ thread.trace) same.1 (found_here thread.number thread.trace) in
-            let none : IsNoneOf t threads = subst (λ (n : ℕ). IsNoneOf n threads) same.1 (apart_first thread threads apart) in
-            ap (λ (l : List (ℕ × S)). l ++ found_in (part t) (all_deeds threads)) here
-            ∙ ap (λ (l : List (ℕ × S)). thread.trace ++ l) (none_in (part t) threads (none_left t threads none))
-            ∙ append-nil thread.trace
-            ∙ ap found (sym same.0)
-        go rest (inr other) =
-            ap (λ (l : List (ℕ × S)). l ++ found_in (part t) (all_deeds threads)) (found_none (part t) thread.number (λ step. others t thread.number step (λ e. other.1 (sym e))) thread.trace)
-            ∙ rest
-            ∙ ap found (sym other.0)
-
-rises_of : {S : Type 0} (t : ℕ) (threads : List (Thread S)) → NeverFall threads → Rises (trace_of t threads)
-rises_of t [] never = tt
-rises_of {S = S} t (thread ∷ threads) never = go (thread.number == t) (rises_of t threads (All-tail (λ (x : Thread S). AllPairs (λ one other. one.0 ≤ other.0) x.trace) thread threads never))
+found_below : (threads : Threads) (site : Site) (n : ℕ) → site_number site < n → found_in (action_at site) (all_deeds threads n) ≡ threads site
+found_below threads site zero below = absurd (omega (arith, below))
+found_below threads site (suc n) below = elim (eqb_tells n (site_number site)) [
+  | inl t ↦ subst (λ (k : ℕ). found_in (action_at site) (all_deeds threads (suc k)) ≡ threads site) (sym t.1) (found_last threads site)
+  | inr f ↦
+      let apart = f.1 in
+      found_two threads site n [] [] (threads site) (found_elsewhere site (Caller n) (other_number threads site n (Caller n) refl f.1) (threads (Caller n)))
+      (found_elsewhere site (Actor n) (other_number threads site n (Actor n) refl f.1) (threads (Actor n))) (found_below threads site n (lower n (site_number site) below f.1))
+]
   where
-    go : (b : Bool) → Rises (trace_of t threads) → Rises (trace_in (cond b (Some thread) (find (λ (x : Thread S). x.number == t) threads)))
-    go true rest = rises thread.trace (All-head (λ (x : Thread S). AllPairs (λ one other. one.0 ≤ other.0) x.trace) thread threads never)
-    go false rest = rest
+    lower : (n k : ℕ) → k < suc n → n ≢ k → k < n
+    lower n k below apart = elim (leb_tells (suc k) n) [ inl t ↦ t.1 | inr f ↦ let past = f.1 in absurd (apart (omega (arith, past, below))) ]
+
+found_all : (n : ℕ) (threads : Threads) (site : Site) → AreBelow n threads → found_in (action_at site) (all_deeds threads n) ≡ threads site
+found_all n threads site below = elim (leb_tells n (site_number site)) [
+  | inl t ↦ found_none threads site n t.1 ∙ sym (below site t.1)
+  | inr f ↦ let past = f.1 in found_below threads site n (omega (arith, past))
+]
 
 -- ---- the merge
-
-abbrev unmerged : CallerThreads → ActorThreads → List (ℕ × Deed)
-unmerged callers actors = all_deeds OfCaller callers ++ all_deeds OfActor actors
-
-callers_in : (callers : CallerThreads) (actors : ActorThreads) (c : ℕ) → AreApart callers → found_in (caller_step c) (unmerged callers actors) ≡ trace_of c callers
-callers_in callers actors c apart =
-    found_append (caller_step c) (all_deeds OfCaller callers) (all_deeds OfActor actors)
-    ∙ ap (λ (l : List (ℕ × CallerStep)). l ++ found_in (caller_step c) (all_deeds OfActor actors)) (found_all OfCaller caller_step mine others c callers apart)
-    ∙ ap (λ (l : List (ℕ × CallerStep)). trace_of c callers ++ l) (none_of_any OfActor (caller_step c) actors (λ a step. refl))
-    ∙ append-nil (trace_of c callers)
-  where
-    mine : (c : ℕ) (step : CallerStep) → caller_step c (OfCaller c step) ≡ Some step
-    mine c step = ap (λ (b : Bool). cond b (Some step) None) (eq-eqb c c refl)
-
-    others : (c d : ℕ) (step : CallerStep) → c ≢ d → caller_step c (OfCaller d step) ≡ None
-    others c d step apart = ap (λ (b : Bool). cond b (Some step) None) (ne_eqb d c (λ e. apart (sym e)))
-
-actors_in : (callers : CallerThreads) (actors : ActorThreads) (a : ℕ) → AreApart actors → found_in (actor_step a) (unmerged callers actors) ≡ trace_of a actors
-actors_in callers actors a apart =
-    found_append (actor_step a) (all_deeds OfCaller callers) (all_deeds OfActor actors)
-    ∙ ap (λ (l : List (ℕ × ActorStep)). l ++ found_in (actor_step a) (all_deeds OfActor actors)) (none_of_any OfCaller (actor_step a) callers (λ c step. refl))
-    ∙ found_all OfActor actor_step mine others a actors apart
-  where
-    mine : (a : ℕ) (step : ActorStep) → actor_step a (OfActor a step) ≡ Some step
-    mine a step = ap (λ (b : Bool). cond b (Some step) None) (eq-eqb a a refl)
-
-    others : (a b : ℕ) (step : ActorStep) → a ≢ b → actor_step a (OfActor b step) ≡ None
-    others a b step apart = ap (λ (x : Bool). cond x (Some step) None) (ne_eqb b a (λ e. apart (sym e)))
 
 least_from : {D : Type 0} (before later : List (ℕ × D)) (x : ℕ × D) → Rises (before ++ x ∷ later) → IsLeast x.0 (x ∷ later)
 least_from [] later x order = (omega arith, order.0)
 least_from (y ∷ before) later x order = least_from before later x order.1
 
--- a part of what stands before an element is the first of that part, with all that has a lower stamp
-front_below : {S : Type 0} (part : Deed → Option S) (merged before later : List (ℕ × Deed)) (m : ℕ) (deed : Deed) (trace : List (ℕ × S)) → Rises merged → merged ≡ before ++ (m, deed) ∷ later
-    → found_in part merged ≡ trace → IsFrontBelow m trace (found_in part before)
-front_below {S = S} part merged before later m deed trace order e is = record {
-  later = found_in part ((m, deed) ∷ later);
-  cut = sym is ∙ ap (found_in part) e ∙ found_append part before ((m, deed) ∷ later);
-  from = All-from_recursion (λ (x : ℕ × S). m ≤ x.0) (found_in part ((m, deed) ∷ later))
-      (found_from part m ((m, deed) ∷ later) (least_from before later (m, deed) (subst Rises e order)));
+-- what somebody did before a deed is the first of its trace, with all that has a lower stamp
+front_below : (site : Site) (merged before later : List (ℕ × (Site × Action))) (m : ℕ) (deed : Site × Action) (trace : List (ℕ × Action)) → Rises merged → merged ≡ before ++ (m, deed) ∷ later
+    → found_in (action_at site) merged ≡ trace → IsFrontBelow m trace (found_in (action_at site) before)
+front_below site merged before later m deed trace order e is = record {
+  later = found_in (action_at site) ((m, deed) ∷ later);
+  cut = sym is ∙ ap (found_in (action_at site)) e ∙ found_append (action_at site) before ((m, deed) ∷ later);
+  from = All-from_recursion (λ (x : ℕ × Action). m ≤ x.0) (found_in (action_at site) ((m, deed) ∷ later))
+      (found_from (action_at site) m ((m, deed) ∷ later) (least_from before later (m, deed) (subst Rises e order)));
 }
 
--- the steps of threads with distinct numbers, in none of which a stamp falls, can be merged into one order by stamp
-pub merge_of : (callers : CallerThreads) (actors : ActorThreads) → AreApart callers → AreApart actors → NeverFall callers → NeverFall actors → (merged : List (ℕ × Deed)) × IsMergeOf callers actors merged
-merge_of callers actors callers_apart actors_apart callers_rise actors_rise = (
-  merged,
+-- what threads did, where no stamp falls in any, can be merged into one order by stamp
+pub merge_of : (n : ℕ) (threads : Threads) → AreBelow n threads → NeverFall threads → (merged : List (ℕ × (Site × Action))) × IsMergeOf threads merged
+merge_of n threads below rise = (
+  ordered (all_deeds threads n),
   record {
-    of_callers = of_callers;
-    of_actors = of_actors;
-    rising = pairs merged order;
-    callers_before = λ before later m deed e c. front_below (caller_step c) merged before later m deed (trace_of c callers) order e (of_callers c);
-    actors_before = λ before later m deed e a. front_below (actor_step a) merged before later m deed (trace_of a actors) order e (of_actors a);
+    of = of;
+    rising = pairs (ordered (all_deeds threads n)) (ordered_rises (all_deeds threads n));
+    fronts = λ before later m deed e site. front_below site (ordered (all_deeds threads n)) before later m deed (threads site) (ordered_rises (all_deeds threads n)) e (of site);
   },
 )
   where
-    all : List (ℕ × Deed)
-    all = unmerged callers actors
-
-    merged : List (ℕ × Deed)
-    merged = ordered all
-
-    order : Rises merged
-    order = ordered_rises all
-
-    of_callers : (c : ℕ) → found_in (caller_step c) merged ≡ trace_of c callers
-    of_callers c =
-        let same : found_in (caller_step c) all ≡ trace_of c callers = callers_in callers actors c callers_apart in
-        found_ordered (caller_step c) all (subst Rises (sym same) (rises_of c callers callers_rise)) ∙ same
-
-    of_actors : (a : ℕ) → found_in (actor_step a) merged ≡ trace_of a actors
-    of_actors a =
-        let same : found_in (actor_step a) all ≡ trace_of a actors = actors_in callers actors a actors_apart in
-        found_ordered (actor_step a) all (subst Rises (sym same) (rises_of a actors actors_rise)) ∙ same
+    of : (site : Site) → found_in (action_at site) (ordered (all_deeds threads n)) ≡ threads site
+    of site =
+        let same : found_in (action_at site) (all_deeds threads n) ≡ threads site = found_all n threads site below in
+        found_ordered (action_at site) (all_deeds threads n) (subst Rises (sym same) (rises (threads site) (rise site))) ∙ same

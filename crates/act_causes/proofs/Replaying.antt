@@ -1,17 +1,17 @@
 -- Each deed is an event that a play takes, and so are all of them.
-use Rattle.act_causes.proofs.Common.{◌≡◌, List, [], ◌∷◌, ◌++◌, None, refl, ap, sym, ◌∙◌, subst, Option, IsOk, AllByRecursion, AllZip, cons_option, append-nil}
+use Rattle.act_causes.proofs.Common.{◌≡◌, List, ◌∷◌, ◌++◌, None, refl, ap, sym, ◌∙◌, subst, Option, IsOk, AllByRecursion, AllZip, cons_option, append-nil}
 use Rattle.act_causes.proofs.Common.{append_assoc, All-from_recursion, filter_map-append, Answered, Death, Event, Letter, Post, WorldRefusal, ActorSpec}
 use Rattle.act_causes.proofs.Common.{History, opening, history, Outcome, outcome_by, outcome_of, outcomes, add_event, after_by, Grows, added_grows, All_more}
-use Rattle.act_causes.proofs.Common.{slice_get_front, outcomes-append, Copied, Released, Submitted, Sent, Noticed, Deed, IsCaused, AreCaused, SpecsFit}
-use Rattle.act_causes.proofs.Common.{IsEventOf, OfActor, OfCaller, ChangeMade, KillAsked, Call, Note, names, CallRun, DeathTold, KillTaken, LetterTaken}
-use Rattle.act_causes.proofs.Common.{Retirement}
+use Rattle.act_causes.proofs.Common.{slice_get_front, outcomes-append, Copied, Released, Submitted, Sent, Noticed, Site, Action, IsCaused, AreCaused}
+use Rattle.act_causes.proofs.Common.{SpecsFit, IsEventOf, Actor, Caller, KillAsked, names, CallRun, DeathTold, KillTaken, CallTaken, NoteTaken, Retirement}
+use Rattle.act_causes.proofs.Common.{[]}
 use Rattle.act_rules.specs.declared.history.Letter.TheVariants.{Call as CallLetter, Note as NoteLetter}
 use Rattle.act_rules.specs.declared.history.Post.TheVariants.{Reply as ReplyPost, Death as DeathPost}
 use Rattle.act_rules.proofs.Steps.{after_all-append}
 use Rattle.act_causes.proofs.Changing.{copied, released, submitted, sent, asked}
 use Rattle.act_causes.proofs.Collecting.{heard_death, heard_reply}
 use Rattle.act_causes.proofs.Ending.{took_kill, told_death, retired}
-use Rattle.act_causes.proofs.Fronts.{EachFront, IsInOrder, IsStepwisePlay, post_of, letter_of, keeps_answers, one_front, collected_more, arrived_more}
+use Rattle.act_causes.proofs.Fronts.{EachFront, IsInOrder, IsStepwisePlay, post_of, letter_of, keeps_answers, one_front, told_more}
 use Rattle.act_causes.proofs.Keeping.{Keeps, GoesOn, told_of}
 use Rattle.act_causes.proofs.Made.{dead_is}
 use Rattle.act_causes.proofs.Opening.{keeps_opening}
@@ -19,46 +19,48 @@ use Rattle.act_causes.proofs.Running.{ran}
 use Rattle.act_causes.proofs.Taking.{took_call, took_note}
 
 -- a deed that is caused is an event that a play takes
-goes_on : (casts : List ActorSpec) (deeds : List Deed) (h : History) (deed : Deed) → SpecsFit casts → Keeps casts deeds h → IsCaused casts deeds deed → GoesOn casts deeds h deed
-goes_on casts deeds h (OfCaller c (ChangeMade (Copied a))) fitting keeps caused = copied casts deeds h c keeps caused.named a caused.may
-goes_on casts deeds h (OfCaller c (ChangeMade (Released a))) fitting keeps caused = released casts deeds h c keeps caused.named a caused.may
-goes_on casts deeds h (OfCaller c (ChangeMade (Submitted a method args))) fitting keeps caused = submitted casts deeds h c keeps caused.named a method args caused.may
-goes_on casts deeds h (OfCaller c (ChangeMade (Sent k))) fitting keeps caused = sent casts deeds h c keeps caused.named k caused.may
-goes_on casts deeds h (OfCaller c (ChangeMade (Noticed (Answered reply)))) fitting keeps caused = heard_reply casts deeds h c keeps caused.named reply caused.given
-goes_on casts deeds h (OfCaller c (ChangeMade (Noticed (Death a)))) fitting keeps caused = heard_death casts deeds h c keeps caused.named a fitting.actors caused.given
-goes_on casts deeds h (OfCaller c (KillAsked a)) fitting keeps caused = asked casts deeds h c keeps caused.named a fitting.actors caused.may
-goes_on casts deeds h (OfActor a (LetterTaken (Call packet))) fitting keeps caused = took_call casts deeds h keeps a packet caused.may caused.sent
-goes_on casts deeds h (OfActor a (LetterTaken (Note note))) fitting keeps caused = took_note casts deeds h keeps a note caused.may caused.sent
-goes_on casts deeds h (OfActor a (CallRun item)) fitting keeps caused = ran casts deeds h a item keeps caused.cast.callers caused.may
-goes_on casts deeds h (OfActor a (KillTaken kill)) fitting keeps caused = took_kill casts deeds h a keeps kill caused.may caused.sent.0 caused.sent.1
-goes_on casts deeds h (OfActor a (DeathTold c)) fitting keeps caused = told_death casts deeds h a keeps c caused.may.0 (ap (names c) caused.at ∙ caused.may.1)
-goes_on casts deeds h (OfActor a Retirement) fitting keeps caused = retired casts deeds h a keeps caused.cast caused.at caused.may
+goes_on : (casts : List ActorSpec) (deeds : List (Site × Action)) (h : History) (deed : Site × Action) → SpecsFit casts → Keeps casts deeds h → IsCaused casts deeds deed → GoesOn casts deeds h deed
+goes_on casts deeds h (Caller c, Copied a) fitting keeps caused = copied casts deeds h c keeps caused.may.0 a caused.may.1
+goes_on casts deeds h (Caller c, Released a) fitting keeps caused = released casts deeds h c keeps caused.may.0 a caused.may.1
+goes_on casts deeds h (Caller c, Submitted a method args) fitting keeps caused = submitted casts deeds h c keeps caused.may.0 a method args caused.may.1
+goes_on casts deeds h (Caller c, Sent k) fitting keeps caused = sent casts deeds h c keeps caused.may.0 k caused.may.1
+goes_on casts deeds h (Caller c, Noticed (Answered reply)) fitting keeps caused = heard_reply casts deeds h c keeps caused.may.0 reply caused.given
+goes_on casts deeds h (Caller c, Noticed (Death a)) fitting keeps caused = heard_death casts deeds h c keeps caused.may.0 a fitting.actors caused.given
+goes_on casts deeds h (Caller c, KillAsked a) fitting keeps caused = asked casts deeds h c keeps caused.may.0 a fitting.actors caused.may.1
+goes_on casts deeds h (Actor a, CallTaken packet) fitting keeps caused = took_call casts deeds h keeps a packet caused.may.2 caused.given
+goes_on casts deeds h (Actor a, NoteTaken note) fitting keeps caused = took_note casts deeds h keeps a note caused.may.2 caused.given
+goes_on casts deeds h (Actor a, CallRun item) fitting keeps caused = ran casts deeds h a item keeps caused.may.0.callers caused.may.2
+goes_on casts deeds h (Actor a, KillTaken asker note) fitting keeps caused = took_kill casts deeds h a keeps asker note caused.may.2 caused.given.0 caused.given.1
+goes_on casts deeds h (Actor a, DeathTold c) fitting keeps caused = told_death casts deeds h a keeps c caused.may.2.0 (ap (names c) caused.may.1 ∙ caused.may.2.1)
+goes_on casts deeds h (Actor a, Retirement) fitting keeps caused = retired casts deeds h a keeps caused.may.0 caused.may.1 caused.may.2
+goes_on casts deeds h (Caller c, action) fitting keeps caused = absurd caused.may.1
+goes_on casts deeds h (Actor a, action) fitting keeps caused = absurd caused.may.2
 
 -- what is found by its place stays there
-event_stays : (h g : History) (deed : Deed) (event : Event) → Grows h g → IsEventOf h deed event → IsEventOf g deed event
-event_stays h g (OfCaller c (ChangeMade (Noticed (Answered reply)))) event grows is =
+event_stays : (h g : History) (deed : Site × Action) (event : Event) → Grows h g → IsEventOf h deed event → IsEventOf g deed event
+event_stays h g (Caller c, Noticed (Answered reply)) event grows is =
     (is.0, is.1, slice_get_front h.posts g.posts is.0 (ReplyPost c reply.actor reply.place) grows.posts is.2)
-event_stays h g (OfCaller c (ChangeMade (Noticed (Death a)))) event grows is = (is.0, is.1, slice_get_front h.posts g.posts is.0 (DeathPost c a) grows.posts is.2)
-event_stays h g (OfActor a (LetterTaken (Call packet))) event grows is =
+event_stays h g (Caller c, Noticed (Death a)) event grows is = (is.0, is.1, slice_get_front h.posts g.posts is.0 (DeathPost c a) grows.posts is.2)
+event_stays h g (Actor a, CallTaken packet) event grows is =
     (is.0, is.1, slice_get_front h.mail g.mail is.0 (CallLetter packet.caller a packet.number) grows.mail is.2)
-event_stays h g (OfActor a (LetterTaken (Note note))) event grows is = (is.0, is.1, slice_get_front h.mail g.mail is.0 (NoteLetter note.caller a note.after) grows.mail is.2)
+event_stays h g (Actor a, NoteTaken note) event grows is = (is.0, is.1, slice_get_front h.mail g.mail is.0 (NoteLetter note.caller a note.after) grows.mail is.2)
 event_stays h g deed event grows is = is
 
-steps_stay : (h g : History) (deeds : List Deed) (events : List Event) → Grows h g → AllZip (IsEventOf h) deeds events → AllZip (IsEventOf g) deeds events
+steps_stay : (h g : History) (deeds : List (Site × Action)) (events : List Event) → Grows h g → AllZip (IsEventOf h) deeds events → AllZip (IsEventOf g) deeds events
 steps_stay h g [] [] grows steps = tt
 steps_stay h g [] (event ∷ events) grows steps = steps
 steps_stay h g (deed ∷ deeds) [] grows steps = steps
 steps_stay h g (deed ∷ deeds) (event ∷ events) grows steps = (event_stays h g deed event grows steps.0, steps_stay h g deeds events grows steps.1)
 
 -- one deed more, which is an event more
-one_step : (h : History) (deeds : List Deed) (events : List Event) (deed : Deed) (event : Event) → AllZip (IsEventOf h) deeds events → IsEventOf h deed event → AllZip (IsEventOf h) (deeds ++ deed ∷ []) (events ++ event ∷ [])
+one_step : (h : History) (deeds : List (Site × Action)) (events : List Event) (deed : Site × Action) (event : Event) → AllZip (IsEventOf h) deeds events → IsEventOf h deed event → AllZip (IsEventOf h) (deeds ++ deed ∷ []) (events ++ event ∷ [])
 one_step h [] [] deed event steps is = (is, tt)
 one_step h [] (other ∷ events) deed event steps is = absurd steps
 one_step h (one ∷ deeds) [] deed event steps is = absurd steps
 one_step h (one ∷ deeds) (other ∷ events) deed event steps is = (steps.0, one_step h deeds events deed event steps.1 is)
 
 -- events that stand for the deeds, and that a play takes
-pub record IsReplayed (casts : List ActorSpec) (deeds : List Deed) : Type 0 where
+pub record IsReplayed (casts : List ActorSpec) (deeds : List (Site × Action)) : Type 0 where
   pub events : List Event
   pub steps : AllZip (IsEventOf (history casts events)) deeds events
   pub accepted : AllByRecursion IsOk (outcomes (opening casts) events)
@@ -67,7 +69,7 @@ pub record IsReplayed (casts : List ActorSpec) (deeds : List Deed) : Type 0 wher
   pub in_order : IsInOrder casts deeds events
 
 -- one event more, which nothing refuses
-one_event : (casts : List ActorSpec) (deeds : List Deed) (deed : Deed) (before : IsReplayed casts deeds) → GoesOn casts deeds (history casts before.events) deed → IsReplayed casts (deeds ++ deed ∷ [])
+one_event : (casts : List ActorSpec) (deeds : List (Site × Action)) (deed : Site × Action) (before : IsReplayed casts deeds) → GoesOn casts deeds (history casts before.events) deed → IsReplayed casts (deeds ++ deed ∷ [])
 one_event casts deeds deed before on =
     let h = history casts before.events in
     let told : outcome_of h on.event ≡ outcome_by h on.event None = ap (λ (r : Option WorldRefusal). outcome_by h on.event r) on.accepted in
@@ -86,20 +88,20 @@ one_event casts deeds deed before on =
       keeps = keeps;
       fronts = one_front casts [] [] deeds before.events deed on.event before.fronts (keeps_answers casts (deeds ++ deed ∷ []) (before.events ++ on.event ∷ []) keeps);
       in_order = record {
-        collected = ap (λ (g : History). g.collected) reached ∙ collected_more h deed on.event on.is ∙ ap (λ (l : List Post). l ++ cons_option (post_of deed) []) before.in_order.collected ∙ sym (filter_map-append post_of deeds (deed ∷ []));
-        arrived = ap (λ (g : History). g.arrived) reached ∙ arrived_more h deed on.event on.is ∙ ap (λ (l : List Letter). l ++ cons_option (letter_of deed) []) before.in_order.arrived ∙ sym (filter_map-append letter_of deeds (deed ∷ []));
+        collected = ap (λ (g : History). g.collected) reached ∙ (told_more h deed on.event on.is).collected ∙ ap (λ (l : List Post). l ++ cons_option (post_of deed) []) before.in_order.collected ∙ sym (filter_map-append post_of deeds (deed ∷ []));
+        arrived = ap (λ (g : History). g.arrived) reached ∙ (told_more h deed on.event on.is).arrived ∙ ap (λ (l : List Letter). l ++ cons_option (letter_of deed) []) before.in_order.arrived ∙ sym (filter_map-append letter_of deeds (deed ∷ []));
       };
     }
 
 -- all deeds after those that were replayed
-replays : (casts : List ActorSpec) (deeds later : List Deed) → SpecsFit casts → IsReplayed casts deeds → AreCaused casts deeds later → IsReplayed casts (deeds ++ later)
+replays : (casts : List ActorSpec) (deeds later : List (Site × Action)) → SpecsFit casts → IsReplayed casts deeds → AreCaused casts deeds later → IsReplayed casts (deeds ++ later)
 replays casts deeds [] fitting before caused = subst (IsReplayed casts) (sym (append-nil deeds)) before
 replays casts deeds (deed ∷ later) fitting before caused =
     let next = one_event casts deeds deed before (goes_on casts deeds (history casts before.events) deed fitting before.keeps caused.0) in
     subst (IsReplayed casts) (append_assoc deeds (deed ∷ []) later) (replays casts (deeds ++ deed ∷ []) later fitting next caused.1)
 
 -- deeds, each caused by those before it, can be done as the events of a play, step by step, where the casts fit
-pub play_of : (casts : List ActorSpec) (deeds : List Deed) → SpecsFit casts → AreCaused casts [] deeds → (events : List Event) × IsStepwisePlay casts deeds events
+pub play_of : (casts : List ActorSpec) (deeds : List (Site × Action)) → SpecsFit casts → AreCaused casts [] deeds → (events : List Event) × IsStepwisePlay casts deeds events
 play_of casts deeds fitting caused =
     let all = replays casts [] deeds fitting (record {
       events = [];

@@ -1,17 +1,18 @@
 -- An actor that runs its caller's next call.
-use Rattle.act_causes.proofs.Common.{◌≡◌, ℕ, Bool, true, false, cond, List, [], ◌∷◌, ◌++◌, length, Option, Some, None, refl, ap, sym, ◌∙◌, subst, IfSome}
-use Rattle.act_causes.proofs.Common.{slice_get, slice_set, option_map, eq-eqb, Packet, Answered, Reply, Run, RunItem, Submission, Answer, after_item, items_of}
-use Rattle.act_causes.proofs.Common.{has_terminated, calls_to, number_of, ActorSpec, History, cast_of, names, calls_of, kept_of, ran_count, has_letter}
-use Rattle.act_causes.proofs.Common.{run_item, next_item, after_run, calls_to-number, Lane, IsInbox, InboxView, is_lane_of, lane_of, next_of, IsNextTaken}
-use Rattle.act_causes.proofs.Common.{one_more, unlisted_next, listed_next, sound_then, next_taken, ActorView, cast_at, Runs, dead_slot, bury_ended, HasRunNext}
-use Rattle.act_causes.proofs.Common.{IsOwnerOf, still_lives, next_is, item_is, run_follows, Deed, owner_by, OfActor, actor_steps, Call, ActorMayDo, CallRun}
-use Rattle.act_causes.proofs.Common.{LetterTaken}
+use Rattle.act_causes.proofs.Common.{◌≡◌, ℕ, Bool, true, false, cond, List, ◌∷◌, ◌++◌, length, Option, Some, None, refl, ap, sym, ◌∙◌, subst, IfSome}
+use Rattle.act_causes.proofs.Common.{slice_get, slice_set, option_map, eq-eqb, Packet, Answered, Reply, Run, RunItem, Submission, Answer, after_item}
+use Rattle.act_causes.proofs.Common.{items_of, has_terminated, calls_to, number_of, ActorSpec, History, cast_of, names, calls_of, kept_of, ran_count}
+use Rattle.act_causes.proofs.Common.{has_letter, run_item, next_item, after_run, calls_to-number, Lane, IsInbox, InboxView, is_lane_of, lane_of, next_of}
+use Rattle.act_causes.proofs.Common.{IsNextTaken, one_more, unlisted_next, listed_next, sound_then, next_taken, ActorView, cast_at, Runs, dead_slot}
+use Rattle.act_causes.proofs.Common.{bury_ended, HasRunNext, IsOwnerOf, still_lives, next_is, item_is, run_follows, Site, Action, owner_by, Actor}
+use Rattle.act_causes.proofs.Common.{actions_of, ActorMayDo, CallRun, CallTaken, []}
 use Rattle.act_rules.specs.declared.history.Letter.TheVariants.{Call as CallLetter}
 use Rattle.act_rules.specs.declared.outcome.Did.TheVariants.{Ran as DidRun}
 use Rattle.act_owner.specs.Owner.{OwnerView, packet_for as packet_made, packet_at}
 use Rattle.act_actor.specs.Actor.{item_of as item_made, packet_of_item, reply_of_run, next_call, HasRunCall}
 use Rattle.act_causes.proofs.Keeping.{Keeps, GoesOn, HasInbox, go_on, named_is, cast_is, owner_of}
-use Rattle.act_causes.proofs.Made.{AreActorsOf, owner_same, actors_ran, deed_of}
+use Rattle.act_causes.proofs.Made.{AreActorsOf, owner_same, actors_ran}
+use Rattle.act_causes.proofs.Sites.{deed_of}
 use Rattle.act_causes.proofs.Places.{found_at}
 use Rattle.act_causes.proofs.Standing.{lives, inboxes_set}
 use Rattle.act_rules.proofs.Events.{some_cast}
@@ -95,11 +96,11 @@ item_next h a c owner item is caller made came number = go (slice_get owner.call
         ∙ ap (option_map (run_item c (ran_count c a h) (kept_of c h))) here
         ∙ ap (λ (i : RunItem). Some i) whole
 
-module _ (casts : List ActorSpec) (deeds : List Deed) (h : History) (a : ℕ) (item : RunItem) (keeps : Keeps casts deeds h) where
-  pub ran : (callers : List ℕ) → ActorMayDo a callers (actor_steps a deeds) (CallRun item) → GoesOn casts deeds h (OfActor a (CallRun item))
+module _ (casts : List ActorSpec) (deeds : List (Site × Action)) (h : History) (a : ℕ) (item : RunItem) (keeps : Keeps casts deeds h) where
+  pub ran : (callers : List ℕ) → ActorMayDo a callers (actions_of (Actor a) deeds) (CallRun item) → GoesOn casts deeds h (Actor a, CallRun item)
   ran callers may =
       let c = item.caller in
-      let came = keeps.left (OfActor a (LetterTaken (Call (packet_of_item a item)))) (deed_of a deeds (LetterTaken (Call (packet_of_item a item))) may.1) in
+      let came = keeps.left (Actor a, CallTaken (packet_of_item a item)) (deed_of (Actor a) deeds (CallTaken (packet_of_item a item)) may.1) in
       let is = owner_of casts deeds h c keeps came.named in
       let number : item.number ≡ ran_count c a h = may.2 ∙ ap (λ (items : List RunItem). length (items_of c items)) (sym (keeps.actors.runs a)) in
       let next : next_item a c h ≡ Some item = item_next h a c (owner_by casts c deeds) item is refl came.is came.came number in
@@ -108,14 +109,14 @@ module _ (casts : List ActorSpec) (deeds : List Deed) (h : History) (a : ℕ) (i
       let made : Some item ≡ option_map item_made (next_call here.live.log here.live.inbox c) = sym next ∙ item_is h a c ∙ ap (option_map item_made) (sym (next_is h a c here.live here.is named)) in
       let inbox : IsInbox here.live.inbox.lanes here.live.inbox.held = subst HasInbox here.at (keeps.reached.inboxes a) in
       let runs = runs_next c item here.live (still_lives h a here.live here.is) inbox made in
-      go_on casts deeds h (OfActor a (CallRun item)) (Run a c) (DidRun runs.reply.place (length keeps.world.network.replies)) (record {
+      go_on casts deeds h (Actor a, CallRun item) (Run a c) (DidRun runs.reply.place (length keeps.world.network.replies)) (record {
         network = record keeps.world.network { replies = keeps.world.network.replies ++ (record { caller = c; notice = Answered runs.reply }) ∷ [] };
         slots = slice_set keeps.world.slots a (bury_ended (Runs runs.new));
       }) keeps refl tt
       (run_follows h keeps.world a c here.live runs.new runs.reply keeps.lawful keeps.reached.refines (named_is casts h c keeps.casts_are came.named) named here.at runs.next)
-      (λ d other. keeps.reached.owners d other ∙ ap (λ (o : OwnerView). Some o) (sym (owner_same casts d deeds (OfActor a (CallRun item)) refl)))
+      (λ d other. keeps.reached.owners d other ∙ ap (λ (o : OwnerView). Some o) (sym (owner_same casts d deeds (Actor a, CallRun item) refl)))
       (inboxes_set keeps.world.slots a (Runs here.live) (bury_ended (Runs runs.new)) here.at (buried_inbox runs.new runs.inbox) keeps.reached.inboxes) keeps.reached.room
-      (subst (λ (o : Option RunItem). AreActorsOf (deeds ++ OfActor a (CallRun item) ∷ []) (after_run a c h o)) (sym next) (actors_ran deeds a c item h keeps.actors)) tt
+      (subst (λ (o : Option RunItem). AreActorsOf (deeds ++ (Actor a, CallRun item) ∷ []) (after_run a c h o)) (sym next) (actors_ran deeds a c item h keeps.actors)) tt
     where
       buried_inbox : (new : ActorView) → IsInbox new.inbox.lanes new.inbox.held → HasInbox (Some (bury_ended (Runs new)))
       buried_inbox new sound = go (has_terminated new.log)

@@ -1,8 +1,9 @@
 -- Where an actor stands in the world of the deeds.
-use Rattle.act_causes.proofs.Common.{◌≡◌, ℕ, Bool, true, false, List, Option, Some, None, inl, inr, refl, ap, sym, ◌∙◌, subst, ◌||◌, find, slice_get, slice_set}
+use Rattle.act_causes.proofs.Common.{◌≡◌, ℕ, Bool, true, false, List, Option, Some, None, inl, inr, refl, ap, sym, ◌∙◌, subst, find, slice_get, slice_set}
 use Rattle.act_causes.proofs.Common.{is_some, eqb_tells, NoActor, Handle, ActorSpec, History, cast_of, names, is_caller, is_dead, is_retired, is_ended}
-use Rattle.act_causes.proofs.Common.{copies_in, OwnerView, ActorView, cast_at, is_owner, naming_refusal, SlotView, Runs, Died, Ended, Vacant, IsLive, IsStage}
-use Rattle.act_causes.proofs.Common.{named_caller, get_set-same, get_set-other, needs_holds, is_named, Deed, IsNamed, owner_by, actor_steps, has_ended_in}
+use Rattle.act_causes.proofs.Common.{copies_in, OwnerView, ActorView, cast_at, is_owner, naming_refusal, SlotView, Runs, Died, Ended, Vacant, IsLive}
+use Rattle.act_causes.proofs.Common.{IsStage, named_caller, get_set-same, get_set-other, needs_holds, is_named, Site, Action, IsNamed, owner_by, actions_of}
+use Rattle.act_causes.proofs.Common.{has_ended_in, Actor, ◌||◌}
 use Rattle.act_causes.proofs.Made.{ended_is}
 use Rattle.act_causes.proofs.Keeping.{HasInbox, Keeps, cast_is, owner_of}
 
@@ -33,9 +34,9 @@ inboxes_set slots a old new at has all b = elim (eqb_tells a b) [
   | inr f ↦ subst HasInbox (sym (get_set-other slots a b new f.1)) (all b)
 ]
 
-module _ (casts : List ActorSpec) (deeds : List Deed) (h : History) (a : ℕ) (keeps : Keeps casts deeds h) where
+module _ (casts : List ActorSpec) (deeds : List (Site × Action)) (h : History) (a : ℕ) (keeps : Keeps casts deeds h) where
   -- an actor that has a cast and hasn't ended by the deeds runs in the world that stands for them
-  pub lives : is_some (cast_at a casts) ≡ true → has_ended_in (actor_steps a deeds) ≡ false → Lives h keeps.world.slots a
+  pub lives : is_some (cast_at a casts) ≡ true → has_ended_in (actions_of (Actor a) deeds) ≡ false → Lives h keeps.world.slots a
   lives cast on =
       lives_at h keeps.world.slots a (ap (λ (o : Option ActorSpec). is_some o) (cast_is casts h a keeps.casts_are) ∙ cast)
       (ended_is deeds h a keeps.actors ∙ on) (keeps.reached.refines.actors a)

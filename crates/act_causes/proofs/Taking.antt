@@ -1,11 +1,11 @@
 -- An actor that takes a letter.
-use Rattle.act_causes.proofs.Common.{◌≡◌, ℕ, true, List, [], ◌∷◌, ◌++◌, length, Option, Some, None, Ok, refl, ap, sym, ◌∙◌, subst, slice_get, slice_set}
+use Rattle.act_causes.proofs.Common.{◌≡◌, ℕ, true, List, ◌∷◌, ◌++◌, length, Option, Some, None, Ok, refl, ap, sym, ◌∙◌, subst, slice_get, slice_set}
 use Rattle.act_causes.proofs.Common.{option_map, option_and_then, is_some, Packet, ReleaseNote, Deliver, Letter, Submission, Arrival, Arrived, calls_to}
 use Rattle.act_causes.proofs.Common.{number_of, ActorSpec, History, cast_of, names, calls_of, copies_of, has_letter, add_event, and_also, was_sent, All_at}
 use Rattle.act_causes.proofs.Common.{IsSoundLetter, IsInbox, OwnerView, packet_for, packet_at, is_sent, Sent, is_known_at, ActorView, MailEntry, entry_actor}
-use Rattle.act_causes.proofs.Common.{SlotView, Runs, HasArrived, IsOwnerOf, call_key, mail_entry, deliver_follows, IsNamedLetter, has_last, Deed, owner_by}
-use Rattle.act_causes.proofs.Common.{IsSentCall, IsLastNote, IsEventOf, OfActor, OfCaller, actor_steps, caller_step, ChangeMade, Call, Note, LetterTaken}
-use Rattle.act_causes.proofs.Common.{has_ended_in, false}
+use Rattle.act_causes.proofs.Common.{SlotView, Runs, HasArrived, IsOwnerOf, call_key, mail_entry, deliver_follows, IsNamedLetter, has_last, Site, Action}
+use Rattle.act_causes.proofs.Common.{owner_by, IsSentCall, IsLastNote, IsEventOf, Actor, Caller, actions_of, action_at, CallTaken, NoteTaken, has_ended_in}
+use Rattle.act_causes.proofs.Common.{false, []}
 use Rattle.act_rules.specs.declared.history.Letter.TheVariants.{Call as CallLetter, Note as NoteLetter}
 use Rattle.act_world.specs.declared.network.MailEntry.TheVariants.{Call as CallEntry, Note as NoteEntry}
 use Rattle.act_causes.proofs.Inboxes.{takes_call, takes_note}
@@ -29,7 +29,7 @@ sent_letter h c k owner packet is sent at = go (slice_get owner.calls k) refl at
         subst (λ (p : Packet). has_letter (CallLetter c p.actor p.number) h.mail ≡ true) same
         (subst (λ (calls : List Submission). has_letter (CallLetter c call.actor (number_of call.actor k calls)) h.mail ≡ true) (sym is.calls) was)
 
-module _ (casts : List ActorSpec) (deeds : List Deed) (h : History) (keeps : Keeps casts deeds h) where
+module _ (casts : List ActorSpec) (deeds : List (Site × Action)) (h : History) (keeps : Keeps casts deeds h) where
   abbrev slots : List SlotView
   slots = keeps.world.slots
 
@@ -37,9 +37,9 @@ module _ (casts : List ActorSpec) (deeds : List Deed) (h : History) (keeps : Kee
   owners = keeps.world.network.owners
 
   -- a letter of the mail that an actor takes in
-  delivers : (deed : Deed) (i : ℕ) (letter : Letter) (m : MailEntry) (here : Lives h keeps.world.slots (entry_actor m)) (arrival : Arrival) (next : ActorView)
+  delivers : (deed : Site × Action) (i : ℕ) (letter : Letter) (m : MailEntry) (here : Lives h keeps.world.slots (entry_actor m)) (arrival : Arrival) (next : ActorView)
       → IsEventOf h deed (Deliver i) → IsByNamed casts deed → slice_get h.mail i ≡ Some letter → mail_entry h letter ≡ Some m → HasArrived keeps.world.network.owners m arrival here.live next → IsInbox next.inbox.lanes next.inbox.held
-      → ((c : ℕ) → caller_step c deed ≡ None) → IsNoEnd deed
+      → ((c : ℕ) → action_at (Caller c) deed ≡ None) → IsNoEnd deed
       → (has_letter letter (add_event h (Deliver i)).arrived ≡ true → HasLeft casts (deeds ++ deed ∷ []) (add_event h (Deliver i)) deed)
       → GoesOn casts deeds h deed
   delivers deed i letter m here arrival next is named at carries arrived inbox no_change no_end left =
@@ -55,9 +55,9 @@ module _ (casts : List ActorSpec) (deeds : List Deed) (h : History) (keeps : Kee
   inbox_of : (a : ℕ) (here : Lives h keeps.world.slots a) → IsInbox here.live.inbox.lanes here.live.inbox.held
   inbox_of a here = subst HasInbox here.at (keeps.reached.inboxes a)
 
-  pub took_call : (a : ℕ) (packet : Packet) → has_ended_in (actor_steps a deeds) ≡ false → IsSentCall casts deeds a packet → GoesOn casts deeds h (OfActor a (LetterTaken (Call packet)))
+  pub took_call : (a : ℕ) (packet : Packet) → has_ended_in (actions_of (Actor a) deeds) ≡ false → IsSentCall casts deeds a packet → GoesOn casts deeds h (Actor a, CallTaken packet)
   took_call a packet living r =
-      let was = keeps.left (OfCaller packet.caller (ChangeMade (Sent packet.future))) r.sent in
+      let was = keeps.left (Caller packet.caller, Sent packet.future) r.sent in
       let is = owner_of casts deeds h packet.caller keeps was.named in
       let has : has_letter (CallLetter packet.caller a packet.number) h.mail ≡ true =
       subst (λ (x : ℕ). has_letter (CallLetter packet.caller x packet.number) h.mail ≡ true) r.to (sent_letter h packet.caller packet.future (owner_by casts packet.caller deeds) packet is was.sent r.is) in
@@ -69,18 +69,18 @@ module _ (casts : List ActorSpec) (deeds : List Deed) (h : History) (keeps : Kee
       let call = call_key packet.caller a packet.number sound.0 in
       let carries : mail_entry h letter ≡ Some (CallEntry call) = ap (option_map (λ (one : ℕ × Submission). CallEntry (call_key packet.caller a packet.number one))) sound.1 in
       let taken = takes_call owners call here.live (inbox_of a here) in
-      delivers (OfActor a (LetterTaken (Call packet))) place.0 letter (CallEntry call) here taken.arrival taken.next (place.0, refl, place.1) tt place.1 carries taken.taken taken.inbox
-      (λ c. refl) (by_actor a (LetterTaken (Call packet)) refl refl refl)
+      delivers (Actor a, CallTaken packet) place.0 letter (CallEntry call) here taken.arrival taken.next (place.0, refl, place.1) tt place.1 carries taken.taken taken.inbox
+      (λ c. refl) (by_actor a (CallTaken packet) refl refl refl)
       (λ came. record {
         to = r.to;
         named = was.named;
-        known = subst (λ (o : OwnerView). is_known_at o packet.future ≡ true) (sym (owner_same casts packet.caller deeds (OfActor a (LetterTaken (Call packet))) refl)) was.known;
-        is = subst (λ (o : OwnerView). packet_at o packet.future ≡ Some packet) (sym (owner_same casts packet.caller deeds (OfActor a (LetterTaken (Call packet))) refl)) r.is;
+        known = subst (λ (o : OwnerView). is_known_at o packet.future ≡ true) (sym (owner_same casts packet.caller deeds (Actor a, CallTaken packet) refl)) was.known;
+        is = subst (λ (o : OwnerView). packet_at o packet.future ≡ Some packet) (sym (owner_same casts packet.caller deeds (Actor a, CallTaken packet) refl)) r.is;
         came = came;
         listed = ap (names packet.caller) (sym (cast_is casts h a keeps.casts_are)) ∙ named;
       })
 
-  pub took_note : (a : ℕ) (note : ReleaseNote) → has_ended_in (actor_steps a deeds) ≡ false → IsLastNote casts deeds a note → GoesOn casts deeds h (OfActor a (LetterTaken (Note note)))
+  pub took_note : (a : ℕ) (note : ReleaseNote) → has_ended_in (actions_of (Actor a) deeds) ≡ false → IsLastNote casts deeds a note → GoesOn casts deeds h (Actor a, NoteTaken note)
   took_note a note living r =
       let is = owner_of casts deeds h note.caller keeps r.named in
       let none : copies_of note.caller a h ≡ Some 0 = sym (is.copies a) ∙ r.gone in
@@ -93,5 +93,5 @@ module _ (casts : List ActorSpec) (deeds : List Deed) (h : History) (keeps : Kee
       let here = lives casts deeds h a keeps (ap (λ (o : Option ActorSpec). is_some o) (sym (cast_is casts h a keeps.casts_are)) ∙ some_cast note.caller (cast_of a h) named) living in
       let carried : ReleaseNote = record { caller = note.caller; actor = a; after = note.after } in
       let taken = takes_note here.live carried (inbox_of a here) in
-      delivers (OfActor a (LetterTaken (Note note))) place.0 letter (NoteEntry carried) here taken.arrival taken.next (place.0, refl, place.1) tt place.1 refl taken.noted taken.inbox
-      (λ c. refl) (by_actor a (LetterTaken (Note note)) refl refl refl) (λ came. came)
+      delivers (Actor a, NoteTaken note) place.0 letter (NoteEntry carried) here taken.arrival taken.next (place.0, refl, place.1) tt place.1 refl taken.noted taken.inbox
+      (λ c. refl) (by_actor a (NoteTaken note) refl refl refl) (λ came. came)

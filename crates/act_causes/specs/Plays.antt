@@ -12,11 +12,9 @@ use Rattle.act_rules.specs.declared.history.Post.TheVariants.{Reply as ReplyPost
 use Rattle.act_rules.specs.History.{ActorSpec, History, opening, calls_of, kept_of, runs_of, is_dead, is_retired}
 use Rattle.act_rules.specs.Laws.{history}
 use Rattle.act_rules.specs.Rules.{outcomes}
-use Rattle.act_owner.specs.Life.{Copied, Released, Submitted, Sent, Noticed}
-use Rattle.act_mailbox.specs.declared.mail.Letter.TheVariants.{Call, Note}
-use Rattle.act_serve.specs.ActorSteps.{ActorStep, LetterTaken, CallRun, KillTaken, DeathTold, Retirement, is_retirement, log_of_steps, has_died_in}
-use Rattle.act_drive.specs.CallerSteps.{CallerStep, ChangeMade, KillAsked}
-use Rattle.act_causes.specs.Deeds.{Deed, OfCaller, OfActor, AreCaused, caller_steps, actor_steps, left_by}
+use Rattle.act_rules.specs.Actions.{Site, Caller, Actor, Action, Copied, Released, Submitted, Sent, Noticed, KillAsked, CallTaken, NoteTaken, CallRun, KillTaken, DeathTold, Retirement, actions_of}
+use Rattle.act_actor.specs.Life.{is_retirement, log_of, has_died_in}
+use Rattle.act_causes.specs.Deeds.{AreCaused, left_by}
 
 -- no actor has two casts, no caller stands twice in one, and the numbers are those of actors and callers
 pub record SpecsFit (casts : List ActorSpec) : Type 0 where
@@ -34,38 +32,37 @@ abbrev pub Collects : History → Post → Event → Type 0
 Collects h post event = (j : ℕ) × (event ≡ Collect j) × (slice_get h.posts j ≡ Some post)
 
 -- the event is the deed, in a play with this history
-abbrev pub IsEventOf : History → Deed → Event → Type 0
-IsEventOf h (OfCaller c (ChangeMade (Copied a))) event = event ≡ Copy c a
-IsEventOf h (OfCaller c (ChangeMade (Released a))) event = event ≡ Release c a
-IsEventOf h (OfCaller c (ChangeMade (Submitted a method args))) event = event ≡ Submit c a method args
-IsEventOf h (OfCaller c (ChangeMade (Sent k))) event = event ≡ Send c k
-IsEventOf h (OfCaller c (ChangeMade (Noticed (Answered reply)))) event =
-    Collects h (ReplyPost c reply.actor reply.place) event
-IsEventOf h (OfCaller c (ChangeMade (Noticed (Death a)))) event = Collects h (DeathPost c a) event
-IsEventOf h (OfCaller c (KillAsked a)) event = event ≡ AskKill c a
-IsEventOf h (OfActor a (LetterTaken (Call packet))) event = Brings h (CallLetter packet.caller a packet.number) event
-IsEventOf h (OfActor a (LetterTaken (Note note))) event = Brings h (NoteLetter note.caller a note.after) event
-IsEventOf h (OfActor a (CallRun item)) event = event ≡ Run a item.caller
-IsEventOf h (OfActor a (KillTaken kill)) event = event ≡ TakeKill a
-IsEventOf h (OfActor a (DeathTold c)) event = event ≡ Tell a c
-IsEventOf h (OfActor a Retirement) event = event ≡ Retire a
+abbrev pub IsEventOf : History → Site × Action → Event → Type 0
+IsEventOf h (Caller c, Copied a) event = event ≡ Copy c a
+IsEventOf h (Caller c, Released a) event = event ≡ Release c a
+IsEventOf h (Caller c, Submitted a method args) event = event ≡ Submit c a method args
+IsEventOf h (Caller c, Sent k) event = event ≡ Send c k
+IsEventOf h (Caller c, Noticed (Answered reply)) event = Collects h (ReplyPost c reply.actor reply.place) event
+IsEventOf h (Caller c, Noticed (Death a)) event = Collects h (DeathPost c a) event
+IsEventOf h (Caller c, KillAsked a) event = event ≡ AskKill c a
+IsEventOf h (Actor a, CallTaken packet) event = Brings h (CallLetter packet.caller a packet.number) event
+IsEventOf h (Actor a, NoteTaken note) event = Brings h (NoteLetter note.caller a note.after) event
+IsEventOf h (Actor a, CallRun item) event = event ≡ Run a item.caller
+IsEventOf h (Actor a, KillTaken asker note) event = event ≡ TakeKill a
+IsEventOf h (Actor a, DeathTold c) event = event ≡ Tell a c
+IsEventOf h (Actor a, Retirement) event = event ≡ Retire a
+IsEventOf h deed event = ⊥
 
--- a play takes these events, and leaves each caller and each actor as these steps of them do
-pub record IsPlayOfSteps (casts : List ActorSpec) (callers : ℕ → List CallerStep) (actors : ℕ → List ActorStep)
-    (events : List Event) : Type 0 where
+-- a play takes these events, and leaves each caller and each actor as what it did leaves it
+pub record IsPlayOfRun (casts : List ActorSpec) (run : Site → List Action) (events : List Event) : Type 0 where
   pub accepted : All IsOk (outcomes (opening casts) events)
-  pub calls : (c : ℕ) → calls_of c (history casts events) ≡ (left_by casts c (callers c)).calls
-  pub kept : (c : ℕ) → kept_of c (history casts events) ≡ (left_by casts c (callers c)).kept
-  pub runs : (a : ℕ) → runs_of a (history casts events) ≡ log_of_steps (actors a)
-  pub dead : (a : ℕ) → is_dead a (history casts events) ≡ has_died_in (actors a)
-  pub retired : (a : ℕ) → is_retired a (history casts events) ≡ list_any is_retirement (actors a)
+  pub calls : (c : ℕ) → calls_of c (history casts events) ≡ (left_by casts c (run (Caller c))).calls
+  pub kept : (c : ℕ) → kept_of c (history casts events) ≡ (left_by casts c (run (Caller c))).kept
+  pub runs : (a : ℕ) → runs_of a (history casts events) ≡ log_of (run (Actor a))
+  pub dead : (a : ℕ) → is_dead a (history casts events) ≡ has_died_in (run (Actor a))
+  pub retired : (a : ℕ) → is_retired a (history casts events) ≡ list_any is_retirement (run (Actor a))
 
 -- these events are the deeds, one by one; a play takes them all, and leaves callers and actors as the deeds do
-pub record IsPlayOfDeeds (casts : List ActorSpec) (deeds : List Deed) (events : List Event) : Type 0 where
+pub record IsPlayOfDeeds (casts : List ActorSpec) (deeds : List (Site × Action)) (events : List Event) : Type 0 where
   pub steps : AllZip (IsEventOf (history casts events)) deeds events
-  pub leaves : IsPlayOfSteps casts (λ c. caller_steps c deeds) (λ a. actor_steps a deeds) events
+  pub leaves : IsPlayOfRun casts (λ site. actions_of site deeds) events
 
--- whatever threads did, where each deed is caused by those before it: some play does the same
+-- whatever was done, where each deed is caused by those before it: some play does the same
 abbrev pub CausedDeedsArePlays : Type 0
-CausedDeedsArePlays = (casts : List ActorSpec) (deeds : List Deed) →
+CausedDeedsArePlays = (casts : List ActorSpec) (deeds : List (Site × Action)) →
     SpecsFit casts → AreCaused casts [] deeds → (events : List Event) × IsPlayOfDeeds casts deeds events

@@ -14,7 +14,7 @@ pub use Rattle.act_handles.proofs.Lookups.{copies-with_number}
 pub use Rattle.act_handles.specs.Handles.{copies_in}
 pub use Rattle.act_lists.proofs.Lists.{filter_mapped}
 pub use Rattle.act_owner.proofs.Life.{step}
-pub use Rattle.act_owner.specs.Life.{Noticed, Submitted}
+pub use Rattle.act_rules.specs.Actions.{Noticed, Submitted}
 pub use Rattle.act_owner.specs.Owner.{OwnerView, after_collect, call_at, numbered_call, opened_with, with_submission}
 pub use Rattle.act_owner.specs.declared.owner.Call.{Call}
 pub use Rattle.act_rules.specs.History.{ActorSpec, History, calls_of, contains, kept_of, opening}

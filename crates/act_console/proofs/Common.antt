@@ -17,7 +17,7 @@ pub use Rattle.act_console.specs.declared.streams.Output.TheVariants.{Refusal, R
 pub use Rattle.act_console.specs.declared.threads.Mark.{Mark}
 pub use Rattle.act_console.specs.declared.threads.Sorted.{Sorted}
 pub use Rattle.act_executor.proofs.PlaysOfThreads.AsPlay.{casts_stay}
-pub use Rattle.act_executor.proofs.Lists.Elements.{all_in, all_of_map, found_is}
+pub use Rattle.act_rules.proofs.Elements.{all_in, all_of_map, found_is}
 pub use Rattle.act_executor.specs.Joined.{IsJoined, RanAll, calls_in, calls_of_owner, end_of, kept_in, kept_of_owner, log_in, log_of_end, owner_of}
 pub use Rattle.act_executor.specs.PlanPlays.{IsPlayedAsPlanned}
 pub use Rattle.act_executor.specs.Plays.{IsEndIn, IsOwnerIn, IsPlayOf}

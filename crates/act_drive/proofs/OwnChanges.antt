@@ -1,10 +1,10 @@
 -- A caller that changes its owner by itself: what stays, and what a submission, a copy and a release do to its copies and calls.
-use Rattle.act_drive.proofs.Common.{◌≡◌, ◌≢◌, ℕ, ◌-◌, ◌==◌, Bool, false, if◌then◌else◌, List, [], ◌∷◌, ◌++◌, length, filter, Option, Some, None, is_some, refl}
-use Rattle.act_drive.proofs.Common.{sym, ◌∙◌, ap, subst, arith, All, append-nil, option_to_list, inl, inr, option_map, ne_eqb, eqb_tells, filter-append, Method}
-use Rattle.act_drive.proofs.Common.{Arg, Notice, Submission, calls_to, copies_held, copy_refusal, submit_refusal, option_or-none, needs-none, copies_in}
-use Rattle.act_drive.proofs.Common.{with_copy, with_number, without_copy, copies-with_copy-other, copies-without_copy, copies-without_copy-other}
-use Rattle.act_drive.proofs.Common.{copies-with_number, copy_holds, positive, OwnerView, refusal_to_submit, Change, after_change, notices_in, Hears, step}
-use Rattle.act_drive.proofs.Common.{hears_step, calls_to-length, CallerLines, Driver, IsCalling, OwnerGoesOn, HasNamed}
+use Rattle.act_drive.proofs.Common.{◌≡◌, ◌≢◌, ℕ, ◌-◌, ◌==◌, Bool, false, if◌then◌else◌, List, ◌∷◌, ◌++◌, length, filter, Option, Some, None, is_some, refl}
+use Rattle.act_drive.proofs.Common.{sym, ◌∙◌, ap, subst, arith, All, append-nil, option_to_list, inl, inr, option_map, ne_eqb, eqb_tells, filter-append}
+use Rattle.act_drive.proofs.Common.{Method, Arg, Notice, Submission, calls_to, copies_held, copy_refusal, submit_refusal, option_or-none, needs-none}
+use Rattle.act_drive.proofs.Common.{copies_in, with_copy, with_number, without_copy, copies-with_copy-other, copies-without_copy, copies-without_copy-other}
+use Rattle.act_drive.proofs.Common.{copies-with_number, copy_holds, positive, OwnerView, refusal_to_submit, Action, after_action, notices_in, Hears, step}
+use Rattle.act_drive.proofs.Common.{hears_step, calls_to-length, CallerLines, Driver, IsCalling, OwnerGoesOn, HasNamed, []}
 use Rattle.act_drive.proofs.Keeps.{Returns, keeps_on}
 use Rattle.act_drive.proofs.Noted.{noted_on}
 use Rattle.act_drive.proofs.Drivers.{change_on, held_on, endpoints_on, driver_same}
@@ -12,11 +12,11 @@ use Rattle.act_drive.proofs.Drivers.{change_on, held_on, endpoints_on, driver_sa
 -- ---- the owner changes by itself
 
 -- a caller at work is so after a change that collects and sends nothing, lets no last handle go, and regains none
-pub calling_step : (lines : CallerLines) (old new : Driver) (change : Change) → new.owner ≡ after_change old.owner change → new.passes ≡ old.passes → new.outbox ≡ old.outbox → new.noted ≡ old.noted → notices_in (change ∷ []) ≡ [] → length (after_change old.owner change).sent ≡ length (after_change old.owner change).calls
-    → ((b : ℕ) → copies_held (copies_in b old.owner.handles) ≡ 0 → (copies_held (copies_in b (after_change old.owner change).handles) ≡ 0) × (length (calls_to b (after_change old.owner change).calls) ≡ length (calls_to b old.owner.calls)))
-    → Returns old.owner (after_change old.owner change) → IsCalling lines old → IsCalling lines new
+pub calling_step : (lines : CallerLines) (old new : Driver) (change : Action) → new.owner ≡ after_action old.owner change → new.passes ≡ old.passes → new.outbox ≡ old.outbox → new.noted ≡ old.noted → notices_in (change ∷ []) ≡ [] → length (after_action old.owner change).sent ≡ length (after_action old.owner change).calls
+    → ((b : ℕ) → copies_held (copies_in b old.owner.handles) ≡ 0 → (copies_held (copies_in b (after_action old.owner change).handles) ≡ 0) × (length (calls_to b (after_action old.owner change).calls) ≡ length (calls_to b old.owner.calls)))
+    → Returns old.owner (after_action old.owner change) → IsCalling lines old → IsCalling lines new
 calling_step lines old new change is passes outbox marks quiet flags ended back calling =
-    let now = after_change old.owner change in
+    let now = after_action old.owner change in
     let on : OwnerGoesOn old.owner now = change_on old.owner change calling.places ended in
     let later : Driver = record { owner = now; passes = old.passes; outbox = old.outbox; noted = new.noted } in
     let good : IsCalling lines later = record {

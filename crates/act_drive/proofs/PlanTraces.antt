@@ -1,14 +1,9 @@
 -- The steps of a plan in a trace, one after another.
-use Rattle.act_drive.proofs.Common.{◌≡◌, List, [], ◌∷◌, ◌++◌, refl, sym, ◌∙◌, ap, arith, append_assoc, append-nil, All-push, Step, OwnerView, after_change}
-use Rattle.act_drive.proofs.Common.{CallerStep, ChangeMade, KillAsked, owner_after_steps, IsMeanwhile, DoesStep, DoesPlan}
-
-owner_append : (start : OwnerView) (one two : List CallerStep) → owner_after_steps start (one ++ two) ≡ owner_after_steps (owner_after_steps start one) two
-owner_append start [] two = refl
-owner_append start (ChangeMade change ∷ one) two = owner_append (after_change start change) one two
-owner_append start (KillAsked a ∷ one) two = owner_append start one two
+use Rattle.act_drive.proofs.Common.{◌≡◌, List, ◌∷◌, ◌++◌, refl, sym, ◌∙◌, ap, arith, append_assoc, append-nil, All-push, Step, OwnerView, Action}
+use Rattle.act_drive.proofs.Common.{after_actions, IsMeanwhile, DoesStep, DoesPlan, [], after_all-append}
 
 -- a step more that is none of the plan's
-pub meanwhile_more : (owner : OwnerView) (plan : List Step) (steps : List CallerStep) (x : CallerStep) → IsMeanwhile x → DoesPlan owner plan steps → DoesPlan owner plan (steps ++ x ∷ [])
+pub meanwhile_more : (owner : OwnerView) (plan : List Step) (steps : List Action) (x : Action) → IsMeanwhile x → DoesPlan owner plan steps → DoesPlan owner plan (steps ++ x ∷ [])
 meanwhile_more owner [] steps x is does = All-push IsMeanwhile steps x does is
 meanwhile_more owner (step ∷ plan) steps x is does = (
   does.0,
@@ -16,12 +11,12 @@ meanwhile_more owner (step ∷ plan) steps x is does = (
   does.2 ++ x ∷ [],
   does.3,
   does.4,
-  ap (λ (l : List CallerStep). l ++ x ∷ []) does.5 ∙ append_assoc does.1 does.2 (x ∷ []),
-  meanwhile_more (owner_after_steps owner does.1) plan does.2 x is does.6,
+  ap (λ (l : List Action). l ++ x ∷ []) does.5 ∙ append_assoc does.1 does.2 (x ∷ []),
+  meanwhile_more (after_actions owner does.1) plan does.2 x is does.6,
 )
 
 -- the plan's next step
-pub plan_more : (owner : OwnerView) (plan : List Step) (steps : List CallerStep) (step : Step) (more : List CallerStep) → ((o : OwnerView) (before : List CallerStep) → owner_after_steps o before ≡ owner_after_steps owner steps → DoesStep o step before (before ++ more)) → DoesPlan owner plan steps
+pub plan_more : (owner : OwnerView) (plan : List Step) (steps : List Action) (step : Step) (more : List Action) → ((o : OwnerView) (before : List Action) → after_actions o before ≡ after_actions owner steps → DoesStep o step before (before ++ more)) → DoesPlan owner plan steps
     → DoesPlan owner (plan ++ step ∷ []) (steps ++ more)
 plan_more owner [] steps step more mine does = (steps, steps ++ more, [], does, mine owner steps refl, sym (append-nil (steps ++ more)), λ k e below. absurd (omega (arith, below)))
 plan_more owner (one ∷ plan) steps step more mine does = (
@@ -30,6 +25,6 @@ plan_more owner (one ∷ plan) steps step more mine does = (
   does.2 ++ more,
   does.3,
   does.4,
-  ap (λ (l : List CallerStep). l ++ more) does.5 ∙ append_assoc does.1 does.2 more,
-  plan_more (owner_after_steps owner does.1) plan does.2 step more (λ o before is. mine o before (is ∙ sym (owner_append owner does.1 does.2) ∙ ap (owner_after_steps owner) (sym does.5))) does.6,
+  ap (λ (l : List Action). l ++ more) does.5 ∙ append_assoc does.1 does.2 more,
+  plan_more (after_actions owner does.1) plan does.2 step more (λ o before is. mine o before (is ∙ sym (after_all-append owner does.1 does.2) ∙ ap (after_actions owner) (sym does.5))) does.6,
 )

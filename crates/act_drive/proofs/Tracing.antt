@@ -1,68 +1,62 @@
 -- What a caller's thread leaves goes on, step by step.
-use Rattle.act_drive.proofs.Common.{◌≡◌, ℕ, suc, ◌-◌, ◌<◌, ◌≤◌, Bool, true, false, not, ◌&&◌, ◌||◌, List, [], ◌∷◌, ◌++◌, length, get_or, set, Option, Some}
-use Rattle.act_drive.proofs.Common.{None, is_some, refl, sym, ◌∙◌, ap, subst, arith, All, append_assoc, append-nil, inl, inr, map, option_map, slice_get}
-use Rattle.act_drive.proofs.Common.{Result, Ok, Err, OnOk, OnErr, AllZip, flat_map, range_with_len, map-append, set-get_or, All-weaker, All-set}
+use Rattle.act_drive.proofs.Common.{◌≡◌, ℕ, suc, ◌-◌, ◌<◌, ◌≤◌, Bool, true, false, not, ◌&&◌, List, ◌∷◌, ◌++◌, length, get_or, set, Option, Some, None}
+use Rattle.act_drive.proofs.Common.{is_some, refl, sym, ◌∙◌, ap, subst, arith, All, append_assoc, append-nil, inl, inr, map, option_map, slice_get, Result}
+use Rattle.act_drive.proofs.Common.{Ok, Err, OnOk, OnErr, AllZip, flat_map, range_with_len, map-append, set-get_or, All-weaker, All-set}
 use Rattle.act_drive.proofs.Common.{Contains-append_left, Contains-push, all_zipped_more, Notice, Packet, ReleaseNote, RunItem, Step, Release, Kill, Await}
 use Rattle.act_drive.proofs.Common.{Submission, NotReady, needs, kept_at, copies_held, handle_refusal, send_refusal, copies_in, without_copy}
-use Rattle.act_drive.proofs.Common.{copies-without_copy, OwnerView, sending_refusal, with_sent, with_handles, after_collect, is_known_call, is_sent, is_ready}
-use Rattle.act_drive.proofs.Common.{first_ready, is_known_dead, Sent, Released, Noticed, after_change, find_true, greatest, steps_in, found_in, AreTakenLater}
-use Rattle.act_drive.proofs.Common.{PutterView, TakerView, ControlView, Asked, Letter, Call, Note, Endpoint, CallerLines, CallerPasses, Driver, CallerStep}
-use Rattle.act_drive.proofs.Common.{ChangeMade, KillAsked, notice_collected, owner_after_steps, CallerMayDo, CallerMayDoAll, caller_clock, IsPostedAfter}
-use Rattle.act_drive.proofs.Common.{IsAskedAfter, IsCallerTrace, DoesStep, DoesPlan, HasDonePlan, IsTracing, IsTracingClosed, Traces, TracesStep, TracesClosing}
-use Rattle.act_drive.proofs.Common.{IsFreshCaller, IsFreshEndpoint, all_zip_weaker, steps_more, timed_later, timed_push, part_one, part_none, later_one}
-use Rattle.act_drive.proofs.Common.{later_none}
+use Rattle.act_drive.proofs.Common.{copies-without_copy, OwnerView, sending_refusal, with_sent, with_handles, after_collect, is_known_call, is_sent}
+use Rattle.act_drive.proofs.Common.{is_ready, first_ready, is_known_dead, Sent, Released, Noticed, after_action, find_true, greatest, steps_in, found_in}
+use Rattle.act_drive.proofs.Common.{AreTakenLater, PutterView, TakerView, ControlView, Asked, Letter, Call, Note, Endpoint, CallerLines, CallerPasses}
+use Rattle.act_drive.proofs.Common.{Driver, Action, KillAsked, notice_of, after_actions, CallerMayDo, CallerMayDoAll, caller_clock, IsPostedAfter}
+use Rattle.act_drive.proofs.Common.{IsAskedAfter, IsCallerTrace, DoesStep, DoesPlan, HasDonePlan, IsTracing, IsTracingClosed, Traces, TracesStep}
+use Rattle.act_drive.proofs.Common.{TracesClosing, IsFreshCaller, IsFreshEndpoint, all_zip_weaker, steps_more, timed_later, timed_push, part_one, part_none}
+use Rattle.act_drive.proofs.Common.{later_one, later_none, [], after_all-append, ◌||◌}
 use Rattle.act_rules.specs.declared.outcome.SendRefusal.TheVariants.{Answered}
 use Rattle.act_drive.proofs.PlanTraces.{meanwhile_more, plan_more}
 use Rattle.act_drive.proofs.Clocks.{greatest_grows, greatest_pushed, greatest_set, clock_grows, clock_taken, timed_none, zip_none}
 
 -- ---- the owner after steps
 
-owner_more : (start : OwnerView) (steps : List CallerStep) (step : CallerStep) → owner_after_steps start (steps ++ step ∷ []) ≡ owner_after_steps (owner_after_steps start steps) (step ∷ [])
-owner_more start [] step = refl
-owner_more start (ChangeMade change ∷ steps) step = owner_more (after_change start change) steps step
-owner_more start (KillAsked a ∷ steps) step = owner_more start steps step
-
-may_more : (start : OwnerView) (steps : List CallerStep) (step : CallerStep) → CallerMayDoAll start steps → CallerMayDo (owner_after_steps start steps) step → CallerMayDoAll start (steps ++ step ∷ [])
+may_more : (start : OwnerView) (steps : List Action) (step : Action) → CallerMayDoAll start steps → CallerMayDo (after_actions start steps) step → CallerMayDoAll start (steps ++ step ∷ [])
 may_more start [] step all mine = (mine, tt)
-may_more start (ChangeMade change ∷ steps) step all mine = (all.0, may_more (after_change start change) steps step all.1 mine)
-may_more start (KillAsked a ∷ steps) step all mine = (all.0, may_more start steps step all.1 mine)
+may_more start (one ∷ steps) step all mine = (all.0, may_more (after_action start one) steps step all.1 mine)
 
 -- a step more that the caller may do, after which it is `new`
-stepped : (start old new : OwnerView) (trace : List (ℕ × CallerStep)) (n : ℕ) (step : CallerStep) → CallerMayDo old step → new ≡ owner_after_steps old (step ∷ []) → CallerMayDoAll start (steps_in trace) → old ≡ owner_after_steps start (steps_in trace)
-    → CallerMayDoAll start (steps_in (trace ++ (n, step) ∷ [])) × (new ≡ owner_after_steps start (steps_in (trace ++ (n, step) ∷ [])))
+stepped : (start old new : OwnerView) (trace : List (ℕ × Action)) (n : ℕ) (step : Action) → CallerMayDo old step → new ≡ after_action old step → CallerMayDoAll start (steps_in trace) → old ≡ after_actions start (steps_in trace)
+    → CallerMayDoAll start (steps_in (trace ++ (n, step) ∷ [])) × (new ≡ after_actions start (steps_in (trace ++ (n, step) ∷ [])))
 stepped start old new trace n step may is allowed was =
     let more = steps_more trace ((n, step) ∷ []) in (
       subst (CallerMayDoAll start) (sym more) (may_more start (steps_in trace) step allowed (subst (λ (o : OwnerView). CallerMayDo o step) was may)),
-      is ∙ ap (λ (o : OwnerView). owner_after_steps o (step ∷ [])) was ∙ sym (owner_more start (steps_in trace) step) ∙ ap (owner_after_steps start) (sym more),
+      is ∙ ap (λ (o : OwnerView). after_action o step) was ∙ sym (after_all-append start (steps_in trace) (step ∷ [])) ∙ ap (after_actions start) (sym more),
     )
 
 -- ---- causes stay
 
-posted_on : (start : OwnerView) (trace more : List (ℕ × CallerStep)) (letter : Letter) (stamp later : ℕ) → stamp ≤ later → IsPostedAfter start trace letter stamp → IsPostedAfter start (trace ++ more) letter later
-posted_on start trace more (Call packet) stamp later on is = (is.0, Contains-append_left trace more (is.0, ChangeMade (Sent packet.future)) is.1, let below = is.2 in omega (arith, on, below))
+posted_on : (start : OwnerView) (trace more : List (ℕ × Action)) (letter : Letter) (stamp later : ℕ) → stamp ≤ later → IsPostedAfter start trace letter stamp → IsPostedAfter start (trace ++ more) letter later
+posted_on start trace more (Call packet) stamp later on is = (is.0, Contains-append_left trace more (is.0, Sent packet.future) is.1, let below = is.2 in omega (arith, on, below))
 posted_on start trace more (Note note) stamp later on is = (
   is.0,
   is.1 ++ more,
-  ap (λ (l : List (ℕ × CallerStep)). l ++ more) is.2 ∙ append_assoc is.0 is.1 more,
-  All-weaker (λ (x : ℕ × CallerStep). x.0 ≤ stamp) (λ (x : ℕ × CallerStep). x.0 ≤ later) (λ x below. omega (arith, on, below)) is.0 is.3,
+  ap (λ (l : List (ℕ × Action)). l ++ more) is.2 ∙ append_assoc is.0 is.1 more,
+  All-weaker (λ (x : ℕ × Action). x.0 ≤ stamp) (λ (x : ℕ × Action). x.0 ≤ later) (λ x below. omega (arith, on, below)) is.0 is.3,
   is.4,
 )
 
-abbrev ArePosted : OwnerView → List (ℕ × CallerStep) → Endpoint (PutterView Letter Unit) → Type 0
+abbrev ArePosted : OwnerView → List (ℕ × Action) → Endpoint (PutterView Letter Unit) → Type 0
 ArePosted start trace endpoint = AllZip (IsPostedAfter start trace) endpoint.pass.put endpoint.pass.stamps
 
-abbrev AreAskedAt : List ControlView → List (ℕ × CallerStep) → Endpoint (PutterView Asked ℕ) → Type 0
+abbrev AreAskedAt : List ControlView → List (ℕ × Action) → Endpoint (PutterView Asked ℕ) → Type 0
 AreAskedAt controls trace endpoint = (d : ControlView) → AllZip (IsAskedAfter trace (get_or controls endpoint.place d).actor) endpoint.pass.put endpoint.pass.stamps
 
-all_posted_on : (start : OwnerView) (trace more : List (ℕ × CallerStep)) (endpoints : List (Endpoint (PutterView Letter Unit))) → All (ArePosted start trace) endpoints → All (ArePosted start (trace ++ more)) endpoints
+all_posted_on : (start : OwnerView) (trace more : List (ℕ × Action)) (endpoints : List (Endpoint (PutterView Letter Unit))) → All (ArePosted start trace) endpoints → All (ArePosted start (trace ++ more)) endpoints
 all_posted_on start trace more endpoints all = All-weaker (ArePosted start trace) (ArePosted start (trace ++ more)) (λ endpoint is. all_zip_weaker (IsPostedAfter start trace) (IsPostedAfter start (trace ++ more)) endpoint.pass.put endpoint.pass.stamps (λ letter stamp. posted_on start trace more letter stamp stamp (omega arith)) is) endpoints all
 
-asked_on : (controls : List ControlView) (trace more : List (ℕ × CallerStep)) (endpoint : Endpoint (PutterView Asked ℕ)) → AreAskedAt controls trace endpoint → AreAskedAt controls (trace ++ more) endpoint
+asked_on : (controls : List ControlView) (trace more : List (ℕ × Action)) (endpoint : Endpoint (PutterView Asked ℕ)) → AreAskedAt controls trace endpoint → AreAskedAt controls (trace ++ more) endpoint
 asked_on controls trace more endpoint is d =
     let a = (get_or controls endpoint.place d).actor in
     all_zip_weaker (IsAskedAfter trace a) (IsAskedAfter (trace ++ more) a) endpoint.pass.put endpoint.pass.stamps (λ kill stamp was. (was.0, Contains-append_left trace more (was.0, KillAsked a) was.1, was.2)) (is d)
 
-all_asked_on : (controls : List ControlView) (trace more : List (ℕ × CallerStep)) (endpoints : List (Endpoint (PutterView Asked ℕ))) → All (AreAskedAt controls trace) endpoints → All (AreAskedAt controls (trace ++ more)) endpoints
+all_asked_on : (controls : List ControlView) (trace more : List (ℕ × Action)) (endpoints : List (Endpoint (PutterView Asked ℕ))) → All (AreAskedAt controls trace) endpoints → All (AreAskedAt controls (trace ++ more)) endpoints
 all_asked_on controls trace more endpoints all = All-weaker (AreAskedAt controls trace) (AreAskedAt controls (trace ++ more)) (λ endpoint. asked_on controls trace more endpoint) endpoints all
 
 -- ---- the clock goes on
@@ -104,11 +98,11 @@ traces_kept lines old new is letters kills collects outbox start done was =
         allowed = before.allowed;
         owner_is = is ∙ before.owner_is;
         notices = before.notices ∙ ap (λ (t : TakerView Notice RunItem). t.taken) (sym collects);
-        notices_later = subst (λ (t : TakerView Notice RunItem). AreTakenLater (found_in notice_collected trace) t.stamps) (sym collects) before.notices_later;
+        notices_later = subst (λ (t : TakerView Notice RunItem). AreTakenLater (found_in notice_of trace) t.stamps) (sym collects) before.notices_later;
         posted = subst (λ (l : List (Endpoint (PutterView Letter Unit))). All (ArePosted start trace) l) (sym letters) before.posted;
         asked = subst (λ (l : List (Endpoint (PutterView Asked ℕ))). All (AreAskedAt controls trace) l) (sym kills) before.asked;
       };
-      held = λ letter has. subst (λ (l : List (ℕ × CallerStep)). IsPostedAfter start l letter (caller_clock new.passes)) (append-nil trace) (posted_on start trace [] letter (caller_clock old.passes) (caller_clock new.passes) on (was.held letter (outbox letter has)));
+      held = λ letter has. subst (λ (l : List (ℕ × Action)). IsPostedAfter start l letter (caller_clock new.passes)) (append-nil trace) (posted_on start trace [] letter (caller_clock old.passes) (caller_clock new.passes) on (was.held letter (outbox letter has)));
       does = was.does;
     }
 
@@ -128,7 +122,7 @@ traces_back lines old new letter back at endpoint pass held here same is letters
 -- ---- a step of the owner's
 
 -- with the same passes
-trace_step : (controls : List ControlView) (start old new : OwnerView) (passes : CallerPasses) (trace : List (ℕ × CallerStep)) (step : CallerStep) → notice_collected step ≡ None → CallerMayDo old step → new ≡ owner_after_steps old (step ∷ []) → IsCallerTrace controls start old passes trace
+trace_step : (controls : List ControlView) (start old new : OwnerView) (passes : CallerPasses) (trace : List (ℕ × Action)) (step : Action) → notice_of step ≡ None → CallerMayDo old step → new ≡ after_action old step → IsCallerTrace controls start old passes trace
     → IsCallerTrace controls start new passes (trace ++ (caller_clock passes, step) ∷ [])
 trace_step controls start old new passes trace step quiet may is was =
     let now = caller_clock passes in
@@ -137,14 +131,14 @@ trace_step controls start old new passes trace step quiet may is was =
       timed = timed_push now now now trace step (omega arith) (omega arith) was.timed;
       allowed = after.0;
       owner_is = after.1;
-      notices = part_none notice_collected trace now step passes.collects.taken passes.collects.taken quiet was.notices refl;
-      notices_later = later_none notice_collected trace now step passes.collects.stamps passes.collects.stamps quiet was.notices_later refl;
+      notices = part_none notice_of trace now step passes.collects.taken passes.collects.taken quiet was.notices refl;
+      notices_later = later_none notice_of trace now step passes.collects.stamps passes.collects.stamps quiet was.notices_later refl;
       posted = all_posted_on start trace ((now, step) ∷ []) passes.letters.items was.posted;
       asked = all_asked_on controls trace ((now, step) ∷ []) passes.kills.items was.asked;
     }
 
 -- the same of a driver, where the letter in the outbox has its cause
-tracing_step : (lines : CallerLines) (start : OwnerView) (done next : List Step) (old new : Driver) (step : CallerStep) → notice_collected step ≡ None → CallerMayDo old.owner step → new.owner ≡ owner_after_steps old.owner (step ∷ []) → new.passes ≡ old.passes → (was : IsTracing start lines done old) → DoesPlan start next (steps_in was.trace ++ step ∷ [])
+tracing_step : (lines : CallerLines) (start : OwnerView) (done next : List Step) (old new : Driver) (step : Action) → notice_of step ≡ None → CallerMayDo old.owner step → new.owner ≡ after_action old.owner step → new.passes ≡ old.passes → (was : IsTracing start lines done old) → DoesPlan start next (steps_in was.trace ++ step ∷ [])
     → ((letter : Letter) → new.outbox ≡ Some letter → IsPostedAfter start (was.trace ++ (caller_clock old.passes, step) ∷ []) letter (caller_clock old.passes)) → IsTracing start lines next new
 tracing_step lines start done next old new step quiet may is passes was does held =
     let now = caller_clock old.passes in
@@ -157,7 +151,7 @@ tracing_step lines start done next old new step quiet may is passes was does hel
     }
 
 -- a plan's step is done in the trace by a step that the caller may do, collecting nothing, with the same passes
-pub traces_step : (lines : CallerLines) (old new : Driver) (planned : Step) (step : CallerStep) → ((owner : OwnerView) (before : List CallerStep) → DoesStep owner planned before (before ++ step ∷ [])) → notice_collected step ≡ None → CallerMayDo old.owner step → new.owner ≡ owner_after_steps old.owner (step ∷ []) → new.passes ≡ old.passes → new.outbox ≡ old.outbox → TracesStep lines planned old new
+pub traces_step : (lines : CallerLines) (old new : Driver) (planned : Step) (step : Action) → ((owner : OwnerView) (before : List Action) → DoesStep owner planned before (before ++ step ∷ [])) → notice_of step ≡ None → CallerMayDo old.owner step → new.owner ≡ after_action old.owner step → new.passes ≡ old.passes → new.outbox ≡ old.outbox → TracesStep lines planned old new
 traces_step lines old new planned step so quiet may is passes outbox start done was =
     let now = caller_clock old.passes in
     tracing_step lines start done (done ++ planned ∷ []) old new step quiet may is passes was (plan_more start done (steps_in was.trace) planned (step ∷ []) (λ o before same. so o before) was.does) (λ letter has. posted_on start was.trace ((now, step) ∷ []) letter now now (omega arith) (was.held letter (sym outbox ∙ has)))
@@ -180,7 +174,7 @@ ready_sends owner k ready = may_send owner k (is_sent owner k) (slice_get owner.
 pub traces_taken : (lines : CallerLines) (old new : Driver) (packet : Packet) → sending_refusal old.owner packet.future ≡ None → new.owner ≡ with_sent old.owner packet.future → new.passes ≡ old.passes → new.outbox ≡ Some (Call packet) → Traces lines old new
 traces_taken lines old new packet may is passes outbox start done was =
     let now = caller_clock old.passes in
-    let step : CallerStep = ChangeMade (Sent packet.future) in
+    let step : Action = Sent packet.future in
     tracing_step lines start done done old new step refl may is passes was (meanwhile_more start done (steps_in was.trace) step tt was.does) (λ letter has.
     let same : Call packet ≡ letter = cc (has, outbox) in
     subst (λ (l : Letter). IsPostedAfter start (was.trace ++ (now, step) ∷ []) l now) same (now, Contains-push was.trace (now, step), omega arith))
@@ -193,8 +187,8 @@ one_left (Some n) one = ap (λ (m : ℕ). Some (m - 1)) one
 pub traces_noted : (lines : CallerLines) (old new : Driver) (a : ℕ) (note : ReleaseNote) → handle_refusal (copies_in a old.owner.handles) ≡ None → copies_held (copies_in a old.owner.handles) ≡ 1 → note.actor ≡ a → new.owner ≡ with_handles old.owner (without_copy a old.owner.handles) → new.passes ≡ old.passes → new.outbox ≡ Some (Note note) → TracesStep lines (Release a) old new
 traces_noted lines old new a note may one to is passes outbox start done was =
     let now = caller_clock old.passes in
-    let step : CallerStep = ChangeMade (Released a) in
-    let trace : List (ℕ × CallerStep) = was.trace ++ (now, step) ∷ [] in
+    let step : Action = Released a in
+    let trace : List (ℕ × Action) = was.trace ++ (now, step) ∷ [] in
     let next = trace_step lines.controls.now start old.owner new.owner old.passes was.trace step refl may is was.trace_is in
     let none : copies_in note.actor new.owner.handles ≡ Some 0 = ap (λ (n : ℕ). copies_in n new.owner.handles) to ∙ ap (λ (o : OwnerView). copies_in a o.handles) is ∙ copies-without_copy a old.owner.handles ∙ one_left (copies_in a old.owner.handles) one in
     tracing_step lines start done (done ++ Release a ∷ []) old new step refl may is passes was (plan_more start done (steps_in was.trace) (Release a) (step ∷ []) (λ o before same. refl) was.does) (λ letter has.
@@ -209,7 +203,7 @@ traces_heard lines old new notice n is taken stamps letters kills outbox start d
     let trace = was.trace in
     let before = was.trace_is in
     let now = caller_clock new.passes in
-    let step : CallerStep = ChangeMade (Noticed notice) in
+    let step : Action = Noticed notice in
     let clocks : now ≡ caller_clock (record { letters = old.passes.letters; kills = old.passes.kills; collects = record old.passes.collects { stamps = old.passes.collects.stamps ++ n ∷ [] } }) =
     λ i. caller_clock (record { letters = letters i; kills = kills i; collects = record old.passes.collects { stamps = stamps i } }) in
     let takes = clock_taken (post_stamps old.passes ++ ask_stamps old.passes) old.passes.collects.stamps n in
@@ -222,8 +216,8 @@ traces_heard lines old new notice n is taken stamps letters kills outbox start d
         timed = timed_push (caller_clock old.passes) now now trace step on (omega arith) before.timed;
         allowed = after.0;
         owner_is = after.1;
-        notices = part_one notice_collected trace now step notice old.passes.collects.taken new.passes.collects.taken refl before.notices taken;
-        notices_later = later_one notice_collected trace now step notice n old.passes.collects.stamps new.passes.collects.stamps refl later before.notices_later stamps;
+        notices = part_one notice_of trace now step notice old.passes.collects.taken new.passes.collects.taken refl before.notices taken;
+        notices_later = later_one notice_of trace now step notice n old.passes.collects.stamps new.passes.collects.stamps refl later before.notices_later stamps;
         posted = subst (λ (v : _). All (ArePosted start (trace ++ (now, step) ∷ [])) v.items) (sym letters) (all_posted_on start trace ((now, step) ∷ []) old.passes.letters.items before.posted);
         asked = subst (λ (v : _). All (AreAskedAt controls (trace ++ (now, step) ∷ [])) v.items) (sym kills) (all_asked_on controls trace ((now, step) ∷ []) old.passes.kills.items before.asked);
       };
@@ -257,7 +251,7 @@ traces_posted lines old new letter at endpoint pass stamp now held below here pu
         allowed = before.allowed;
         owner_is = is ∙ before.owner_is;
         notices = before.notices ∙ ap (λ (t : TakerView Notice RunItem). t.taken) (sym collects);
-        notices_later = subst (λ (t : TakerView Notice RunItem). AreTakenLater (found_in notice_collected trace) t.stamps) (sym collects) before.notices_later;
+        notices_later = subst (λ (t : TakerView Notice RunItem). AreTakenLater (found_in notice_of trace) t.stamps) (sym collects) before.notices_later;
         posted = subst (λ (l : List (Endpoint (PutterView Letter Unit))). All (ArePosted start trace) l) (sym letters) (All-set (ArePosted start trace) old.passes.letters.items at next one before.posted);
         asked = subst (λ (v : _). All (AreAskedAt controls trace) v.items) (sym kills) before.asked;
       };
@@ -273,8 +267,8 @@ pub traces_asked : (lines : CallerLines) (old new : Driver) (a at : ℕ) (endpoi
 traces_asked lines old new a at endpoint pass kill stamp now may below here there put is kills letters collects outbox start done was =
     let controls = lines.controls.now in
     let clock = caller_clock old.passes in
-    let step : CallerStep = KillAsked a in
-    let trace : List (ℕ × CallerStep) = was.trace ++ (clock, step) ∷ [] in
+    let step : Action = KillAsked a in
+    let trace : List (ℕ × Action) = was.trace ++ (clock, step) ∷ [] in
     let before = trace_step controls start old.owner new.owner old.passes was.trace step refl may is was.trace_is in
     let next : Endpoint (PutterView Asked ℕ) = record { place = endpoint.place; pass = pass } in
     let more = more_at old.passes.kills.items at endpoint next stamp below here (ap (λ (p : PutterView Asked ℕ). p.stamps) put) in
@@ -293,7 +287,7 @@ traces_asked lines old new a at endpoint pass kill stamp now may below here ther
         allowed = before.allowed;
         owner_is = before.owner_is;
         notices = before.notices ∙ ap (λ (t : TakerView Notice RunItem). t.taken) (sym collects);
-        notices_later = subst (λ (t : TakerView Notice RunItem). AreTakenLater (found_in notice_collected trace) t.stamps) (sym collects) before.notices_later;
+        notices_later = subst (λ (t : TakerView Notice RunItem). AreTakenLater (found_in notice_of trace) t.stamps) (sym collects) before.notices_later;
         posted = subst (λ (v : _). All (ArePosted start trace) v.items) (sym letters) before.posted;
         asked = subst (λ (l : List (Endpoint (PutterView Asked ℕ))). All (AreAskedAt controls trace) l) (sym kills) (All-set (AreAskedAt controls trace) old.passes.kills.items at next one before.asked);
       };
@@ -303,7 +297,7 @@ traces_asked lines old new a at endpoint pass kill stamp now may below here ther
 
 -- ---- a step that leaves no step in the trace
 
-unstepped : (start : OwnerView) (lines : CallerLines) (done : List Step) (driver : Driver) (step : Step) → ((o : OwnerView) (before : List CallerStep) → owner_after_steps o before ≡ driver.owner → DoesStep o step before before) → IsTracing start lines done driver → IsTracing start lines (done ++ step ∷ []) driver
+unstepped : (start : OwnerView) (lines : CallerLines) (done : List Step) (driver : Driver) (step : Step) → ((o : OwnerView) (before : List Action) → after_actions o before ≡ driver.owner → DoesStep o step before before) → IsTracing start lines done driver → IsTracing start lines (done ++ step ∷ []) driver
 unstepped start lines done driver step so was = record {
   trace = was.trace;
   trace_is = was.trace_is;

@@ -4,7 +4,6 @@ pub mod Parts
 pub mod Sessions
 pub mod Coded
 pub mod Lent
-pub mod CallerSteps
 pub mod CallerTraces
 pub mod PlanTraces
 pub mod Tracing

@@ -8,14 +8,14 @@ use Rattle.act_mailbox.specs.declared.mail.Letter.{Letter}
 use Rattle.act_drive.specs.declared.driver.CallerLines.{CallerLines}
 use Rattle.act_drive.specs.declared.driver.Driver.{Driver}
 use Rattle.act_drive.specs.Driven.{IsCalling, Waits}
-use Rattle.act_drive.specs.CallerSteps.{CallerStep}
+use Rattle.act_rules.specs.Actions.{Action}
 use Rattle.act_drive.specs.CallerTraces.{caller_clock, IsPostedAfter, IsCallerTrace}
 use Rattle.act_drive.specs.PlanTraces.{DoesPlan}
 
 -- a caller at work that began as `start` left a trace, in which it did the steps `done` of a plan, and in which the
 -- letter in its outbox has its cause
 pub record IsTracing (start : OwnerView) (lines : CallerLines) (done : List Step) (driver : Driver) : Type 0 where
-  pub trace : List (ℕ × CallerStep)
+  pub trace : List (ℕ × Action)
   pub trace_is : IsCallerTrace lines.controls.now start driver.owner driver.passes trace
   pub held : (letter : Letter) → driver.outbox ≡ Some letter →
       IsPostedAfter start trace letter (caller_clock driver.passes)

@@ -21,7 +21,7 @@ use Rattle.act_plans.specs.Runs.{cast_at}
 use Rattle.act_executor.specs.Joined.{end_of, log_of_end, calls_in, log_in, killed_in}
 use Rattle.act_executor.proofs.Lists.Cuts.{pairs_append}
 use Rattle.act_executor.proofs.PlaysOfPlans.Heard.{front_after}
-use Rattle.act_executor.proofs.Lists.Agreeing.{place_behind}
+use Rattle.act_rules.proofs.Places.{place_behind}
 use Rattle.act_own.specs.Kept.{OpensAt}
 use Rattle.act_epochs.specs.Epochs.{Epoch, IsEpoch, casts_left, AreEpochs, casts_after}
 use Rattle.act_epochs.specs.OverEpochs.{runs, submitted_in, ran_in, IsInState, IsAnswerOfAllRuns, IsOver, AreConsistent, CastKeeps}

@@ -9,8 +9,8 @@ use Rattle.act_rules.specs.declared.history.RunItem.{RunItem}
 use Rattle.act_rules.specs.RunList.{Answer, after_item, answers_from, answer_at, state_after}
 use Rattle.act_rules.specs.Consistent.{IsPrefix}
 use Rattle.act_rules.proofs.Kept.{answers_from-append, length-answers_from, answer_at-front}
-use Rattle.act_executor.proofs.Lists.Elements.{IsIn}
-use Rattle.act_executor.proofs.Lists.Agreeing.{place_behind}
+use Rattle.act_rules.proofs.Elements.{IsIn}
+use Rattle.act_rules.proofs.Places.{place_behind}
 
 -- ---- prefixes
 

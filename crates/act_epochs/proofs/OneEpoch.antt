@@ -27,7 +27,7 @@ use Rattle.act_plans.specs.Runs.{cast_at, plan_of}
 use Rattle.act_plans.proofs.Keys.{pairs_of_map}
 use Rattle.act_plans.proofs.Matching.{numbers_differ}
 use Rattle.act_executor.specs.Joined.{IsJoined, RanAll, is_killed, is_killed_end, is_starved, end_of, log_of_end, calls_in, log_in, killed_in}
-use Rattle.act_executor.proofs.Lists.Elements.{IsIn, all_in, found_is, finds, any_is, empty_by_places, enumerated}
+use Rattle.act_rules.proofs.Elements.{IsIn, all_in, found_is, finds, any_is, empty_by_places, enumerated}
 use Rattle.act_executor.proofs.EndsOfRuns.Found.{one_of, planned_known}
 use Rattle.act_executor.proofs.Lists.Stamped.{mapped_at}
 use Rattle.act_epochs.specs.Epochs.{cast_of_end}

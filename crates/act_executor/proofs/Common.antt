@@ -9,13 +9,15 @@ pub use Rattle.act_causes.proofs.Found.{place_in_front}
 pub use Rattle.act_causes.proofs.Fronts.{EachFront, IsStepwisePlay, KeepsAnswers, letter_of, post_of}
 pub use Rattle.act_causes.proofs.Merging.{merge_of}
 pub use Rattle.act_causes.proofs.Replaying.{play_of}
-pub use Rattle.act_causes.specs.Deeds.{AreCaused, Deed, IsActorCaused, IsCallerCaused, IsCaused, IsGiven, IsLastNote, IsNamed, IsReplyGiven, IsSentCall}
-pub use Rattle.act_causes.specs.Deeds.{IsSentTo, OfActor, OfCaller, actor_step, actor_steps, caller_step, caller_steps, left_by, opened_of, owner_by}
-pub use Rattle.act_causes.specs.Merge.{ActorThreads, AreApart, CallerThreads, IsFrontBelow, IsMergeOf, Thread, trace_in, trace_of}
-pub use Rattle.act_causes.specs.Plays.{IsEventOf, IsPlayOfSteps, SpecsFit}
+pub use Rattle.act_causes.specs.Deeds.{AreCaused, IsCaused, IsGiven, IsLastNote, IsNamed, IsReplyGiven, IsSentCall, MayDo, MayDoAll, left_by, opened_of}
+pub use Rattle.act_causes.specs.Deeds.{owner_by}
+pub use Rattle.act_causes.specs.Merge.{AreBelow, IsFrontBelow, IsMergeOf, Threads, site_number}
+pub use Rattle.act_causes.specs.Plays.{IsEventOf, IsPlayOfRun, SpecsFit}
 pub use Rattle.act_drive.proofs.Drivers.{notice_keeps}
-pub use Rattle.act_drive.specs.CallerSteps.{CallerMayDo, CallerMayDoAll, CallerStep, ChangeMade, KillAsked, MayChange, change_made, changes_made}
-pub use Rattle.act_drive.specs.CallerSteps.{notice_collected, owner_after_steps}
+pub use Rattle.act_rules.specs.Actions.{Site, Caller, Actor, Action, action_at, actions_of, KillAsked, Copied, Noticed, Released, Sent, Submitted, CallRun}
+pub use Rattle.act_rules.specs.Actions.{DeathTold, KillTaken, CallTaken, NoteTaken, Retirement}
+pub use Rattle.act_owner.specs.Life.{CallerMayDo, CallerMayDoAll, notice_of, after_actions, IsBereft, IsReplied, IsToldBy, after_action, is_known_at}
+pub use Rattle.act_actor.specs.Life.{ActorMayDo, ActorMayDoAll, call_run, has_died_in, has_ended_in, is_kill_taken, is_retirement, log_of}
 pub use Rattle.act_drive.specs.CallerTraces.{IsAskedAfter, IsCallerTrace, IsPostedAfter}
 pub use Rattle.act_drive.specs.Coded.{HasConcluded}
 pub use Rattle.act_drive.specs.Driven.{AreAsked, AreDistinct, AreKillEndpoints, AreTwo, HasAsked, HasPosted, IsFreshCaller, IsFreshEndpoint, IsKillEndpoint}
@@ -39,7 +41,7 @@ pub use Rattle.act_executor.specs.PlanPlays.{CollectsInLine, DoesPlanIn, DoesSte
 pub use Rattle.act_executor.specs.Plays.{HasEndedIn, IsEndIn, IsOwnerIn, IsPlayOf, IsPlayed}
 pub use Rattle.act_executor.specs.Runs.{HasRunPlans, IsFault, IsPrepared, IsThreadFault, fault_of, plan_view}
 pub use Rattle.act_executor.specs.SoFar.{AreControls, AreMails, AreReplies}
-pub use Rattle.act_executor.specs.Traced.{AreTraced, IsCallPosted, IsKillAsked, IsNotePosted, IsNoticeGiven, IsPosted, IsReplyGivenBy, TracedRunsArePlayed}
+pub use Rattle.act_executor.specs.Traced.{AreTraced, IsCallPosted, IsNotePosted, IsReplyGivenBy, TracedRunsArePlayed, WasDone, WasGiven}
 pub use Rattle.act_executor.specs.Work.{ActorStart, CallerStart, CanDrive, CanServe, IsAsked, IsDrivenTo, IsServedBy, IsUnusedStarter, cast_start}
 pub use Rattle.act_executor.specs.Work.{driving_start, serving_start, setup_start}
 pub use Rattle.act_executor.specs.declared.joined.Joined.{Joined}
@@ -67,8 +69,6 @@ pub use Rattle.act_mailbox.specs.declared.mail.Letter.TheVariants.{Call, Note}
 pub use Rattle.act_mailbox.specs.declared.thread.Endpoint.{Endpoint}
 pub use Rattle.act_owner.proofs.Life.{after_all-append, packet_stays_all, places_all}
 pub use Rattle.act_owner.proofs.Told.{is_death-only}
-pub use Rattle.act_owner.specs.Life.{Change, Copied, IsBereft, IsReplied, IsToldBy, Noticed, Released, Sent, Submitted, after_change, after_changes}
-pub use Rattle.act_owner.specs.Life.{is_known_at}
 pub use Rattle.act_owner.specs.Owner.{OwnerView, after_collect, after_reply_that, is_death, is_known_dead, is_of_call, is_sent, is_to, opened_under}
 pub use Rattle.act_owner.specs.Owner.{opened_with, owner_limit, packet_at, packet_for, pending, refusal_to_submit, sending_refusal, with_death}
 pub use Rattle.act_owner.specs.declared.owner.Collected.TheVariants.{First, Late, Stray}
@@ -86,7 +86,6 @@ pub use Rattle.act_rules.proofs.Ended.{needs-none}
 pub use Rattle.act_rules.proofs.Finding.{find-None}
 pub use Rattle.act_rules.proofs.Growth.{added_grows}
 pub use Rattle.act_rules.proofs.Kept.{answer_at-front, kept_at_is, kept_by}
-pub use Rattle.act_rules.proofs.KindFaults.{IsAlive, answer_alive}
 pub use Rattle.act_rules.proofs.Letters.{calls_to-number}
 pub use Rattle.act_rules.proofs.Lists.{All-two, AllPairs-map, All_at, All_more, IsPrefix-map, find-map, front_trans, length-zip_same, list_any-map}
 pub use Rattle.act_rules.proofs.Lists.{option_or-none, range_push, slice_get-enumerate_from, slice_get-filter, slice_get_front, whole_front}
@@ -101,7 +100,6 @@ pub use Rattle.act_rules.specs.History.{is_retired, kept_of, opening, opening_of
 pub use Rattle.act_rules.specs.Laws.{history}
 pub use Rattle.act_rules.specs.Plans.{Progress, do_step, done_by, first_bad, holds, is_refused, kills_to, nothing_done, occurrences, planned}
 pub use Rattle.act_rules.specs.Report.{one_to}
-pub use Rattle.act_rules.specs.Rules.{outcomes}
 pub use Rattle.act_rules.specs.RunList.{Answer, NothingFollowsAnEnd, answer_at, has_terminated, items_of}
 pub use Rattle.act_rules.specs.Submissions.{calls_to, copy_refusal, handle_refusal, is_known, kept_at, limit_refusal, number_of, send_refusal, settle}
 pub use Rattle.act_rules.specs.Submissions.{submit_refusal}
@@ -114,9 +112,7 @@ pub use Rattle.act_rules.specs.declared.script.Step.{Step}
 pub use Rattle.act_rules.specs.declared.script.Step.TheVariants.{Await, Copy, Kill, Release, Submit}
 pub use Rattle.act_serve.proofs.Answered.{replies_answer, replies_are_due}
 pub use Rattle.act_serve.proofs.Clocks.{contains_map}
-pub use Rattle.act_serve.specs.ActorSteps.{ActorMayDo, ActorMayDoAll, ActorStep, CallRun, DeathTold, KillTaken, LetterTaken, Retirement, call_run, has_died_in}
-pub use Rattle.act_serve.specs.ActorSteps.{has_ended_in, is_kill_step, is_retirement, kill_taken, letter_taken, log_of_steps}
-pub use Rattle.act_serve.specs.ActorTraces.{IsActorTrace, IsActorTraced, IsGivenAfter, exec_clock}
+pub use Rattle.act_serve.specs.ActorTraces.{IsActorTrace, IsActorTraced, IsGivenAfter, exec_clock, taking, kill_taken, letter_taken}
 pub use Rattle.act_serve.specs.Served.{EndView, HasDrained, HasServed, IfRetired, IsAnswerOf, IsLogOf, IsReplyOf, IsTakenAt, Killed, KillsOfDead, KillsTaken}
 pub use Rattle.act_serve.specs.Served.{Retired, Starved, caller_at, deaths, end_id, end_log, end_view, endpoint_callers, first_note, note_in, places_of}
 pub use Rattle.act_serve.specs.Served.{replies_to, without_given}
@@ -139,15 +135,14 @@ pub use Rattle.act_types.specs.declared.limits.TheConstants.{MAX_ACTORS, MAX_CAL
 pub use Rattle.act_world.proofs.Heard.{death_listed}
 pub use Rattle.act_world.proofs.Lists.{contains-more}
 pub use Rattle.atomic_table.specs.Seated.{TableId}
-pub use Rattle.std.proofs.Common.{All, AllPairs, Bool, Contains, Err, IfErr, IsErrAnd, IsOk, IsTrue, List, None, Ok, Option, Result, Some, [], ap, append-nil}
-pub use Rattle.std.proofs.Common.{append_assoc, arith, cond, drop, false, filter, filter_map, find, flat_map, get_or, if◌then◌else◌, inl, inr, is_some, length}
-pub use Rattle.std.proofs.Common.{length-append, map, not, option_and_then, option_map, pos, refl, rules, set, slice_get, slice_index_or, subst, suc}
-pub use Rattle.std.proofs.Common.{sym, take, true, true≢false, vec_capacity, vec_items, vec_len, zero, zip, ℕ, ◌&&◌, ◌++◌, ◌+◌, ◌-◌, ◌<◌, ◌==◌, ◌||◌, ◌∙◌, ◌∷◌}
-pub use Rattle.std.proofs.Common.{◌≡◌, ◌≢◌, ◌≤◌, ◌⊎◌}
+pub use Rattle.std.proofs.Common.{All, AllPairs, Bool, Contains, Err, IfErr, IsErrAnd, IsTrue, List, None, Ok, Option, Result, Some, [], ap, append-nil}
+pub use Rattle.std.proofs.Common.{append_assoc, arith, cond, drop, false, filter, filter_map, find, flat_map, get_or, if◌then◌else◌, inl, inr, is_some}
+pub use Rattle.std.proofs.Common.{length, length-append, map, not, option_and_then, option_map, pos, refl, rules, set, slice_get, slice_index_or, subst, suc}
+pub use Rattle.std.proofs.Common.{sym, take, true, true≢false, vec_capacity, vec_items, vec_len, zero, zip, ℕ, ◌&&◌, ◌++◌, ◌+◌, ◌-◌, ◌<◌, ◌==◌, ◌||◌, ◌∙◌}
+pub use Rattle.std.proofs.Common.{◌∷◌, ◌≡◌, ◌≢◌, ◌≤◌, ◌⊎◌}
 pub use Rattle.std.proofs.Math.Bool.{or-false}
-pub use Rattle.std.proofs.Math.Nat.{eq-or-lt_of_le}
 pub use Rattle.std.proofs.Math.Seq.{map-set_same}
-pub use Rattle.std.proofs.lemmas.Bool.{and_parts, cases_Bool, eq-eqb, eqb-true, ne_eqb, not-true, or_cases, or_right}
+pub use Rattle.std.proofs.lemmas.Bool.{and_parts, eq-eqb, eqb-true, ne_eqb, not-true}
 pub use Rattle.std.proofs.lemmas.Bool.Decides.{eqb_tells, leb_tells}
 pub use Rattle.std.proofs.lemmas.List.{get_or-map, get_or_default, length-map, length-take-le, map-append, map_more, nil_from_length, same_lists, set-get_or}
 pub use Rattle.std.proofs.lemmas.List.{take_all}
@@ -158,7 +153,7 @@ pub use Rattle.std.proofs.lemmas.List.FromFn.{get_or-range_with_len, length-enum
 pub use Rattle.std.proofs.lemmas.List.Kept.{AllPairs-cons, AllPairs-filter}
 pub use Rattle.std.proofs.lemmas.List.Sums.{AllPass-from_list_all, list_all-from_AllPass}
 pub use Rattle.std.proofs.lemmas.Map.Keys.{any_passes_from_place}
-pub use Rattle.std.proofs.lemmas.Option.{get_or_from_slice_get, slice_get-get_or, slice_get-map, slice_get_read, slice_get_within}
+pub use Rattle.std.proofs.lemmas.Option.{get_or_from_slice_get, slice_get-get_or, slice_get-map, slice_get_within}
 pub use Rattle.std.proofs.lemmas.Result.{IfOk-weaker}
 pub use Rattle.std.proofs.lemmas.Simd.{map-map}
 pub use Rattle.std.specs.Cmp.{both_ways}

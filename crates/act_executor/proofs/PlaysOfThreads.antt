@@ -2,11 +2,9 @@ pub mod Seen
 pub mod Traced
 pub mod Allowed
 pub mod MayDo
-pub mod CallerCauses
-pub mod ActorCauses
+pub mod Causes
 pub mod AsPlay
 pub mod HaveTraces
-pub mod MadeThreads
 pub mod ActorWork
 pub mod CallerWork
 pub mod TracedActors

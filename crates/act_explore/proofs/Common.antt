@@ -6,7 +6,7 @@ pub use Rattle.act_early.proofs.Listed.{named_caller}
 pub use Rattle.act_early.proofs.Worlds.{world}
 pub use Rattle.act_early.specs.Early.{EndsAlike, HasRunMore, IsQuiescent, IsWholeSearch, is_heard}
 pub use Rattle.act_early.specs.Plays.{At, IsPlay}
-pub use Rattle.act_executor.proofs.Lists.Elements.{IsIn, all_in, any_is, contains_from_in, contains_is, in_filter, in_from_contains}
+pub use Rattle.act_rules.proofs.Elements.{IsIn, all_in, any_is, contains_from_in, contains_is, in_filter, in_from_contains}
 pub use Rattle.act_executor.specs.Joined.{IsJoined, calls_in, calls_of_owner, kept_in, kept_of_owner}
 pub use Rattle.act_executor.specs.Plays.{IsOwnerIn}
 pub use Rattle.act_executor.specs.Runs.{plan_view}

@@ -212,8 +212,8 @@ impl IdleBackoff {
     }
 }
 
-/// What a thread did: of a caller's thread how its owner was changed, of an actor's thread how the
-/// actor was, or whom it told. Each is noted before what it causes in another thread is put.
+/// An action of a caller or an actor (`Action`, act_rules/specs/Actions.antt), as its thread notes it
+/// at run time. Each is noted before what it causes in another thread is put.
 #[derive(Clone, Copy, Debug, PartialEq, Eq)]
 pub enum Mark {
     /// A call was submitted to the actor. Its future is the caller's next.

@@ -4,8 +4,7 @@ pub use Rattle.act_handles.specs.Handles.{change_handle, copies_in, given_in, gi
 pub use Rattle.act_handles.specs.Handles.{without_copy}
 pub use Rattle.act_handles.specs.declared.handles.Handle.{Handle}
 pub use Rattle.act_lists.proofs.Lists.{slice_get_last}
-pub use Rattle.act_owner.specs.Life.{AreAccepted, Change, Copied, Hears, IsAccepted, IsToldBy, Noticed, Released, Sent, Submitted, after_change, after_changes}
-pub use Rattle.act_owner.specs.Life.{is_known_at, notices_in}
+pub use Rattle.act_owner.specs.Life.{AreAccepted, Hears, IsAccepted, IsToldBy, after_action, after_actions, is_known_at, notices_in}
 pub use Rattle.act_owner.specs.Owner.{IsOwner, KnowsAnswers, OwnerView, after_reply_that, answer_after_death, answer_of_new_call, answered_row, answers_of}
 pub use Rattle.act_owner.specs.Owner.{call_at, call_waits_for, collected_reply, entered_call, first_ready, futures_of_args, is_death, is_known_call}
 pub use Rattle.act_owner.specs.Owner.{is_known_dead, is_of_call, is_sent, is_to, numbered_call, opened_under, owner_limit, packet_at, packet_for, pending}
@@ -20,6 +19,7 @@ pub use Rattle.act_resolver.specs.Resolver.{Entered, changed_at, is_answered, is
 pub use Rattle.act_rules.proofs.Events.{calls_to-length}
 pub use Rattle.act_rules.proofs.Finding.{find-None, find-Some}
 pub use Rattle.act_rules.proofs.Lists.{option_or-none_second}
+pub use Rattle.act_rules.specs.Actions.{Action, Copied, Noticed, Released, Sent, Submitted}
 pub use Rattle.act_rules.specs.RunList.{Answer}
 pub use Rattle.act_rules.specs.Submissions.{calls_to, copies_held, is_known, kept_at, limit_refusal, needs, number_of, settle, settled_future, submit_refusal}
 pub use Rattle.act_rules.specs.declared.history.Submission.{Submission}

@@ -1,10 +1,10 @@
--- What the changes of a caller leave: its calls, their numbers, and the answers that it keeps.
-use Rattle.act_owner.proofs.Common.{◌≡◌, ℕ, zero, suc, ◌<◌, ◌==◌, ◌&&◌, Bool, true, false, if◌then◌else◌, List, [], ◌∷◌, ◌++◌, length, map, Option, Some, None}
-use Rattle.act_owner.proofs.Common.{is_some, Err, inl, inr, refl, ◌∙◌, ap, arith, slice_get, slice_set, option_map, zip, list_all, length-append, length-set}
-use Rattle.act_owner.proofs.Common.{slice_get_past, leb_tells, and_parts, ActorDied, Method, Arg, Plain, Fut, Settled, Reply, Answered, Death, Submission}
-use Rattle.act_owner.proofs.Common.{Answer, number_of, kept_at, settle, settled_future, is_known, copies_in, First, Late, Stray, OwnerView, with_submission}
-use Rattle.act_owner.proofs.Common.{with_death, after_reply_that, is_of_call, is_known_dead, answer_of_new_call, answer_after_death, is_known_call, packet_for}
-use Rattle.act_owner.proofs.Common.{packet_at, Change, Copied, Released, Submitted, Sent, Noticed, after_change, after_changes, is_known_at}
+-- What the actions of a caller leave: its calls, their numbers, and the answers that it keeps.
+use Rattle.act_owner.proofs.Common.{◌≡◌, ℕ, zero, suc, ◌<◌, ◌==◌, ◌&&◌, Bool, true, false, if◌then◌else◌, List, [], ◌∷◌, ◌++◌, length, map, Option, Some}
+use Rattle.act_owner.proofs.Common.{None, is_some, Err, inl, inr, refl, ◌∙◌, ap, arith, slice_get, slice_set, option_map, zip, list_all, length-append}
+use Rattle.act_owner.proofs.Common.{length-set, slice_get_past, leb_tells, and_parts, ActorDied, Method, Arg, Plain, Fut, Settled, Reply, Answered, Death}
+use Rattle.act_owner.proofs.Common.{Submission, Answer, number_of, kept_at, settle, settled_future, is_known, copies_in, First, Late, Stray, OwnerView}
+use Rattle.act_owner.proofs.Common.{with_submission, with_death, after_reply_that, is_of_call, is_known_dead, answer_of_new_call, answer_after_death}
+use Rattle.act_owner.proofs.Common.{is_known_call, packet_for, packet_at, Action, Submitted, Sent, Noticed, after_action, after_actions, is_known_at}
 use Rattle.act_owner.proofs.Calls.{get_before, number_of-more}
 
 -- what was there stays: each call with its number, and each answer
@@ -63,7 +63,7 @@ packet_stays owner later k grown known =
     let both = packet_by owner later k (slice_get owner.calls k) grown refl known in
     (ap (is_known_call later) same ∙ both.0, ap (option_map (packet_for later k)) same ∙ both.1)
 
--- ---- the answers after a change
+-- ---- the answers after an action
 
 kept_more : (kept : List (Option Answer)) (x : Option Answer) (k : ℕ) → is_some (kept_at kept k) ≡ true → kept_at (kept ++ x ∷ []) k ≡ kept_at kept k
 kept_more [] x k some = absurd (cc some)
@@ -94,7 +94,7 @@ places_death a [] (y ∷ kept) same = absurd (omega (arith, same))
 places_death a (call ∷ calls) [] same = absurd (omega (arith, same))
 places_death a (call ∷ calls) (y ∷ kept) same = ap suc (places_death a calls kept (omega (arith, same)))
 
--- ---- each change
+-- ---- each action
 
 unchanged : (owner : OwnerView) → length owner.kept ≡ length owner.calls → Extends owner owner
 unchanged owner places = record { id = refl; calls = λ k _. refl; numbers = λ a k _. refl; kept = λ k _. refl; places = places }
@@ -131,31 +131,31 @@ died owner a true places = record {
   places = places_death a owner.calls owner.kept places;
 }
 
--- over a change each call stays, with its number and with its answer if it has one
-pub step : (owner : OwnerView) (change : Change) → length owner.kept ≡ length owner.calls → Extends owner (after_change owner change)
+-- over an action each call stays, with its number and with its answer if it has one
+pub step : (owner : OwnerView) (action : Action) → length owner.kept ≡ length owner.calls → Extends owner (after_action owner action)
 step owner (Submitted a method args) places = submitted owner a method args places
 step owner (Sent k) places = record { id = refl; calls = λ j _. refl; numbers = λ b j _. refl; kept = λ j _. refl; places = places }
 step owner (Noticed (Answered reply)) places = answered owner reply (is_of_call owner reply) (is_some (kept_at owner.kept reply.future)) places refl
 step owner (Noticed (Death a)) places = died owner a (is_some (copies_in a owner.handles)) places
-step owner change places = record { id = refl; calls = λ k _. refl; numbers = λ b k _. refl; kept = λ k _. refl; places = places }
+step owner action places = record { id = refl; calls = λ k _. refl; numbers = λ b k _. refl; kept = λ k _. refl; places = places }
 
 -- ---- a life
 
--- where each call has its place for an answer, so it is after any changes
-pub places_all : (owner : OwnerView) (changes : List Change) → length owner.kept ≡ length owner.calls → length (after_changes owner changes).kept ≡ length (after_changes owner changes).calls
+-- where each call has its place for an answer, so it is after any actions
+pub places_all : (owner : OwnerView) (actions : List Action) → length owner.kept ≡ length owner.calls → length (after_actions owner actions).kept ≡ length (after_actions owner actions).calls
 places_all owner [] places = places
-places_all owner (change ∷ changes) places = places_all (after_change owner change) changes (step owner change places).places
+places_all owner (action ∷ actions) places = places_all (after_action owner action) actions (step owner action places).places
 
--- over any changes a call that is known stays so, and its packet stays the same
-pub packet_stays_all : (owner : OwnerView) (changes : List Change) (k : ℕ) → length owner.kept ≡ length owner.calls → is_known_at owner k ≡ true → (is_known_at (after_changes owner changes) k ≡ true) × (packet_at (after_changes owner changes) k ≡ packet_at owner k)
+-- over any actions a call that is known stays so, and its packet stays the same
+pub packet_stays_all : (owner : OwnerView) (actions : List Action) (k : ℕ) → length owner.kept ≡ length owner.calls → is_known_at owner k ≡ true → (is_known_at (after_actions owner actions) k ≡ true) × (packet_at (after_actions owner actions) k ≡ packet_at owner k)
 packet_stays_all owner [] k places known = (known, refl)
-packet_stays_all owner (change ∷ changes) k places known =
-    let grown = step owner change places in
-    let now = packet_stays owner (after_change owner change) k grown known in
-    let later = packet_stays_all (after_change owner change) changes k grown.places now.0 in
+packet_stays_all owner (action ∷ actions) k places known =
+    let grown = step owner action places in
+    let now = packet_stays owner (after_action owner action) k grown known in
+    let later = packet_stays_all (after_action owner action) actions k grown.places now.0 in
     (later.0, later.1 ∙ now.1)
 
--- some changes and later ones leave what the later ones make of the caller that the first ones leave
-pub after_all-append : (owner : OwnerView) (changes later : List Change) → after_changes owner (changes ++ later) ≡ after_changes (after_changes owner changes) later
+-- some actions and later ones leave what the later ones make of the caller that the first ones leave
+pub after_all-append : (owner : OwnerView) (actions later : List Action) → after_actions owner (actions ++ later) ≡ after_actions (after_actions owner actions) later
 after_all-append owner [] later = refl
-after_all-append owner (change ∷ changes) later = after_all-append (after_change owner change) changes later
+after_all-append owner (action ∷ actions) later = after_all-append (after_action owner action) actions later

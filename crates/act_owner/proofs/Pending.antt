@@ -1,11 +1,10 @@
--- How many calls wait for an answer while a caller changes.
-use Rattle.act_owner.proofs.Common.{◌≡◌, ℕ, zero, suc, ◌+◌, ◌≤◌, ◌==◌, ◌&&◌, Bool, true, false, not, cond, List, [], ◌∷◌, ◌++◌, length, map, count_by, nat_lt}
-use Rattle.act_owner.proofs.Common.{Option, Some, None, is_some, Err, refl, sym, ◌∙◌, ap, subst, arith, slice_set, zip, eqb-true, ltb-true, sum_by-cons}
-use Rattle.act_owner.proofs.Common.{ActorDied, Method, Arg, Reply, Answered, Death, Submission, SubmitRefusal, PendingLimit, Answer, needs, submit_refusal}
-use Rattle.act_owner.proofs.Common.{limit_refusal, option_or-none_second, copies_in, Collected, First, Late, Stray, Died, OwnerView, owner_limit, pending}
+-- How many calls wait for an answer while a caller actions.
+use Rattle.act_owner.proofs.Common.{◌≡◌, ℕ, zero, suc, ◌+◌, ◌≤◌, ◌==◌, ◌&&◌, Bool, true, false, not, cond, List, [], ◌∷◌, ◌++◌, length, map, count_by}
+use Rattle.act_owner.proofs.Common.{nat_lt, Option, Some, None, is_some, Err, refl, sym, ◌∙◌, ap, subst, arith, slice_set, zip, eqb-true, ltb-true}
+use Rattle.act_owner.proofs.Common.{sum_by-cons, ActorDied, Method, Arg, Reply, Answered, Death, Submission, SubmitRefusal, PendingLimit, Answer, needs}
+use Rattle.act_owner.proofs.Common.{submit_refusal, limit_refusal, option_or-none_second, copies_in, Collected, First, OwnerView, owner_limit, pending}
 use Rattle.act_owner.proofs.Common.{refusal_to_submit, with_submission, with_death, after_reply_that, collected_reply, answer_of_new_call, is_known_dead}
-use Rattle.act_owner.proofs.Common.{call_waits_for, answer_after_death, Change, Copied, Released, Submitted, Sent, Noticed, after_change, after_changes}
-use Rattle.act_owner.proofs.Common.{IsAccepted, AreAccepted}
+use Rattle.act_owner.proofs.Common.{call_waits_for, answer_after_death, Action, Submitted, Noticed, after_action, after_actions, IsAccepted, AreAccepted}
 use Rattle.act_owner.proofs.Life.{step}
 
 abbrev waiting : ℕ → List Submission → List (Option Answer) → ℕ
@@ -109,13 +108,13 @@ died_under : (owner : OwnerView) (a limit b : ℕ) (listed : Bool) → IsUnder a
 died_under owner a limit b true under set = let before = under set in let fewer = fewer_died a b owner.calls owner.kept in omega (arith, before, fewer)
 died_under owner a limit b false under set = under set
 
-under_step : (owner : OwnerView) (a limit : ℕ) (change : Change) → length owner.kept ≡ length owner.calls → IsAccepted owner change → IsUnder a limit owner → IsUnder a limit (after_change owner change)
+under_step : (owner : OwnerView) (a limit : ℕ) (action : Action) → length owner.kept ≡ length owner.calls → IsAccepted owner action → IsUnder a limit owner → IsUnder a limit (after_action owner action)
 under_step owner a limit (Submitted b method args) places accepted under = submitted_under owner a limit b method args places accepted under
 under_step owner a limit (Noticed (Answered reply)) places accepted under = answered_under owner a limit reply (collected_reply owner reply) under
 under_step owner a limit (Noticed (Death b)) places accepted under = died_under owner a limit b (is_some (copies_in b owner.handles)) under
-under_step owner a limit change places accepted under = under
+under_step owner a limit action places accepted under = under
 
-pub under_all : (owner : OwnerView) (a limit : ℕ) (changes : List Change) → length owner.kept ≡ length owner.calls → AreAccepted owner changes → IsUnder a limit owner → IsUnder a limit (after_changes owner changes)
+pub under_all : (owner : OwnerView) (a limit : ℕ) (actions : List Action) → length owner.kept ≡ length owner.calls → AreAccepted owner actions → IsUnder a limit owner → IsUnder a limit (after_actions owner actions)
 under_all owner a limit [] places accepted under = under
-under_all owner a limit (change ∷ changes) places accepted under =
-    under_all (after_change owner change) a limit changes (step owner change places).places accepted.1 (under_step owner a limit change places accepted.0 under)
+under_all owner a limit (action ∷ actions) places accepted under =
+    under_all (after_action owner action) a limit actions (step owner action places).places accepted.1 (under_step owner a limit action places accepted.0 under)

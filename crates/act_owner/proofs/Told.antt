@@ -1,11 +1,11 @@
 -- Where what a caller keeps comes from.
-use Rattle.act_owner.proofs.Common.{◌≡◌, ℕ, zero, suc, ◌<◌, ◌==◌, ◌&&◌, ◌⊎◌, rules, Bool, true, false, if◌then◌else◌, not, List, [], ◌∷◌, ◌++◌, length}
-use Rattle.act_owner.proofs.Common.{map, replicate, Option, Ok, Err, Some, None, is_some, inl, inr, refl, sym, ◌∙◌, ap, subst, Contains, append_assoc}
-use Rattle.act_owner.proofs.Common.{append-nil, filter, slice_get, slice_set, zip, unwrap_or, Contains-append_left, Contains-push, eqb_tells}
-use Rattle.act_owner.proofs.Common.{not-true, ActorDied, Reply, Notice, Answered, Death, Submission, Answer, kept_at, calls_to, slice_get_last, copies_in}
-use Rattle.act_owner.proofs.Common.{given_in, First, Late, Stray, OwnerView, submission_of, opened_under, with_death, after_reply_that, is_of_call, is_sent}
-use Rattle.act_owner.proofs.Common.{is_known_dead, is_to, is_death, answer_of_new_call, answer_after_death, Call, Change, Copied, Released, Submitted, Sent}
-use Rattle.act_owner.proofs.Common.{Noticed, after_change, after_changes, notices_in, IsToldBy, Hears, calls_to-length}
+use Rattle.act_owner.proofs.Common.{◌≡◌, ℕ, zero, suc, ◌<◌, ◌==◌, ◌&&◌, ◌⊎◌, rules, Bool, true, false, if◌then◌else◌, not, List, [], ◌∷◌, ◌++◌, length, map}
+use Rattle.act_owner.proofs.Common.{replicate, Option, Ok, Err, Some, None, is_some, inl, inr, refl, sym, ◌∙◌, ap, subst, Contains, append_assoc, append-nil}
+use Rattle.act_owner.proofs.Common.{filter, slice_get, slice_set, zip, unwrap_or, Contains-append_left, Contains-push, eqb_tells, not-true, ActorDied, Reply}
+use Rattle.act_owner.proofs.Common.{Notice, Answered, Death, Submission, Answer, kept_at, calls_to, slice_get_last, copies_in, given_in, First, Late, Stray}
+use Rattle.act_owner.proofs.Common.{OwnerView, submission_of, opened_under, with_death, after_reply_that, is_of_call, is_sent, is_known_dead, is_to}
+use Rattle.act_owner.proofs.Common.{is_death, answer_of_new_call, answer_after_death, Call, Action, Copied, Submitted, Sent, Noticed, after_action}
+use Rattle.act_owner.proofs.Common.{after_actions, notices_in, IsToldBy, Hears, calls_to-length}
 use Rattle.act_owner.proofs.Life.{Extends, step, found_below}
 
 -- ---- deaths
@@ -39,17 +39,17 @@ pub death_sent : (owner : OwnerView) (a : ℕ) (listed : Bool) → (if listed th
 death_sent owner a false = refl
 death_sent owner a true = refl
 
-pub sent_stays : (owner : OwnerView) (change : Change) (k : ℕ) → is_sent owner k ≡ true → is_sent (after_change owner change) k ≡ true
+pub sent_stays : (owner : OwnerView) (action : Action) (k : ℕ) → is_sent owner k ≡ true → is_sent (after_action owner action) k ≡ true
 sent_stays owner (Submitted a method args) k is = sent_more owner.sent k is
 sent_stays owner (Sent j) k is = sent_set owner.sent j k is
 sent_stays owner (Noticed (Answered reply)) k is = ap (λ (s : List Bool). unwrap_or (slice_get s k) false) (reply_sent owner reply (is_of_call owner reply) (is_some (kept_at owner.kept reply.future))) ∙ is
 sent_stays owner (Noticed (Death a)) k is = ap (λ (s : List Bool). unwrap_or (slice_get s k) false) (death_sent owner a (is_some (copies_in a owner.handles))) ∙ is
-sent_stays owner change k is = is
+sent_stays owner action k is = is
 
--- over any changes a call that was sent stays so
-pub sent_stays_all : (owner : OwnerView) (changes : List Change) (k : ℕ) → is_sent owner k ≡ true → is_sent (after_changes owner changes) k ≡ true
+-- over any actions a call that was sent stays so
+pub sent_stays_all : (owner : OwnerView) (actions : List Action) (k : ℕ) → is_sent owner k ≡ true → is_sent (after_actions owner actions) k ≡ true
 sent_stays_all owner [] k is = is
-sent_stays_all owner (change ∷ changes) k is = sent_stays_all (after_change owner change) changes k (sent_stays owner change k is)
+sent_stays_all owner (action ∷ actions) k is = sent_stays_all (after_action owner action) actions k (sent_stays owner action k is)
 
 -- ---- more notices, and more calls
 
@@ -71,7 +71,7 @@ to_below a calls k (Some call) is to = found_below calls k call is
 to_later : (owner later : OwnerView) (k a : ℕ) → Extends owner later → is_to a (slice_get owner.calls k) ≡ true → is_to a (slice_get later.calls k) ≡ true
 to_later owner later k a grown to = ap (is_to a) (grown.calls k (to_below a owner.calls k (slice_get owner.calls k) refl to)) ∙ to
 
--- a change that answers nothing and tells of no death
+-- an action that answers nothing and tells of no death
 quiet : (owner later : OwnerView) (notices more : List Notice) → Extends owner later → later.kept ≡ owner.kept → later.dead ≡ owner.dead → Hears owner notices → Hears later (notices ++ more)
 quiet owner later notices more grown kept dead hears = record {
   answers = λ k answer is. more_told (is_death answer) owner later notices more k answer grown.id (λ a to. to_later owner later k a grown to) (hears.answers k answer (ap (λ (l : List (Option Answer)). kept_at l k) (sym kept) ∙ is));
@@ -198,21 +198,21 @@ hears_death owner notices a true hears = record {
 
 -- ---- a life
 
-pub hears_step : (owner : OwnerView) (notices : List Notice) (change : Change) → length owner.kept ≡ length owner.calls → Hears owner notices → Hears (after_change owner change) (notices ++ notices_in (change ∷ []))
+pub hears_step : (owner : OwnerView) (notices : List Notice) (action : Action) → length owner.kept ≡ length owner.calls → Hears owner notices → Hears (after_action owner action) (notices ++ notices_in (action ∷ []))
 hears_step owner notices (Submitted a method args) places hears = hears_submitted owner _ notices (record { actor = a; method = method; args = args }) (step owner (Submitted a method args) places) places refl refl refl hears
 hears_step owner notices (Noticed (Answered reply)) places hears = hears_reply owner notices reply (is_of_call owner reply) (is_some (kept_at owner.kept reply.future)) refl places hears
 hears_step owner notices (Noticed (Death a)) places hears = hears_death owner notices a (is_some (copies_in a owner.handles)) hears
-hears_step owner notices change places hears = quiet owner _ notices [] (step owner change places) refl refl hears
+hears_step owner notices action places hears = quiet owner _ notices [] (step owner action places) refl refl hears
 
-notices_more : (change : Change) (changes : List Change) → notices_in (change ∷ []) ++ notices_in changes ≡ notices_in (change ∷ changes)
-notices_more (Copied a) changes = refl
-notices_more change changes = refl
+notices_more : (action : Action) (actions : List Action) → notices_in (action ∷ []) ++ notices_in actions ≡ notices_in (action ∷ actions)
+notices_more (Copied a) actions = refl
+notices_more action actions = refl
 
-pub hears_all : (owner : OwnerView) (notices : List Notice) (changes : List Change) → length owner.kept ≡ length owner.calls → Hears owner notices → Hears (after_changes owner changes) (notices ++ notices_in changes)
+pub hears_all : (owner : OwnerView) (notices : List Notice) (actions : List Action) → length owner.kept ≡ length owner.calls → Hears owner notices → Hears (after_actions owner actions) (notices ++ notices_in actions)
 hears_all owner notices [] places hears = subst (Hears owner) (sym (append-nil notices)) hears
-hears_all owner notices (change ∷ changes) places hears =
-    subst (Hears (after_changes (after_change owner change) changes)) (append_assoc notices (notices_in (change ∷ [])) (notices_in changes) ∙ ap (λ (l : List Notice). notices ++ l) (notices_more change changes))
-    (hears_all (after_change owner change) (notices ++ notices_in (change ∷ [])) changes (step owner change places).places (hears_step owner notices change places hears))
+hears_all owner notices (action ∷ actions) places hears =
+    subst (Hears (after_actions (after_action owner action) actions)) (append_assoc notices (notices_in (action ∷ [])) (notices_in actions) ∙ ap (λ (l : List Notice). notices ++ l) (notices_more action actions))
+    (hears_all (after_action owner action) (notices ++ notices_in (action ∷ [])) actions (step owner action places).places (hears_step owner notices action places hears))
 
 pub none_dead : (n a : ℕ) → unwrap_or (slice_get (replicate n false) a) false ≡ false
 none_dead zero a = refl

@@ -52,7 +52,7 @@ pub use Rattle.act_types.specs.declared.call.Method.{Method}
 pub use Rattle.act_types.specs.declared.call.Method.TheVariants.{Add, At, Balance, Del, Deposit, Get, Len, Pop, Push, Put, Size, Terminate, Withdraw}
 pub use Rattle.act_types.specs.declared.call.Value.{Value}
 pub use Rattle.act_types.specs.declared.call.Value.TheVariants.{Int, Text}
-pub use Rattle.std.proofs.Common.{All, AllPairs, Bool, Err, List, None, Ok, Option, Result, Some, [], ap, append_assoc, arith, bytes_eq, codes, cond, decimal}
+pub use Rattle.std.proofs.Common.{All, AllPairs, Bool, Contains, Err, List, None, Ok, Option, Result, Some, [], ap, append_assoc, arith, bytes_eq, codes, cond, decimal}
 pub use Rattle.std.proofs.Common.{false, filter, filter_map, find, get_or, inl, inr, is_none, is_some, length, length-append, map, nat_le, nat_lt, neg_ℤ}
 pub use Rattle.std.proofs.Common.{negsuc, not, option_and_then, option_map, pos, position, refl, rules, slice_get, slice_index, slice_index_or, subst, suc, sym}
 pub use Rattle.std.proofs.Common.{take, true, zero, zip, ℕ, ℤ, ⊎_elim, ◌&&◌, ◌++◌, ◌+◌, ◌-◌, ◌<◌, ◌==◌, ◌^◌, ◌||◌, ◌∙◌, ◌∷◌, ◌≡◌, ◌≢◌, ◌≤◌, ◌⊎◌}

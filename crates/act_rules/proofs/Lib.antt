@@ -4,6 +4,8 @@ pub mod Terminated
 pub mod Ended
 pub mod Events
 pub mod Lists
+pub mod Elements
+pub mod Places
 pub mod Finding
 pub mod RunLists
 pub mod OwnRuns

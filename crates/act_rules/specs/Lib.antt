@@ -1,5 +1,6 @@
 pub mod Kinds
 pub mod RunList
+pub mod Actions
 pub mod OwnRuns
 pub mod Submissions
 pub mod History

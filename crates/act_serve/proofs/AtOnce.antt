@@ -1,15 +1,18 @@
 -- A call that runs at once, seen as one that arrives and then runs.
-use Rattle.act_serve.proofs.Common.{◌≡◌, ℕ, zero, suc, ◌+◌, ◌<◌, Bool, true, false, cond, List, [], ◌∷◌, ◌++◌, Option, Some, None, Result, Ok, Err, IfOk, OnOk}
-use Rattle.act_serve.proofs.Common.{length, length-append, get_or, map, refl, ap, sym, ◌∙◌, subst, arith, find, position, All, ◌==◌, set, is_some, le-ltb}
-use Rattle.act_serve.proofs.Common.{eqb-true, get_or_default, All-set, position-Some, map-set_same, KindState, Packet, Reply, Answered, RunItem, Arrival, New}
-use Rattle.act_serve.proofs.Common.{Stranger, has_terminated, NothingFollowsAnEnd, nothing_follows-push, is_packet_of, is_listed, handed_of, was_handed}
-use Rattle.act_serve.proofs.Common.{next_of, arrival_of, with_held, HoldsNone, new_listed, waits_holding, LiveView, live_view, item_of, reply_of_run}
-use Rattle.act_serve.proofs.Common.{with_packet, RunsAtOnce, HasRunCall, Letter, Call, RepliesView, ReplyExecView, Endpoint, without_given, caller_at, IsFed}
-use Rattle.act_serve.proofs.Common.{IsAtItsEndpoint, IsServing, EndpointsDiffer, HasReplied, ActorGoesOn, has_next, is_endpoint_of, replied_to}
+use Rattle.act_serve.proofs.Common.{◌≡◌, ℕ, zero, suc, ◌+◌, ◌<◌, Bool, true, false, cond, List, [], ◌∷◌, ◌++◌, Option, Some, None, Result, Ok, Err, IfOk}
+use Rattle.act_serve.proofs.Common.{OnOk, length, length-append, get_or, map, refl, ap, sym, ◌∙◌, subst, arith, find, position, All, ◌==◌, set, is_some}
+use Rattle.act_serve.proofs.Common.{le-ltb, eqb-true, get_or_default, All-set, position-Some, map-set_same, KindState, Packet, Reply, Answered, RunItem}
+use Rattle.act_serve.proofs.Common.{Arrival, New, Stranger, has_terminated, NothingFollowsAnEnd, nothing_follows-push, is_packet_of, is_listed, handed_of}
+use Rattle.act_serve.proofs.Common.{was_handed, next_of, arrival_of, with_held, HoldsNone, new_listed, waits_holding, LiveView, live_view, item_of}
+use Rattle.act_serve.proofs.Common.{reply_of_run, with_packet, RunsAtOnce, HasRunCall, Letter, Call, RepliesView, ReplyExecView, Endpoint, without_given}
+use Rattle.act_serve.proofs.Common.{caller_at, IsFed, IsAtItsEndpoint, IsServing, EndpointsDiffer, ExecPasses, exec_clock, HasReplied, ActorGoesOn, has_next}
+use Rattle.act_serve.proofs.Common.{is_endpoint_of, replied_to}
 use Rattle.std.proofs.Common.{eq-eqb}
 use Rattle.act_serve.proofs.Logs.{fed_arrive, fed_run}
 use Rattle.act_serve.proofs.Endpoints.{endpoint_on, endpoint_given}
+use Rattle.act_serve.specs.Turns.{EndpointsFit, EndpointsStay, KeepsTrace}
 use Rattle.act_serve.proofs.Serving.{serving_run, caller_here}
+use Rattle.act_serve.proofs.Traces.{traced_run}
 
 -- ---- an actor that holds no call
 
@@ -153,3 +156,33 @@ found lines caller at endpoints shown same is =
     let passes : is_endpoint_of lines caller (get_or endpoints at one.0) ≡ true = (position-Some (is_endpoint_of lines caller) endpoints at one.0 at_it).1 in
     let mine : is_endpoint_of lines caller one.0 ≡ true = subst (λ endpoint. is_endpoint_of lines caller endpoint ≡ true) (one.1 one.0) passes in
     record { endpoint = one.0; here = one.1; below = below; mine = sym (eqb-true _ _ mine) }
+
+-- ---- a call that ran, with its reply
+
+-- what is left once a call ran and its reply was given
+pub record HasGiven {S : Type 0} (read : S → KindState) (lines : List RepliesView) (before after : LiveView S) (passes more : ExecPasses) : Type 0 where
+  pub endpoints : EndpointsStay lines after passes more
+  pub serving : (opening : KindState) (callers : List ℕ) (letters : List Letter) → IsServing read opening callers lines letters before passes.notices.items → IsServing read opening callers lines letters after more.notices.items
+  pub traced : (opening : KindState) (callers : List ℕ) (letters : List Letter) → letters ≡ passes.letters.taken → IsServing read opening callers lines letters before passes.notices.items → KeepsTrace lines before after passes more
+
+-- the reply was given at the endpoint of the call's caller
+pub has_given : {S : Type 0} {read : S → KindState} (lines : List RepliesView) (caller : ℕ) (reply : Reply) (before after : LiveView S) → HasReplied read caller reply before after → (passes more : ExecPasses) (at : ℕ) (one : IsFound lines caller at passes.notices.items) → EndpointsFit lines before passes
+    → (more.letters ≡ passes.letters) × (more.kills ≡ passes.kills) → more.notices.items ≡ set passes.notices.items at (replied_to after.log reply (exec_clock passes) one.endpoint) → HasGiven read lines before after passes more
+has_given {S} {read} lines caller reply before after ran passes more at one fit taken gave = record {
+  endpoints = record {
+    at_places = subst (λ (l : List (Endpoint ReplyExecView)). All (IsAtItsEndpoint lines after.id after.log) l) (sym gave)
+        (endpoints_given lines endpoints at one.endpoint one.here reply (exec_clock passes) after.id after.log (endpoints_on lines caller reply before after endpoints ran fit.at_places) one.below);
+    stay = ap (map without_given) gave ∙ bare_given lines endpoints at one.endpoint one.here reply (exec_clock passes) after.log;
+  };
+  serving = serving;
+  traced = λ opening callers letters shown h.
+      traced_run lines callers letters before after caller reply ran passes more at one.endpoint one.here one.below (serving opening callers letters h).fed.log shown taken.0 taken.1 gave;
+}
+  where
+    endpoints : List (Endpoint ReplyExecView)
+    endpoints = passes.notices.items
+
+    serving : (opening : KindState) (callers : List ℕ) (letters : List Letter) → IsServing read opening callers lines letters before endpoints → IsServing read opening callers lines letters after more.notices.items
+    serving opening callers letters h =
+        subst (λ (l : List (Endpoint ReplyExecView)). IsServing read opening callers lines letters after l) (sym gave)
+        (serving_given lines endpoints at one.endpoint one.here reply (exec_clock passes) opening callers letters caller before after ran one.below one.mine fit.differ h)

@@ -26,9 +26,9 @@ pub use Rattle.act_rules.specs.RunList.{Answer, NothingFollowsAnEnd, after_item,
 pub use Rattle.act_rules.specs.declared.history.RunItem.{RunItem}
 pub use Rattle.act_rules.specs.declared.outcome.Arrival.{Arrival}
 pub use Rattle.act_rules.specs.declared.outcome.Arrival.TheVariants.{New, Repeat, Stranger}
-pub use Rattle.act_serve.specs.ActorSteps.{ActorMayDo, ActorMayDoAll, ActorStep, CallRun, DeathTold, KillTaken, LetterTaken, Retirement, call_run, has_died_in}
-pub use Rattle.act_serve.specs.ActorSteps.{has_ended_in, is_kill_step, is_retirement, kill_taken, letter_taken, log_of_steps}
-pub use Rattle.act_serve.specs.ActorTraces.{IsActorTrace, IsActorTraced, IsGivenAfter, exec_clock}
+pub use Rattle.act_rules.specs.Actions.{Action, CallRun, DeathTold, KillTaken, CallTaken, NoteTaken, Retirement}
+pub use Rattle.act_actor.specs.Life.{ActorMayDo, ActorMayDoAll, call_run, has_died_in, has_ended_in, is_kill_taken, is_retirement, log_of}
+pub use Rattle.act_serve.specs.ActorTraces.{IsActorTrace, IsActorTraced, IsGivenAfter, exec_clock, taking, kill_taken, letter_taken}
 pub use Rattle.act_serve.specs.Served.{ExecPassesStay, HasServed, IsLogOf, IsReplyOf, IsUntaken, Killed, KillsOfDead, RepliesAreDue, Retired, Starved}
 pub use Rattle.act_serve.specs.Served.{caller_at, endpoint_callers, first_note, note_in, place_of, replies_to, reply_notice, without_given}
 pub use Rattle.act_serve.specs.Turns.{ActorGoesOn, EndpointsDiffer, HasCome, HasGone, HasLooked, HasReplied, HasReplies, IsAtItsEndpoint, IsFed, IsFreshExec}
@@ -45,8 +45,8 @@ pub use Rattle.act_types.specs.declared.call.Reply.{Reply}
 pub use Rattle.atomic_table.specs.Seated.{TableId}
 pub use Rattle.std.proofs.Common.{All, AllPairs, Bool, Contains, Err, IfNone, IfOk, IfSome, List, None, Ok, OnErr, OnOk, Option, Result, Some, [], ap}
 pub use Rattle.std.proofs.Common.{append-nil, append_assoc, arith, cond, drop, false, filter, filter_map, find, flat_map, get_or, inl, inr, is_some, length}
-pub use Rattle.std.proofs.Common.{length-append, map, nat_lt, option_map, position, refl, rules, set, slice_get, subst, suc, sym, take, true, true≢false, zero}
-pub use Rattle.std.proofs.Common.{zip, ℕ, ◌&&◌, ◌++◌, ◌+◌, ◌<◌, ◌==◌, ◌||◌, ◌∙◌, ◌∷◌, ◌≡◌, ◌≢◌, ◌≤◌, ◌⊎◌}
+pub use Rattle.std.proofs.Common.{length-append, map, nat_lt, option_map, position, refl, rules, set, slice_get, subst, suc, sym, take, true, true≢false}
+pub use Rattle.std.proofs.Common.{zero, zip, ℕ, ◌&&◌, ◌++◌, ◌+◌, ◌<◌, ◌==◌, ◌||◌, ◌∙◌, ◌∷◌, ◌≡◌, ◌≢◌, ◌≤◌, ◌⊎◌}
 pub use Rattle.std.proofs.Math.Bool.{and-false}
 pub use Rattle.std.proofs.Math.Seq.{get_or-append_seam, map-set_same}
 pub use Rattle.std.proofs.lemmas.Bool.{cases_lt, eq-eqb, eqb-true, le-ltb, lt-ltb, ne_eqb}

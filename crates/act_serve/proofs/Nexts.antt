@@ -2,7 +2,7 @@
 use Rattle.act_serve.proofs.Common.{◌≡◌, ℕ, ◌+◌, ◌<◌, ◌≤◌, List, [], ◌∷◌, ◌++◌, length, Option, Some, None, Result, Ok, Err, IfOk, is_some, Bool, true, false}
 use Rattle.act_serve.proofs.Common.{cond, nat_lt, refl, sym, ◌∙◌, ap, subst, get_or, find, position, arith, length-append, All, position_or_len, lt-ltb, le-ltb}
 use Rattle.act_serve.proofs.Common.{get_or_default, All-cons, position-Some, position_or_len_is, Reply, Answered, RunItem, slice_get_last, find-None, KindState}
-use Rattle.act_serve.proofs.Common.{LiveView, next_call, Letter, TakerView, RepliesView, ReplyExecView, NamesPlace, Endpoint, Received, Nothing, Held, Ran}
+use Rattle.act_serve.proofs.Common.{LiveView, next_call, Letter, TakerView, RepliesView, ReplyExecView, NamesPlace, Endpoint, Received, Nothing}
 use Rattle.act_serve.proofs.Common.{HasReplied, HasCome, has_next, HasGone}
 use Rattle.act_serve.proofs.Logs.{Tells, same, other, tells}
 use Rattle.act_serve.proofs.Serving.{caller_here}

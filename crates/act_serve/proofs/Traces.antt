@@ -1,55 +1,56 @@
 -- What an actor's thread did so far, as it takes letters and kills, runs calls, tells its death and retires.
-use Rattle.act_serve.proofs.Common.{◌≡◌, ℕ, suc, ◌+◌, ◌<◌, ◌≤◌, ◌||◌, Bool, true, false, cond, List, [], ◌∷◌, ◌++◌, map, length, length-append, get_or, Some}
-use Rattle.act_serve.proofs.Common.{None, ◌⊎◌, inl, inr, refl, ap, sym, ◌∙◌, subst, arith, append-nil, append_assoc, All, ◌==◌, ◌&&◌, set, flat_map, slice_get}
+use Rattle.act_serve.proofs.Common.{◌≡◌, ℕ, suc, ◌+◌, ◌<◌, ◌≤◌, Bool, true, false, cond, List, ◌∷◌, ◌++◌, map, length, length-append, get_or, Some, None}
+use Rattle.act_serve.proofs.Common.{◌⊎◌, inl, inr, refl, ap, sym, ◌∙◌, subst, arith, append-nil, append_assoc, All, ◌==◌, ◌&&◌, set, flat_map, slice_get}
 use Rattle.act_serve.proofs.Common.{Contains, option_or, AllZip, list_any, range_with_len, eq-eqb, eqb-true, get_or-map, length-map, map-append, All-set}
 use Rattle.act_serve.proofs.Common.{Contains-get_or, Contains-push, Contains-append_left, Contains-append_right, Contains-append_cases, filter_map-append}
 use Rattle.act_serve.proofs.Common.{list_any-append, list_any_at, get_or-range_with_len, all_zipped_more, map-set_same, get_or-append_seam, Notice, Answered}
 use Rattle.act_serve.proofs.Common.{Death, Reply, RunItem, contains, items_of, has_terminated, slice_get_more, slice_get_last, items_of-push, KindState}
 use Rattle.act_serve.proofs.Common.{LiveView, packet_of_item, note_after_calls, Asked, Endpoint, Letter, Call, Note, ControlExecView, RepliesView}
-use Rattle.act_serve.proofs.Common.{ReplyExecView, TakerView, steps_in, found_in, AreTakenLater, ExecPasses, ActorStep, LetterTaken, CallRun, KillTaken}
-use Rattle.act_serve.proofs.Common.{DeathTold, Retirement, letter_taken, call_run, kill_taken, is_kill_step, is_retirement, log_of_steps, has_died_in}
+use Rattle.act_serve.proofs.Common.{ReplyExecView, TakerView, steps_in, found_in, AreTakenLater, ExecPasses, Action, CallTaken, NoteTaken, taking, CallRun}
+use Rattle.act_serve.proofs.Common.{KillTaken, DeathTold, Retirement, letter_taken, call_run, kill_taken, is_kill_taken, is_retirement, log_of, has_died_in}
 use Rattle.act_serve.proofs.Common.{has_ended_in, ActorMayDo, ActorMayDoAll, exec_clock, IsGivenAfter, IsActorTrace, caller_at, endpoint_callers, IsLogOf}
 use Rattle.act_serve.proofs.Common.{first_note, IsUntaken, KillsOfDead, HasReplied, IsFreshExec, IsTracedSoFar, replied_to, with_death_given, all_zip_weaker}
-use Rattle.act_serve.proofs.Common.{found_alone, found_more, found_one, steps_more, timed_push, part_one, part_none, later_one, later_none}
+use Rattle.act_serve.proofs.Common.{found_alone, found_more, found_one, steps_more, timed_push, part_one, part_none, later_one, later_none, [], ◌||◌}
 use Rattle.act_serve.proofs.Clocks.{contains_tail, contains_head, contains_map, all_zip_set, all_zip_map, flat_within, clock_taken, clock_within, contains_of_found, timed_all, found_nothing}
 
 abbrev Trace : Type 0
-Trace = List (ℕ × ActorStep)
+Trace = List (ℕ × Action)
 
 -- ---- what the actor may do
 
-may_push : (a : ℕ) (callers : List ℕ) (before steps : List ActorStep) (step : ActorStep) → ActorMayDoAll a callers before steps → ActorMayDo a callers (before ++ steps) step → ActorMayDoAll a callers before (steps ++ step ∷ [])
-may_push a callers before [] step h may = (subst (λ (l : List ActorStep). ActorMayDo a callers l step) (append-nil before) may, tt)
-may_push a callers before (x ∷ steps) step h may = (h.0, may_push a callers (before ++ x ∷ []) steps step h.1 (subst (λ (l : List ActorStep). ActorMayDo a callers l step) (sym (append_assoc before (x ∷ []) steps)) may))
+may_push : (a : ℕ) (callers : List ℕ) (before steps : List Action) (step : Action) → ActorMayDoAll a callers before steps → ActorMayDo a callers (before ++ steps) step → ActorMayDoAll a callers before (steps ++ step ∷ [])
+may_push a callers before [] step h may = (subst (λ (l : List Action). ActorMayDo a callers l step) (append-nil before) may, tt)
+may_push a callers before (x ∷ steps) step h may = (h.0, may_push a callers (before ++ x ∷ []) steps step h.1 (subst (λ (l : List Action). ActorMayDo a callers l step) (sym (append_assoc before (x ∷ []) steps)) may))
 
-allowed_push : (a : ℕ) (callers : List ℕ) (trace : Trace) (n : ℕ) (step : ActorStep) → ActorMayDoAll a callers [] (steps_in trace) → ActorMayDo a callers (steps_in trace) step → ActorMayDoAll a callers [] (steps_in (trace ++ (n, step) ∷ []))
-allowed_push a callers trace n step h may = subst (λ (l : List ActorStep). ActorMayDoAll a callers [] l) (sym (steps_more trace ((n, step) ∷ []))) (may_push a callers [] (steps_in trace) step h may)
+allowed_push : (a : ℕ) (callers : List ℕ) (trace : Trace) (n : ℕ) (step : Action) → ActorMayDoAll a callers [] (steps_in trace) → ActorMayDo a callers (steps_in trace) step → ActorMayDoAll a callers [] (steps_in (trace ++ (n, step) ∷ []))
+allowed_push a callers trace n step h may = subst (λ (l : List Action). ActorMayDoAll a callers [] l) (sym (steps_more trace ((n, step) ∷ []))) (may_push a callers [] (steps_in trace) step h may)
 
-any_push : (p : ActorStep → Bool) (trace : Trace) (n : ℕ) (step : ActorStep) → p step ≡ false → list_any p (steps_in trace) ≡ false → list_any p (steps_in (trace ++ (n, step) ∷ [])) ≡ false
+any_push : (p : Action → Bool) (trace : Trace) (n : ℕ) (step : Action) → p step ≡ false → list_any p (steps_in trace) ≡ false → list_any p (steps_in (trace ++ (n, step) ∷ [])) ≡ false
 any_push p trace n step e was = ap (list_any p) (steps_more trace ((n, step) ∷ [])) ∙ list_any-append p (steps_in trace) (step ∷ []) ∙ (λ i. was i || (e i || false))
 
 or_true : (b : Bool) → (b || true) ≡ true
 or_true true = refl
 or_true false = refl
 
-any_here : (p : ActorStep → Bool) (trace : Trace) (n : ℕ) (step : ActorStep) → p step ≡ true → list_any p (steps_in (trace ++ (n, step) ∷ [])) ≡ true
+any_here : (p : Action → Bool) (trace : Trace) (n : ℕ) (step : Action) → p step ≡ true → list_any p (steps_in (trace ++ (n, step) ∷ [])) ≡ true
 any_here p trace n step e = ap (list_any p) (steps_more trace ((n, step) ∷ [])) ∙ list_any-append p (steps_in trace) (step ∷ []) ∙ (λ i. list_any p (steps_in trace) || (e i || false)) ∙ or_true (list_any p (steps_in trace))
 
 module _ (a : ℕ) (lines : List RepliesView) (log : List RunItem) (passes : ExecPasses) where
-  log_is : (trace : Trace) → IsActorTrace a lines log passes trace → log_of_steps (steps_in trace) ≡ log
+  log_is : (trace : Trace) → IsActorTrace a lines log passes trace → log_of (steps_in trace) ≡ log
   log_is trace h = sym (found_alone call_run trace) ∙ h.runs
 
   ended_not : (t : IsTracedSoFar a lines log passes) → has_terminated log ≡ false → has_ended_in (steps_in t.trace) ≡ false
-  ended_not t lives = let term : has_terminated (log_of_steps (steps_in t.trace)) ≡ false = ap has_terminated (log_is t.trace t.steps) ∙ lives in λ i. (t.no_kill i || term i) || t.no_retirement i
+  ended_not t lives = let term : has_terminated (log_of (steps_in t.trace)) ≡ false = ap has_terminated (log_is t.trace t.steps) ∙ lives in λ i. (t.no_kill i || term i) || t.no_retirement i
 
   -- a letter that was taken is in the trace
-  letter_there : (trace : Trace) (letter : Letter) → IsActorTrace a lines log passes trace → Contains passes.letters.taken letter → Contains (steps_in trace) (LetterTaken letter)
+  letter_there : (trace : Trace) (letter : Letter) → IsActorTrace a lines log passes trace → Contains passes.letters.taken letter → Contains (steps_in trace) (taking letter)
   letter_there trace letter h c =
       let one = contains_of_found letter_taken (steps_in trace) letter (subst (λ (l : List Letter). Contains l letter) (sym h.letters ∙ found_alone letter_taken trace) c) in
-      subst (λ (s : ActorStep). Contains (steps_in trace) s) (go one.0 one.2) one.1
+      subst (λ (s : Action). Contains (steps_in trace) s) (go one.0 one.2) one.1
     where
-      go : (step : ActorStep) → letter_taken step ≡ Some letter → step ≡ LetterTaken letter
-      go (LetterTaken x) e = let same_letter : x ≡ letter = cc in ap (λ (y : Letter). LetterTaken y) same_letter
+      go : (step : Action) → letter_taken step ≡ Some letter → step ≡ taking letter
+      go (CallTaken packet) e = let same : Call packet ≡ letter = cc in ap taking same
+      go (NoteTaken note) e = let same : Note note ≡ letter = cc in ap taking same
       go step e = absurd (cc)
 
 -- ---- what was given
@@ -95,6 +96,19 @@ more_stamps old new n e s h = subst (λ (l : List ℕ). Contains l s) (sym e) (C
 
 -- ---- a letter is taken
 
+-- what an actor does that takes the letter, and does nothing else
+pub record Takes (letter : Letter) (action : Action) : Type 0 where
+  pub takes_it : letter_taken action ≡ Some letter
+  pub kill : kill_taken action ≡ None
+  pub run : call_run action ≡ None
+  pub no_kill : is_kill_taken action ≡ false
+  pub no_retirement : is_retirement action ≡ false
+  pub may : (a : ℕ) (callers : List ℕ) (before : List Action) → has_ended_in before ≡ false → ActorMayDo a callers before action
+
+pub takes : (letter : Letter) → Takes letter (taking letter)
+takes (Call packet) = record { takes_it = refl; kill = refl; run = refl; no_kill = refl; no_retirement = refl; may = λ a callers before on. on }
+takes (Note note) = record { takes_it = refl; kill = refl; run = refl; no_kill = refl; no_retirement = refl; may = λ a callers before on. on }
+
 pub traced_letter : (a : ℕ) (lines : List RepliesView) (log : List RunItem) (passes more : ExecPasses) (letter : Letter) (stamp : ℕ)
     → more.letters.taken ≡ passes.letters.taken ++ letter ∷ [] → more.letters.stamps ≡ passes.letters.stamps ++ stamp ∷ [] → more.kills ≡ passes.kills → more.notices.items ≡ passes.notices.items
     → has_terminated log ≡ false → IsTracedSoFar a lines log passes → IsTracedSoFar a lines log more
@@ -103,23 +117,26 @@ traced_letter a lines log passes more letter stamp taken stamps kills items live
   steps = record {
     timed = timed_push (exec_clock passes) n n t.trace step grows (omega arith) t.steps.timed;
     allowed = subst (λ (l : List (Endpoint ReplyExecView)). ActorMayDoAll a (endpoint_callers lines l) [] (steps_in trace)) (sym items)
-        (allowed_push a (endpoint_callers lines passes.notices.items) t.trace n step t.steps.allowed (ended_not a lines log passes t lives));
-    letters = part_one letter_taken t.trace n step letter passes.letters.taken more.letters.taken refl t.steps.letters taken;
-    letters_later = later_one letter_taken t.trace n step letter stamp passes.letters.stamps more.letters.stamps refl after t.steps.letters_later stamps;
-    kills = part_none kill_taken t.trace n step passes.kills.taken more.kills.taken refl t.steps.kills (ap (λ (p : ControlExecView). p.taken) kills);
-    kills_later = later_none kill_taken t.trace n step passes.kills.stamps more.kills.stamps refl t.steps.kills_later (ap (λ (p : ControlExecView). p.stamps) kills);
-    runs = part_none call_run t.trace n step log log refl t.steps.runs refl;
+        (allowed_push a (endpoint_callers lines passes.notices.items) t.trace n step t.steps.allowed (does.may a (endpoint_callers lines passes.notices.items) (steps_in t.trace) (ended_not a lines log passes t lives)));
+    letters = part_one letter_taken t.trace n step letter passes.letters.taken more.letters.taken does.takes_it t.steps.letters taken;
+    letters_later = later_one letter_taken t.trace n step letter stamp passes.letters.stamps more.letters.stamps does.takes_it after t.steps.letters_later stamps;
+    kills = part_none kill_taken t.trace n step passes.kills.taken more.kills.taken does.kill t.steps.kills (ap (λ (p : ControlExecView). p.taken) kills);
+    kills_later = later_none kill_taken t.trace n step passes.kills.stamps more.kills.stamps does.kill t.steps.kills_later (ap (λ (p : ControlExecView). p.stamps) kills);
+    runs = part_none call_run t.trace n step log log does.run t.steps.runs refl;
     given = subst (λ (l : List (Endpoint ReplyExecView)). All (GivenAt lines trace) l) (sym items) (all_given_more lines t.trace ((n, step) ∷ []) passes.notices.items t.steps.given);
   };
-  no_kill = any_push is_kill_step t.trace n step refl t.no_kill;
-  no_retirement = any_push is_retirement t.trace n step refl t.no_retirement;
+  no_kill = any_push is_kill_taken t.trace n step does.no_kill t.no_kill;
+  no_retirement = any_push is_retirement t.trace n step does.no_retirement t.no_retirement;
 }
   where
     n : ℕ
     n = exec_clock more
 
-    step : ActorStep
-    step = LetterTaken letter
+    step : Action
+    step = taking letter
+
+    does : Takes letter step
+    does = takes letter
 
     trace : Trace
     trace = t.trace ++ (n, step) ∷ []
@@ -199,7 +216,7 @@ module _ {S : Type 0} {read : S → KindState} (lines : List RepliesView) (calle
 
     given_on : All (GivenAt lines (t.trace ++ (exec_clock passes, CallRun ran.item) ∷ [])) more.notices.items
     given_on =
-        let trace : List (ℕ × ActorStep) = t.trace ++ (exec_clock passes, CallRun ran.item) ∷ [] in
+        let trace : List (ℕ × Action) = t.trace ++ (exec_clock passes, CallRun ran.item) ∷ [] in
         let before : All (GivenAt lines trace) passes.notices.items = all_given_more lines t.trace ((exec_clock passes, CallRun ran.item) ∷ []) passes.notices.items t.steps.given in
         let was : GivenAt lines trace endpoint = subst (GivenAt lines trace) (here endpoint) (before at endpoint below) in
         subst (λ (l : List (Endpoint ReplyExecView)). All (GivenAt lines trace) l) (sym gave)
@@ -220,7 +237,7 @@ module _ {S : Type 0} {read : S → KindState} (lines : List RepliesView) (calle
         runs = part_one call_run t.trace (exec_clock passes) (CallRun ran.item) ran.item old.log (old.log ++ ran.item ∷ []) refl t.steps.runs refl;
         given = given_on;
       };
-      no_kill = any_push is_kill_step t.trace (exec_clock passes) (CallRun ran.item) refl t.no_kill;
+      no_kill = any_push is_kill_taken t.trace (exec_clock passes) (CallRun ran.item) refl t.no_kill;
       no_retirement = any_push is_retirement t.trace (exec_clock passes) (CallRun ran.item) refl t.no_retirement;
     }
 
@@ -231,7 +248,7 @@ module _ {S : Type 0} {read : S → KindState} (lines : List RepliesView) (calle
 -- ---- an actor that died, before it tells its death
 
 pub record IsTracedDead (a : ℕ) (lines : List RepliesView) (log : List RunItem) (passes : ExecPasses) : Type 0 where
-  pub trace : List (ℕ × ActorStep)
+  pub trace : List (ℕ × Action)
   pub steps : IsActorTrace a lines log passes trace
   pub died : has_died_in (steps_in trace) ≡ true
   pub no_retirement : list_any is_retirement (steps_in trace) ≡ false
@@ -242,7 +259,7 @@ module _ (a : ℕ) (lines : List RepliesView) (log : List RunItem) (passes more 
   traced_terminated ended same = record {
     trace = t.trace;
     steps = subst (λ (p : ExecPasses). IsActorTrace a lines log p t.trace) (sym same) t.steps;
-    died = let term : has_terminated (log_of_steps (steps_in t.trace)) ≡ true = ap has_terminated (log_is a lines log passes t.trace t.steps) ∙ ended in λ i. t.no_kill i || term i;
+    died = let term : has_terminated (log_of (steps_in t.trace)) ≡ true = ap has_terminated (log_is a lines log passes t.trace t.steps) ∙ ended in λ i. t.no_kill i || term i;
     no_retirement = t.no_retirement;
   }
 
@@ -259,20 +276,20 @@ module _ (a : ℕ) (lines : List RepliesView) (log : List RunItem) (passes more 
 
     traced_killed : IsTracedDead a lines log more
     traced_killed = record {
-      trace = t.trace ++ (exec_clock more, KillTaken kill) ∷ [];
+      trace = t.trace ++ (exec_clock more, KillTaken kill.asker kill.note) ∷ [];
       steps = record {
-        timed = timed_push (exec_clock passes) (exec_clock more) (exec_clock more) t.trace (KillTaken kill) kill_grows (omega arith) t.steps.timed;
-        allowed = subst (λ (l : List (Endpoint ReplyExecView)). ActorMayDoAll a (endpoint_callers lines l) [] (steps_in (t.trace ++ (exec_clock more, KillTaken kill) ∷ []))) (sym items)
-            (allowed_push a (endpoint_callers lines passes.notices.items) t.trace (exec_clock more) (KillTaken kill) t.steps.allowed (ended_not a lines log passes t lives));
-        letters = part_none letter_taken t.trace (exec_clock more) (KillTaken kill) passes.letters.taken more.letters.taken refl t.steps.letters (ap (λ (p : TakerView Letter (Unit {0})). p.taken) letters);
-        letters_later = later_none letter_taken t.trace (exec_clock more) (KillTaken kill) passes.letters.stamps more.letters.stamps refl t.steps.letters_later (ap (λ (p : TakerView Letter (Unit {0})). p.stamps) letters);
-        kills = part_one kill_taken t.trace (exec_clock more) (KillTaken kill) kill passes.kills.taken more.kills.taken refl t.steps.kills taken;
-        kills_later = later_one kill_taken t.trace (exec_clock more) (KillTaken kill) kill stamp passes.kills.stamps more.kills.stamps refl kill_after t.steps.kills_later stamps;
-        runs = part_none call_run t.trace (exec_clock more) (KillTaken kill) log log refl t.steps.runs refl;
-        given = subst (λ (l : List (Endpoint ReplyExecView)). All (GivenAt lines (t.trace ++ (exec_clock more, KillTaken kill) ∷ [])) l) (sym items) (all_given_more lines t.trace ((exec_clock more, KillTaken kill) ∷ []) passes.notices.items t.steps.given);
+        timed = timed_push (exec_clock passes) (exec_clock more) (exec_clock more) t.trace (KillTaken kill.asker kill.note) kill_grows (omega arith) t.steps.timed;
+        allowed = subst (λ (l : List (Endpoint ReplyExecView)). ActorMayDoAll a (endpoint_callers lines l) [] (steps_in (t.trace ++ (exec_clock more, KillTaken kill.asker kill.note) ∷ []))) (sym items)
+            (allowed_push a (endpoint_callers lines passes.notices.items) t.trace (exec_clock more) (KillTaken kill.asker kill.note) t.steps.allowed (ended_not a lines log passes t lives));
+        letters = part_none letter_taken t.trace (exec_clock more) (KillTaken kill.asker kill.note) passes.letters.taken more.letters.taken refl t.steps.letters (ap (λ (p : TakerView Letter (Unit {0})). p.taken) letters);
+        letters_later = later_none letter_taken t.trace (exec_clock more) (KillTaken kill.asker kill.note) passes.letters.stamps more.letters.stamps refl t.steps.letters_later (ap (λ (p : TakerView Letter (Unit {0})). p.stamps) letters);
+        kills = part_one kill_taken t.trace (exec_clock more) (KillTaken kill.asker kill.note) kill passes.kills.taken more.kills.taken refl t.steps.kills taken;
+        kills_later = later_one kill_taken t.trace (exec_clock more) (KillTaken kill.asker kill.note) kill stamp passes.kills.stamps more.kills.stamps refl kill_after t.steps.kills_later stamps;
+        runs = part_none call_run t.trace (exec_clock more) (KillTaken kill.asker kill.note) log log refl t.steps.runs refl;
+        given = subst (λ (l : List (Endpoint ReplyExecView)). All (GivenAt lines (t.trace ++ (exec_clock more, KillTaken kill.asker kill.note) ∷ [])) l) (sym items) (all_given_more lines t.trace ((exec_clock more, KillTaken kill.asker kill.note) ∷ []) passes.notices.items t.steps.given);
       };
-      died = ap (λ (b : Bool). b || has_terminated (log_of_steps (steps_in (t.trace ++ (exec_clock more, KillTaken kill) ∷ [])))) (any_here is_kill_step t.trace (exec_clock more) (KillTaken kill) refl);
-      no_retirement = any_push is_retirement t.trace (exec_clock more) (KillTaken kill) refl t.no_retirement;
+      died = ap (λ (b : Bool). b || has_terminated (log_of (steps_in (t.trace ++ (exec_clock more, KillTaken kill.asker kill.note) ∷ [])))) (any_here is_kill_taken t.trace (exec_clock more) (KillTaken kill.asker kill.note) refl);
+      no_retirement = any_push is_retirement t.trace (exec_clock more) (KillTaken kill.asker kill.note) refl t.no_retirement;
     }
 
 -- one of the two
@@ -289,13 +306,13 @@ traced_over a lines log passes kills told over why none still stamped t = go (ha
 
 -- ---- it tells its death
 
-abbrev death_to : List RepliesView → Endpoint ReplyExecView → ActorStep
+abbrev death_to : List RepliesView → Endpoint ReplyExecView → Action
 death_to lines endpoint = DeathTold (caller_at lines endpoint.place)
 
-died_on : (before : List ActorStep) (c : ℕ) → has_died_in before ≡ true → has_died_in (before ++ DeathTold c ∷ []) ≡ true
+died_on : (before : List Action) (c : ℕ) → has_died_in before ≡ true → has_died_in (before ++ DeathTold c ∷ []) ≡ true
 died_on before c died =
-    let kills : list_any is_kill_step (before ++ DeathTold c ∷ []) ≡ list_any is_kill_step before = list_any-append is_kill_step before (DeathTold c ∷ []) ∙ or_none (list_any is_kill_step before) in
-    let log : log_of_steps (before ++ DeathTold c ∷ []) ≡ log_of_steps before = filter_map-append call_run before (DeathTold c ∷ []) ∙ append-nil (log_of_steps before) in
+    let kills : list_any is_kill_taken (before ++ DeathTold c ∷ []) ≡ list_any is_kill_taken before = list_any-append is_kill_taken before (DeathTold c ∷ []) ∙ or_none (list_any is_kill_taken before) in
+    let log : log_of (before ++ DeathTold c ∷ []) ≡ log_of before = filter_map-append call_run before (DeathTold c ∷ []) ∙ append-nil (log_of before) in
     (λ i. kills i || has_terminated (log i)) ∙ died
   where
     or_none : (b : Bool) → (b || false) ≡ b
@@ -306,13 +323,13 @@ may_tell : (a : ℕ) (callers : List ℕ) (lines : List RepliesView) (n : ℕ) (
     → has_died_in (steps_in trace) ≡ true → ActorMayDoAll a callers [] (steps_in trace) → ActorMayDoAll a callers [] (steps_in (trace ++ map (λ (x : Endpoint ReplyExecView). (n, death_to lines x)) endpoints))
 may_tell a callers lines n [] trace listed died may = subst (λ (l : Trace). ActorMayDoAll a callers [] (steps_in l)) (sym (append-nil trace)) may
 may_tell a callers lines n (x ∷ endpoints) trace listed died may =
-    let step : ActorStep = death_to lines x in
+    let step : Action = death_to lines x in
     subst (λ (l : Trace). ActorMayDoAll a callers [] (steps_in l)) (append_assoc trace ((n, step) ∷ []) (map (λ (y : Endpoint ReplyExecView). (n, death_to lines y)) endpoints))
     (may_tell a callers lines n endpoints (trace ++ (n, step) ∷ []) (λ k d lt. listed (suc k) d (omega (arith, lt)))
     (ap has_died_in (steps_more trace ((n, step) ∷ [])) ∙ died_on (steps_in trace) (caller_at lines x.place) died)
     (allowed_push a callers trace n step may (died, listed 0 x (omega arith))))
 
-any_none : (p : ActorStep → Bool) (lines : List RepliesView) (n : ℕ) (endpoints : List (Endpoint ReplyExecView)) (trace : Trace) → ((c : ℕ) → p (DeathTold c) ≡ false) → list_any p (steps_in trace) ≡ false
+any_none : (p : Action → Bool) (lines : List RepliesView) (n : ℕ) (endpoints : List (Endpoint ReplyExecView)) (trace : Trace) → ((c : ℕ) → p (DeathTold c) ≡ false) → list_any p (steps_in trace) ≡ false
     → list_any p (steps_in (trace ++ map (λ (x : Endpoint ReplyExecView). (n, death_to lines x)) endpoints)) ≡ false
 any_none p lines n [] trace none was = ap (λ (l : Trace). list_any p (steps_in l)) (append-nil trace) ∙ was
 any_none p lines n (x ∷ endpoints) trace none was =
@@ -327,7 +344,7 @@ all_listed lines endpoints k d lt =
 
 module _ (a : ℕ) (lines : List RepliesView) (log : List RunItem) (passes more : ExecPasses) (t : IsTracedDead a lines log passes)
     (same_letters : more.letters ≡ passes.letters) (same_kills : more.kills ≡ passes.kills) (gave : more.notices.items ≡ map (with_death_given a log (exec_clock passes)) passes.notices.items) where
-  abbrev told_trace : List (ℕ × ActorStep)
+  abbrev told_trace : List (ℕ × Action)
   told_trace = t.trace ++ map (λ (x : Endpoint ReplyExecView). (exec_clock passes, death_to lines x)) passes.notices.items
 
   told_grows : exec_clock passes ≤ exec_clock more
@@ -366,7 +383,7 @@ module _ (a : ℕ) (lines : List RepliesView) (log : List RunItem) (passes more 
     given = subst (λ (l : List (Endpoint ReplyExecView)). All (GivenAt lines told_trace) l) (sym gave) told_given;
   }
 
-  pub traced_told : (trace : List (ℕ × ActorStep)) × IsActorTrace a lines log more trace × (list_any is_retirement (steps_in trace) ≡ false)
+  pub traced_told : (trace : List (ℕ × Action)) × IsActorTrace a lines log more trace × (list_any is_retirement (steps_in trace) ≡ false)
   traced_told = (told_trace, told_steps, any_none is_retirement lines (exec_clock passes) passes.notices.items t.trace (λ c. refl) t.no_retirement)
 
 -- ---- it retires
@@ -388,15 +405,15 @@ note_there a c n (Note note ∷ letters) e = by (note.caller == c) refl (note.ac
 
 pub traced_retired : (a : ℕ) (lines : List RepliesView) (log : List RunItem) (passes : ExecPasses) → IsTracedSoFar a lines log passes → has_terminated log ≡ false
     → ((c : ℕ) → contains c (endpoint_callers lines passes.notices.items) ≡ true → first_note a c passes.letters.taken ≡ Some (length (items_of c log)))
-    → (trace : List (ℕ × ActorStep)) × IsActorTrace a lines log passes trace × (list_any is_retirement (steps_in trace) ≡ true)
+    → (trace : List (ℕ × Action)) × IsActorTrace a lines log passes trace × (list_any is_retirement (steps_in trace) ≡ true)
 traced_retired a lines log passes t lives notes = (
   t.trace ++ (exec_clock passes, Retirement) ∷ [],
   record {
     timed = timed_push (exec_clock passes) (exec_clock passes) (exec_clock passes) t.trace Retirement (omega arith) (omega arith) t.steps.timed;
     allowed = allowed_push a (endpoint_callers lines passes.notices.items) t.trace (exec_clock passes) Retirement t.steps.allowed (
       ended_not a lines log passes t lives,
-      λ c l. letter_there a lines log passes t.trace (Note (note_after_calls c a (length (items_of c (log_of_steps (steps_in t.trace)))))) t.steps
-          (note_there a c (length (items_of c (log_of_steps (steps_in t.trace)))) passes.letters.taken (notes c l ∙ ap (λ (l : List RunItem). Some (length (items_of c l))) (sym (log_is a lines log passes t.trace t.steps)))),
+      λ c l. letter_there a lines log passes t.trace (Note (note_after_calls c a (length (items_of c (log_of (steps_in t.trace)))))) t.steps
+          (note_there a c (length (items_of c (log_of (steps_in t.trace)))) passes.letters.taken (notes c l ∙ ap (λ (l : List RunItem). Some (length (items_of c l))) (sym (log_is a lines log passes t.trace t.steps)))),
     );
     letters = part_none letter_taken t.trace (exec_clock passes) Retirement passes.letters.taken passes.letters.taken refl t.steps.letters refl;
     letters_later = later_none letter_taken t.trace (exec_clock passes) Retirement passes.letters.stamps passes.letters.stamps refl t.steps.letters_later refl;

@@ -23,7 +23,8 @@ use Rattle.act_serve.specs.declared.letter.Received.{Received}
 use Rattle.act_serve.specs.declared.letter.Received.TheVariants.{Nothing, Held, Ran}
 use Rattle.act_serve.specs.declared.turn.ExecLines.{ExecLines}
 use Rattle.act_serve.specs.declared.turn.ExecPasses.{ExecPasses}
-use Rattle.act_serve.specs.ActorSteps.{ActorStep, is_kill_step, is_retirement}
+use Rattle.act_rules.specs.Actions.{Action}
+use Rattle.act_actor.specs.Life.{is_kill_taken, is_retirement}
 use Rattle.act_serve.specs.ActorTraces.{IsActorTrace}
 use Rattle.act_serve.specs.Served.{IsLogOf, first_note, replies_to, caller_at, endpoint_callers, KillsOfDead, without_given}
 
@@ -208,9 +209,9 @@ with_death_given a log stamp endpoint = record endpoint {
 
 -- an actor that goes on did some such steps, took no kill in them, and did not retire
 pub record IsTracedSoFar (a : ℕ) (lines : List RepliesView) (log : List RunItem) (passes : ExecPasses) : Type 0 where
-  pub trace : List (ℕ × ActorStep)
+  pub trace : List (ℕ × Action)
   pub steps : IsActorTrace a lines log passes trace
-  pub no_kill : list_any is_kill_step (steps_in trace) ≡ false
+  pub no_kill : list_any is_kill_taken (steps_in trace) ≡ false
   pub no_retirement : list_any is_retirement (steps_in trace) ≡ false
 
 -- an actor that was traced so far is traced so far after it went on

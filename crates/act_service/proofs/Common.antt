@@ -5,7 +5,7 @@ pub use Rattle.act_actor.specs.declared.cast.Cast.{Cast}
 pub use Rattle.act_drive.specs.Sessions.{SessionView}
 pub use Rattle.act_epochs.proofs.Growing.{are_more, left_more}
 pub use Rattle.act_epochs.specs.Epochs.{Epoch, IsEpoch, cast_of_end, casts_left}
-pub use Rattle.act_executor.proofs.Lists.Elements.{all_of_map}
+pub use Rattle.act_rules.proofs.Elements.{all_of_map}
 pub use Rattle.act_executor.specs.ByCode.{IsJoinedBy, IsPlayedBy}
 pub use Rattle.act_executor.specs.Plays.{IsPlayed}
 pub use Rattle.act_executor.specs.Runs.{IsFault, IsThreadFault, plan_view}

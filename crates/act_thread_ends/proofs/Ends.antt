@@ -30,7 +30,7 @@ use Rattle.act_executor.specs.Joined.{IsJoined, calls_of_owner, kept_of_owner, l
 use Rattle.act_executor.specs.Plays.{IsOwnerIn, HasEndedIn, IsEndIn}
 use Rattle.act_executor.specs.PlanPlays.{DoesPlanIn, IsPlayOfPlans, IsPlayedAsPlanned}
 use Rattle.act_executor.proofs.PlaysOfThreads.AsPlay.{casts_stay}
-use Rattle.act_executor.proofs.Lists.Elements.{all_in}
+use Rattle.act_rules.proofs.Elements.{all_in}
 use Rattle.act_thread_ends.specs.ThreadEnds.{AreOfARun, CanEnd, CanBeEndIn, EndsAsThreads}
 use Rattle.act_thread_ends.proofs.Plans.{steps_by, is_named, strangers, no_plan}
 use Rattle.act_thread_ends.proofs.Left.{owner_left, IsEndLeft, end_left}

@@ -13,7 +13,7 @@ use Rattle.act_owner.specs.Owner.{OwnerView}
 use Rattle.act_serve.specs.Served.{EndView, end_id}
 use Rattle.act_plans.specs.Runs.{callers_of_casts, actors_of_casts}
 use Rattle.act_executor.specs.Joined.{owner_of, end_of}
-use Rattle.act_executor.proofs.Lists.Elements.{IsIn, in_from_contains, all_in, in_filter, found_is, finds, any_is, contains_is}
+use Rattle.act_rules.proofs.Elements.{IsIn, in_from_contains, all_in, in_filter, found_is, finds, any_is, contains_is}
 use Rattle.act_thread_ends.specs.ThreadEnds.{AreOfARun}
 use Rattle.act_thread_ends.proofs.Plans.{is_named}
 

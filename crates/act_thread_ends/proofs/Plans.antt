@@ -21,7 +21,7 @@ use Rattle.act_early.proofs.Shifting.{none_others}
 use Rattle.act_early.proofs.Listing.{accepted_none}
 use Rattle.act_plans.specs.Runs.{steps_of_plan, plan_of}
 use Rattle.act_executor.specs.PlanPlays.{step_of, IsMeanwhile, DoesStepIn, DoesPlanIn}
-use Rattle.act_executor.proofs.Lists.Elements.{all_in, found_is}
+use Rattle.act_rules.proofs.Elements.{all_in, found_is}
 
 -- ---- the steps of a plan
 

@@ -1,5 +1,5 @@
 -- The names of specifications and of the crates below that most proofs here cite, passed on from one place.
-pub use Rattle.act_executor.proofs.Lists.Agreeing.{place_behind}
+pub use Rattle.act_rules.proofs.Places.{place_behind}
 pub use Rattle.act_executor.specs.Joined.{IsJoined, RanAll, calls_in, calls_of_owner, end_of, is_killed, is_killed_end, kept_in, kept_of_owner, log_in}
 pub use Rattle.act_executor.specs.Joined.{log_of_end, owner_of}
 pub use Rattle.act_lists.proofs.Lists.{element, map_alike, slice_get_more}

@@ -18,5 +18,5 @@ pub use Rattle.act_plans.proofs.Matching.{numbers_differ}
 pub use Rattle.act_rules.proofs.Lists.{All_at, All_more, slice_get-enumerate_from, slice_get-filter}
 pub use Rattle.act_rules.proofs.AsSubmitted.{filter-slice_get}
 pub use Rattle.act_rules.proofs.Unique.{map-slice_get}
-pub use Rattle.act_executor.proofs.Lists.Elements.{all_in, found_is, finds, is_contained}
+pub use Rattle.act_rules.proofs.Elements.{all_in, found_is, finds, is_contained}
 pub use Rattle.act_executor.proofs.EndsOfRuns.Found.{one_of}

@@ -17,7 +17,6 @@ pub use Rattle.act_rules.specs.Submissions.{copies_held}
 -- deaths that it knows
 pub use Rattle.act_owner.specs.Owner.{is_known_dead, is_death, KnowsDeath}
 -- laws of its whole life
-pub use Rattle.act_owner.specs.Life.{NeverAboveTheLimit, OnePacketForGood, KnownCallsStayKnown}
-pub use Rattle.act_owner.specs.Life.{AllIsHeard, SentStaysSent}
+pub use Rattle.act_owner.specs.Life.{NeverAboveTheLimit, OnePacketForGood, KnownCallsStayKnown, AllIsHeard, SentStaysSent}
 -- the numbers from 1 on
 pub use Rattle.act_rules.specs.Report.{one_to}

@@ -21,7 +21,7 @@ use Rattle.actors.specs.Ended.TheVariants as ended
 use Rattle.actors.specs.Threads.{actors_of_casts, cast_at}
 use Rattle.act_plans.proofs.Numbers.{in_one_to}
 use Rattle.actors.specs.Plays.{IsPlayedAsPlanned}
-use Rattle.act_executor.proofs.Lists.Elements.{IsIn, in_from_contains, all_in, in_filter, found_is, finds}
+use Rattle.act_rules.proofs.Elements.{IsIn, in_from_contains, all_in, in_filter, found_is, finds}
 use Rattle.actors.specs.PlanEnds.{CanBeEndIn, EndsAsThreads}
 use Rattle.actors.specs.PlanEnds.{LeadsToEnd, EachRunHas, EndsInThreads}
 use Rattle.example_transfer.specs.declared.purse.Purse.{Purse}

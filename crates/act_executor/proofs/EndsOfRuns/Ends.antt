@@ -1,19 +1,20 @@
 -- How the threads of a joined run ended: what was submitted, who was killed, and that a retired actor ran all.
-use Rattle.act_executor.proofs.Common.{◌≡◌, ℕ, suc, ◌<◌, ◌≤◌, Bool, true, false, true≢false, cond, List, [], ◌∷◌, length, Some, None, inl, inr, refl, ap, sym}
-use Rattle.act_executor.proofs.Common.{◌∙◌, subst, arith, Option, ◌==◌, ◌&&◌, map, slice_get, is_some, All, Contains, option_or, eq-eqb, eqb-true, and_parts}
-use Rattle.act_executor.proofs.Common.{map-map, length-map, All-map, length-enumerate_from, Notice, ReleaseNote, RunItem, Submission, Step, items_of}
-use Rattle.act_executor.proofs.Common.{has_terminated, NothingFollowsAnEnd, calls_to, kept_at, planned, kills_to, ActorSpec, contains, actors_naming}
-use Rattle.act_executor.proofs.Common.{filter-slice_get, calls_to-at, numbered, numbers, map-slice_get, OwnerView, MailView, caller_of, ControlView}
-use Rattle.act_executor.proofs.Common.{ControlExecView, asker_of, starter, RepliesView, Asked, Letter, Call, Note, ExecPasses, EndView, Killed, Retired}
-use Rattle.act_executor.proofs.Common.{end_id, end_log, IfRetired, note_in, first_note, IsTakenAt, KillsOfDead, KillsTaken, Driven, IsSent, AreAsked}
-use Rattle.act_executor.proofs.Common.{HasAsked, limits_naming, plan_of, callers_of_casts, actors_of_casts, is_killed, is_starved, owner_of, calls_of_owner}
-use Rattle.act_executor.proofs.Common.{kept_of_owner, log_of_end, is_killed_end, calls_in, kept_in, log_in, killed_in, RanAll, IsJoined, CallsThatDiedNeverRan}
-use Rattle.act_executor.proofs.Common.{ServedView, AreJoined}
+use Rattle.act_executor.proofs.Common.{◌≡◌, ℕ, suc, ◌<◌, ◌≤◌, Bool, true, false, true≢false, cond, List, [], ◌∷◌, length, Some, None, inl, inr, refl, ap}
+use Rattle.act_executor.proofs.Common.{sym, ◌∙◌, subst, arith, Option, ◌==◌, ◌&&◌, map, slice_get, is_some, All, Contains, option_or, eq-eqb, eqb-true}
+use Rattle.act_executor.proofs.Common.{and_parts, map-map, length-map, All-map, length-enumerate_from, Notice, ReleaseNote, RunItem, Submission, Step}
+use Rattle.act_executor.proofs.Common.{items_of, has_terminated, NothingFollowsAnEnd, calls_to, kept_at, planned, kills_to, ActorSpec, contains}
+use Rattle.act_executor.proofs.Common.{actors_naming, filter-slice_get, calls_to-at, numbered, numbers, map-slice_get, OwnerView, MailView, caller_of}
+use Rattle.act_executor.proofs.Common.{ControlView, ControlExecView, asker_of, starter, RepliesView, Asked, Letter, Call, Note, ExecPasses, EndView, Killed}
+use Rattle.act_executor.proofs.Common.{Retired, end_id, end_log, IfRetired, note_in, first_note, IsTakenAt, KillsOfDead, KillsTaken, Driven, IsSent}
+use Rattle.act_executor.proofs.Common.{AreAsked, HasAsked, limits_naming, plan_of, callers_of_casts, actors_of_casts, is_killed, is_starved, owner_of}
+use Rattle.act_executor.proofs.Common.{calls_of_owner, kept_of_owner, log_of_end, is_killed_end, calls_in, kept_in, log_in, killed_in, RanAll, IsJoined}
+use Rattle.act_executor.proofs.Common.{CallsThatDiedNeverRan, ServedView, AreJoined}
 use Rattle.act_mailbox.specs.Lines.{items_from as items_put}
-use Rattle.act_executor.proofs.Lists.Elements.{IsIn, in_from_contains, all_in, in_filter, in_front, all_by_places, is_contained, empty_by_places, whole_by_length, enumerated, in_none, in_first, some_long}
+use Rattle.act_rules.proofs.Elements.{IsIn, in_from_contains, all_in, in_filter, in_front, all_by_places, is_contained, empty_by_places, enumerated, in_none, in_first, some_long}
+use Rattle.act_rules.proofs.Lists.{front_whole}
 use Rattle.act_executor.proofs.EndsOfRuns.Found.{naming, same_cast, planned_known, planned_none, driven_named}
 use Rattle.act_executor.proofs.EndsOfRuns.Consistency.{order_of, fits}
-use Rattle.act_executor.proofs.EndsOfRuns.Joint.{driven_of, served_of, owner_is, end_is, Thread, thread, thread_in, driver, audit_of, letter_sent, listed_named, item_sent, all_fit}
+use Rattle.act_executor.proofs.EndsOfRuns.Joint.{driven_of, of_owner, of_end, owner_is, Thread, thread, thread_in, driver, audit_of, letter_sent, listed_named, item_sent, all_fit}
 
 -- ---- notes and kills
 
@@ -83,21 +84,11 @@ module _ {mails : List MailView} {controls : List ControlView} {replies : List R
       cc)
 
   submitted : (c : ℕ) → calls_in owners c ≡ planned (actors_naming c casts) (plan_of c plans)
-  submitted c = go (driven_of c driven) refl
-    where
-      go : (o : Option Driven) → driven_of c driven ≡ o → calls_in owners c ≡ planned (actors_naming c casts) (plan_of c plans)
-      go None f = ap calls_of_owner (owner_is j c None f) ∙ sym (planned_none (plan_of c plans)) ∙ sym (ap (λ (actors : List ℕ). planned actors (plan_of c plans)) (nobody c f))
-      go (Some d) f = ap calls_of_owner (owner_is j c (Some d) f) ∙ (driver j c d f).driving.calls
+  submitted c = of_owner j (λ x. calls_of_owner x ≡ planned (actors_naming c casts) (plan_of c plans)) c
+      (λ f. sym (planned_none (plan_of c plans)) ∙ sym (ap (λ (actors : List ℕ). planned actors (plan_of c plans)) (nobody c f))) (λ d f. (driver j c d f).driving.calls)
 
   answered : (c k : ℕ) → k < length (calls_in owners c) → is_some (kept_at (kept_in owners c) k) ≡ true
-  answered c k below = go (driven_of c driven) refl
-    where
-      go : (o : Option Driven) → driven_of c driven ≡ o → is_some (kept_at (kept_in owners c) k) ≡ true
-      go None f = let bad : k < 0 = subst (λ (x : Option OwnerView). k < length (calls_of_owner x)) (owner_is j c None f) below in absurd (omega arith)
-      go (Some d) f =
-          let is = owner_is j c (Some d) f in
-          let short : k < length d.owner.calls = subst (λ (x : Option OwnerView). k < length (calls_of_owner x)) is below in
-          subst (λ (x : Option OwnerView). is_some (kept_at (kept_of_owner x) k) ≡ true) (sym is) ((driver j c d f).driving.answered k short)
+  answered c k = of_owner j (λ x. k < length (calls_of_owner x) → is_some (kept_at (kept_of_owner x) k) ≡ true) c (λ f below. absurd (omega (arith, below))) (λ d f below. (driver j c d f).driving.answered k below)
 
   pub fed : All (λ end. is_starved end ≡ false) ends
   fed = all_by_places (λ (end : EndView). is_starved end ≡ false) ends (λ k end at.
@@ -136,31 +127,15 @@ module _ {mails : List MailView} {controls : List ControlView} {replies : List R
       ]
 
   killed : (a : ℕ) → killed_in ends a ≡ true → has_terminated (log_in ends a) ≡ false → (c : ℕ) × (0 < kills_to a (plan_of c plans))
-  killed a e on = go (served_of a served) refl
-    where
-      go : (o : Option ServedView) → served_of a served ≡ o → (c : ℕ) × (0 < kills_to a (plan_of c plans))
-      go None f = let bad : false ≡ true = subst (λ (x : Option EndView). is_killed_end x ≡ true) (end_is j a None f) e in cc
-      go (Some s) f =
-          kill_planned a s (thread j a s f) (subst (λ (x : Option EndView). is_killed_end x ≡ true) (end_is j a (Some s) f) e)
-          (subst (λ (x : Option EndView). has_terminated (log_of_end x) ≡ false) (end_is j a (Some s) f) on)
+  killed a = of_end j (λ x. is_killed_end x ≡ true → has_terminated (log_of_end x) ≡ false → (c : ℕ) × (0 < kills_to a (plan_of c plans))) a (λ f e on. cc) (λ s f e on. kill_planned a s (thread j a s f) e on)
 
   -- ---- a terminate
 
   terminated : (a : ℕ) → has_terminated (log_in ends a) ≡ true → killed_in ends a ≡ true
-  terminated a e = go (served_of a served) refl
-    where
-      go : (o : Option ServedView) → served_of a served ≡ o → killed_in ends a ≡ true
-      go None f = let bad : false ≡ true = subst (λ (x : Option EndView). has_terminated (log_of_end x) ≡ true) (end_is j a None f) e in cc
-      go (Some s) f =
-          ap is_killed_end (end_is j a (Some s) f)
-          ∙ end_killed s.passes.kills s.end (thread j a s f).serving.kills (subst (λ (x : Option EndView). has_terminated (log_of_end x) ≡ true) (end_is j a (Some s) f) e)
+  terminated a = of_end j (λ x. has_terminated (log_of_end x) ≡ true → is_killed_end x ≡ true) a (λ f e. cc) (λ s f e. end_killed s.passes.kills s.end (thread j a s f).serving.kills e)
 
   last : (a : ℕ) → NothingFollowsAnEnd (log_in ends a)
-  last a = go (served_of a served) refl
-    where
-      go : (o : Option ServedView) → served_of a served ≡ o → NothingFollowsAnEnd (log_in ends a)
-      go None f = subst (λ (x : Option EndView). NothingFollowsAnEnd (log_of_end x)) (sym (end_is j a None f)) (λ place ends. cc)
-      go (Some s) f = subst (λ (x : Option EndView). NothingFollowsAnEnd (log_of_end x)) (sym (end_is j a (Some s) f)) (thread j a s f).serving.last
+  last a = of_end j (λ x. NothingFollowsAnEnd (log_of_end x)) a (λ f place ends. cc) (λ s f. (thread j a s f).serving.last)
 
   -- ---- a retired actor
 
@@ -200,7 +175,7 @@ module _ {mails : List MailView} {controls : List ControlView} {replies : List R
       let front = order_of (λ x. None) (calls_in owners) (log_in ends) (kept_in owners) (killed_in ends) a (end_log s.end) c (λ p item at. item_sent j a p item s t at) (t.serving.log.numbered c) in
       let long : length (map numbered items) ≡ length (numbers a (calls_in owners c)) =
       length-map items numbered ∙ same ∙ sym (length-map calls (λ (call : ℕ × Submission). call.0)) ∙ sym (length-enumerate_from 0 (map (λ (call : ℕ × Submission). call.0) calls)) in
-      let all = whole_by_length (map numbered items) (numbers a (calls_in owners c)) front long in
+      let all = front_whole (map numbered items) (numbers a (calls_in owners c)) front (omega (arith, long)) in
       sym (map-map (λ (pair : ℕ × ℕ). pair.1) numbered items) ∙ ap (map (λ (pair : ℕ × ℕ). pair.1)) all ∙ enumerated 0 (map (λ (call : ℕ × Submission). call.0) calls)
 
   ran_all : (a : ℕ) (s : ServedView) → (t : Thread j a s) → ((c : ℕ) → contains c t.serving.callers ≡ true → first_note a c s.passes.letters.taken ≡ Some (length (items_of c (end_log s.end)))) → (c : ℕ) → map (λ item. item.future) (items_of c (end_log s.end)) ≡ map (λ call. call.0) (calls_to a (calls_in owners c))

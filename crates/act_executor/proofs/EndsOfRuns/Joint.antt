@@ -9,7 +9,7 @@ use Rattle.act_executor.proofs.Common.{plan_of, owner_of, end_of, is_starved, ca
 use Rattle.act_executor.proofs.Common.{log_in, killed_in, ServedView, IsServed, IsDriven, AreAudited, AreJoined}
 use Rattle.act_owner.specs.Owner.{OwnerView, packet_for as packet_of_call, is_known_call, is_to, is_death}
 use Rattle.act_mailbox.specs.Lines.{items_from as items_put}
-use Rattle.act_executor.proofs.Lists.Elements.{IsIn, in_from_contains, all_in, in_filter, in_front, found_is, contains_is, is_contained}
+use Rattle.act_rules.proofs.Elements.{IsIn, in_from_contains, all_in, in_filter, in_front, found_is, contains_is, is_contained}
 use Rattle.act_executor.proofs.EndsOfRuns.Found.{naming, IsCast, same_cast, planned_known, driven_named, served_cast, cast_served}
 use Rattle.act_executor.proofs.EndsOfRuns.Given.{reply_given, death_given}
 use Rattle.act_executor.proofs.EndsOfRuns.Consistency.{IsSentItem, IsRunAnswer, IsFit}
@@ -83,6 +83,22 @@ module _ {mails : List MailView} {controls : List ControlView} {replies : List R
   -- the end found under an actor's number is that of its thread, and none where no thread is found
   pub end_is : (a : ℕ) (o : Option ServedView) → served_of a served ≡ o → end_of a ends ≡ option_map (λ (s : ServedView). s.end) o
   end_is a o e = find-map (λ (end : EndView). end_id end == a) (λ (s : ServedView). s.end) served ∙ ap (option_map (λ (s : ServedView). s.end)) e
+
+  -- what holds of the owner found under a number, and of none where none is found
+  pub of_owner : (P : Option OwnerView → Type 0) (c : ℕ) → (driven_of c driven ≡ None → P None) → ((d : Driven) → driven_of c driven ≡ Some d → P (Some d.owner)) → P (owner_of c owners)
+  of_owner P c none some = go (driven_of c driven) refl
+    where
+      go : (o : Option Driven) → driven_of c driven ≡ o → P (owner_of c owners)
+      go None e = subst P (sym (owner_is c None e)) (none e)
+      go (Some d) e = subst P (sym (owner_is c (Some d) e)) (some d e)
+
+  -- and of the end
+  pub of_end : (P : Option EndView → Type 0) (a : ℕ) → (served_of a served ≡ None → P None) → ((s : ServedView) → served_of a served ≡ Some s → P (Some s.end)) → P (end_of a ends)
+  of_end P a none some = go (served_of a served) refl
+    where
+      go : (o : Option ServedView) → served_of a served ≡ o → P (end_of a ends)
+      go None e = subst P (sym (end_is a None e)) (none e)
+      go (Some s) e = subst P (sym (end_is a (Some s) e)) (some s e)
 
   -- an actor's thread, with its cast
   pub record Thread (a : ℕ) (s : ServedView) : Type 0 where
@@ -167,18 +183,10 @@ module _ {mails : List MailView} {controls : List ControlView} {replies : List R
       }
 
   items_sent : (a p : ℕ) (item : RunItem) → slice_get (log_in ends a) p ≡ Some item → IsSentItem (calls_in owners) (kept_in owners) a item
-  items_sent a p item at = go (served_of a served) refl
-    where
-      go : (o : Option ServedView) → served_of a served ≡ o → IsSentItem (calls_in owners) (kept_in owners) a item
-      go None e = let bad : None ≡ Some item = subst (λ (x : Option EndView). slice_get (log_of_end x) p ≡ Some item) (end_is a None e) at in cc
-      go (Some s) e = item_sent a p item s (thread a s e) (subst (λ (x : Option EndView). slice_get (log_of_end x) p ≡ Some item) (end_is a (Some s) e) at)
+  items_sent a p item = of_end (λ x. slice_get (log_of_end x) p ≡ Some item → IsSentItem (calls_in owners) (kept_in owners) a item) a (λ e at. cc) (λ s e at. item_sent a p item s (thread a s e) at)
 
   in_turn : (a c : ℕ) → map (λ item. item.number) (items_of c (log_in ends a)) ≡ range_with_len 0 (length (items_of c (log_in ends a)))
-  in_turn a c = go (served_of a served) refl
-    where
-      go : (o : Option ServedView) → served_of a served ≡ o → map (λ item. item.number) (items_of c (log_in ends a)) ≡ range_with_len 0 (length (items_of c (log_in ends a)))
-      go None e = subst (λ (x : Option EndView). map (λ (item : RunItem). item.number) (items_of c (log_of_end x)) ≡ range_with_len 0 (length (items_of c (log_of_end x)))) (sym (end_is a None e)) refl
-      go (Some s) e = subst (λ (x : Option EndView). map (λ (item : RunItem). item.number) (items_of c (log_of_end x)) ≡ range_with_len 0 (length (items_of c (log_of_end x)))) (sym (end_is a (Some s) e)) ((thread a s e).serving.log.numbered c)
+  in_turn a c = of_end (λ x. map (λ (item : RunItem). item.number) (items_of c (log_of_end x)) ≡ range_with_len 0 (length (items_of c (log_of_end x)))) a (λ e. refl) (λ s e. (thread a s e).serving.log.numbered c)
 
   -- ---- a kept answer
 
@@ -230,11 +238,9 @@ module _ {mails : List MailView} {controls : List ControlView} {replies : List R
       })
 
   answers_run : (c k : ℕ) (answer : Answer) → kept_at (kept_in owners c) k ≡ Some answer → answer ≢ Err ActorDied → IsRunAnswer (λ a. opening_of a (opening casts)) (log_in ends) c k answer
-  answers_run c k answer e alive = go (driven_of c driven) refl
-    where
-      go : (o : Option Driven) → driven_of c driven ≡ o → IsRunAnswer (λ a. opening_of a (opening casts)) (log_in ends) c k answer
-      go None f = let bad : None ≡ Some answer = subst (λ (x : Option OwnerView). kept_at (kept_of_owner x) k ≡ Some answer) (owner_is c None f) e in cc
-      go (Some d) f = replied c k answer d f (alive_told d.owner d.passes.collects.taken k answer alive ((driver c d f).driving.hears.answers k answer (subst (λ (x : Option OwnerView). kept_at (kept_of_owner x) k ≡ Some answer) (owner_is c (Some d) f) e)))
+  answers_run c k answer e alive =
+      of_owner (λ x. kept_at (kept_of_owner x) k ≡ Some answer → IsRunAnswer (λ a. opening_of a (opening casts)) (log_in ends) c k answer) c (λ f e. cc)
+      (λ d f e. replied c k answer d f (alive_told d.owner d.passes.collects.taken k answer alive ((driver c d f).driving.hears.answers k answer e))) e
 
   bereft : (c k : ℕ) (d : Driven) → driven_of c driven ≡ Some d → IsBereft d.owner d.passes.collects.taken k → IsCallToDead (calls_in owners) (killed_in ends) c k
   bereft c k d f r =
@@ -252,11 +258,9 @@ module _ {mails : List MailView} {controls : List ControlView} {replies : List R
       }
 
   deaths_run : (c k : ℕ) → kept_at (kept_in owners c) k ≡ Some (Err ActorDied) → IsCallToDead (calls_in owners) (killed_in ends) c k
-  deaths_run c k e = go (driven_of c driven) refl
-    where
-      go : (o : Option Driven) → driven_of c driven ≡ o → IsCallToDead (calls_in owners) (killed_in ends) c k
-      go None f = let bad : None ≡ Some (Err ActorDied) = subst (λ (x : Option OwnerView). kept_at (kept_of_owner x) k ≡ Some (Err ActorDied)) (owner_is c None f) e in cc
-      go (Some d) f = bereft c k d f ((driver c d f).driving.hears.answers k (Err ActorDied) (subst (λ (x : Option OwnerView). kept_at (kept_of_owner x) k ≡ Some (Err ActorDied)) (owner_is c (Some d) f) e))
+  deaths_run c k =
+      of_owner (λ x. kept_at (kept_of_owner x) k ≡ Some (Err ActorDied) → IsCallToDead (calls_in owners) (killed_in ends) c k) c (λ f e. cc)
+      (λ d f e. bereft c k d f ((driver c d f).driving.hears.answers k (Err ActorDied) e))
 
   pub all_fit : IsFit (λ a. opening_of a (opening casts)) (calls_in owners) (log_in ends) (kept_in owners) (killed_in ends)
   all_fit = record { sent = items_sent; in_turn = in_turn; answers = answers_run; deaths = deaths_run }

@@ -1,8 +1,8 @@
 -- Lists that are cut: what stands in a front of them.
-use Rattle.act_executor.proofs.Common.{◌≡◌, ℕ, zero, suc, ◌≤◌, ◌<◌, List, [], ◌∷◌, ◌++◌, Option, Some, None, All, refl, ap, sym, ◌∙◌, arith, Contains}
-use Rattle.act_executor.proofs.Common.{filter_map, slice_get, AllPairs, cons_option, All-append, All-head, All-tail, recursion_from_All, Contains-append_right}
-use Rattle.act_executor.proofs.Common.{AllPairs-cons, IsPrefix, slice_get_front, contains-more, IsFrontBelow, place_in_front}
-use Rattle.act_executor.proofs.Lists.Elements.{IsIn, in_from_contains, contains_from_in, all_in, front_by_places}
+use Rattle.act_executor.proofs.Common.{◌≡◌, ℕ, suc, ◌≤◌, ◌<◌, List, [], ◌∷◌, ◌++◌, Some, All, refl, ap, sym, ◌∙◌, arith, Contains, slice_get, AllPairs}
+use Rattle.act_executor.proofs.Common.{All-append, All-head, All-tail, recursion_from_All, Contains-append_right, AllPairs-cons, IsPrefix, slice_get_front}
+use Rattle.act_executor.proofs.Common.{IsFrontBelow, place_in_front}
+use Rattle.act_rules.proofs.Elements.{IsIn, in_from_contains, contains_from_in, all_in, front_by_places}
 
 -- ---- what is contained
 
@@ -12,17 +12,6 @@ contains_head xs x = (0, omega arith, refl)
 -- what stands between two lists
 pub contains_mid : {A : Type 0} (xs ys : List A) (x : A) → Contains (xs ++ x ∷ ys) x
 contains_mid xs ys x = Contains-append_right xs (x ∷ ys) x (contains_head ys x)
-
--- what is given is given by x, where only x gives it: so x stands in the list
-pub contains_given : {A B : Type 0} (f : A → Option B) (xs : List A) (x : A) (y : B) → ((z : A) → f z ≡ Some y → z ≡ x) → Contains (filter_map f xs) y
-    → Contains xs x
-contains_given f [] x y is has = absurd (let below = has.1 in omega arith)
-contains_given {A = A} {B = B} f (z ∷ xs) x y is has = go (f z) refl (contains_given f xs x y is) has
-  where
-    go : (o : Option B) → f z ≡ o → (Contains (filter_map f xs) y → Contains xs x) → Contains (cons_option o (filter_map f xs)) y → Contains (z ∷ xs) x
-    go None e rest has = contains-more xs z x (rest has)
-    go (Some w) e rest (zero, below, same) = (zero, omega arith, is z (e ∙ ap (λ (v : B). Some v) same))
-    go (Some w) e rest (suc i, below, same) = contains-more xs z x (rest (i, omega arith, same))
 
 -- ---- pairs of two lists
 

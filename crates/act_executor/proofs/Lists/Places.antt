@@ -1,25 +1,7 @@
--- Lists that agree place by place, and the names in them.
-use Rattle.act_executor.proofs.Common.{◌≡◌, ◌≢◌, ℕ, zero, suc, ◌<◌, Bool, true, false, List, [], ◌∷◌, Some, All, Contains, length, map, get_or, ◌⊎◌, inl, inr}
-use Rattle.act_executor.proofs.Common.{refl, ap, sym, ◌∙◌, subst, arith, ◌==◌, ◌||◌, ◌&&◌, slice_get, option_map, AllPairs, list_any, eq-eqb, eqb-true, ne_eqb}
-use Rattle.act_executor.proofs.Common.{or_right, cases_Bool, or_cases, or-false, eqb_tells, get_or-map, length-map, All-head, All-tail, All-map, AllPairs-cons}
-use Rattle.act_executor.proofs.Common.{slice_get-map, slice_get-get_or, slice_get_within, get_or_from_slice_get, contains, map-slice_get, Each, CallersDiffer}
-use Rattle.act_executor.proofs.Common.{ActorsDiffer, Cast}
-
--- ---- lists that agree under two maps
-
-module _ {X Y Z : Type 0} (f : X → Z) (g : Y → Z) (xs : List X) (ys : List Y) (same : map f xs ≡ map g ys) where
-  pub at_both : (i : ℕ) (x : X) (y : Y) → slice_get xs i ≡ Some x → slice_get ys i ≡ Some y → f x ≡ g y
-  at_both i x y at there =
-      let one : Some (f x) ≡ Some (g y) = sym (slice_get-map f xs i ∙ ap (option_map f) at) ∙ ap (λ (l : List Z). slice_get l i) same ∙ slice_get-map g ys i ∙ ap (option_map g) there in
-      cc
-
-  -- where one of two lists that agree has an element, the other has one there with the same image
-  pub at_other : (i : ℕ) (y : Y) → slice_get ys i ≡ Some y → (x : X) × (slice_get xs i ≡ Some x) × (f x ≡ g y)
-  at_other i y there = map-slice_get f xs i (g y) (ap (λ (l : List Z). slice_get l i) same ∙ slice_get-map g ys i ∙ ap (option_map g) there)
-
-  -- lists that agree under two maps are equally long
-  pub as_long : length xs ≡ length ys
-  as_long = sym (length-map xs f) ∙ ap length same ∙ length-map ys g
+-- What each of two lists does to the element of the other at its place, and casts by their actors.
+use Rattle.act_executor.proofs.Common.{◌≡◌, ◌≢◌, ℕ, zero, suc, ◌<◌, Bool, true, false, List, [], ◌∷◌, Some, All, length, get_or, refl, ap, sym, ◌∙◌, subst}
+use Rattle.act_executor.proofs.Common.{arith, inl, inr, ◌==◌, ◌&&◌, slice_get, list_any, eq-eqb, ne_eqb, or-false, eqb_tells, All-tail, slice_get-get_or}
+use Rattle.act_executor.proofs.Common.{slice_get_within, get_or_from_slice_get, Each, ActorsDiffer, Cast}
 
 -- what holds of the elements at each place
 pub each_at : {T X : Type 0} (done : T → X → Type 0) (tasks : List T) (results : List X) → length results ≡ length tasks
@@ -31,63 +13,14 @@ each_at done tasks results long each = (
       each i (get_or tasks i t) (get_or results i x) (slice_get-get_or tasks i t below) (slice_get-get_or results i x short),
 )
 
--- what holds of all mapped elements holds of those whose images they are
-pub all_through : {X Y : Type 0} (P : X → Type 0) (f : Y → X) (ys : List Y) (xs : List X) → map f ys ≡ xs → All P xs → All (λ y. P (f y)) ys
-all_through {X} {Y} P f ys xs same all k d below =
-    let short : k < length xs = omega (arith, length-map ys f, ap length same) in
-    subst P (sym (ap (λ (l : List X). get_or l k (f d)) same) ∙ get_or-map f ys k d (f d) below) (all k (f d) short)
+-- two lists of which each is used up by one
+pub each_pop : {T X : Type 0} (D : T → X → Type 0) (us ts : List T) (ys xs : List X) (t : T) (x : X) → us ≡ t ∷ ts → ys ≡ x ∷ xs → Each D us ys → D t x × Each D ts xs
+each_pop D us ts ys xs t x is are each =
+    let At : List _ × List _ → Type 0 = λ p. Each D p.0 p.1 in
+    let whole : Each D (t ∷ ts) (x ∷ xs) = subst At (λ i. (is i, are i)) each in
+    (whole.1 0 t x (omega arith), (omega (arith, whole.0), λ k a b lt. whole.1 (suc k) a b (omega arith)))
 
--- what holds of all elements holds of the one at a place
-pub all_at : {X : Type 0} (P : X → Type 0) (xs : List X) (i : ℕ) (x : X) → All P xs → slice_get xs i ≡ Some x → P x
-all_at P xs i x all at = subst P (get_or_from_slice_get xs i x x at) (all i x (slice_get_within xs i x at))
-
--- ---- names that differ
-
--- where the numbers of any two elements differ, none stands twice in the list of these numbers
-pub map_apart : {X : Type 0} (f : X → ℕ) (xs : List X) → AllPairs (λ one other. f one ≢ f other) xs → CallersDiffer (map f xs)
-map_apart f [] apart i j d below within = absurd (omega arith)
-map_apart {X} f (x ∷ xs) apart i j d below within =
-    let later : All (λ other. f x ≢ f other) xs = λ k e lt. apart 0 (suc k) e (omega arith) (omega arith) in
-    let rest : AllPairs (λ one other. f one ≢ f other) xs = λ k l e lt lt'. apart (suc k) (suc l) e (omega arith) (omega arith) in
-    let all : CallersDiffer (map f (x ∷ xs)) = AllPairs-cons (λ one other. one ≢ other) (f x) (map f xs) (All-map (λ n. f x ≢ n) f xs later) (map_apart f xs rest) in
-    all i j d below within
-
--- what each passes on to each later one
-pub pairs_weaker : {X : Type 0} (P : X → Type 0) (Q R : X → X → Type 0) → ((x y : X) → P x → P y → Q x y → R x y) → (xs : List X) → All P xs → AllPairs Q xs → AllPairs R xs
-pairs_weaker P Q R weaker xs all pairs i j d below within = weaker (get_or xs i d) (get_or xs j d) (all i d (omega arith)) (all j d within) (pairs i j d below within)
-
--- the names at rising places differ
-pub apart_at : (ns : List ℕ) (i j : ℕ) → CallersDiffer ns → i < j → j < length ns → (d e : ℕ) → get_or ns i d ≢ get_or ns j e
-apart_at ns i j apart below within d e same =
-    let first : i < length ns = omega arith in
-    let one : slice_get ns j ≡ Some (get_or ns j e) = slice_get-get_or ns j e within in
-    apart i j d below within (same ∙ sym (get_or_from_slice_get ns j (get_or ns j e) d one))
-
--- ---- whether a name is in a list
-
-pub has_contains : (c : ℕ) (ns : List ℕ) → contains c ns ≡ true → Contains ns c
-has_contains c [] named = cc
-has_contains c (n ∷ ns) named = go (cases_Bool (n == c)) (has_contains c ns)
-  where
-    go : ((n == c) ≡ true) ⊎ ((n == c) ≡ false) → (contains c ns ≡ true → Contains ns c) → Contains (n ∷ ns) c
-    go (inl is) rest = (0, omega arith, eqb-true n c is)
-    go (inr other) rest = let more : contains c ns ≡ true = sym (ap (λ (b : Bool). b || contains c ns) other) ∙ named in let has = rest more in let lt = has.1 in (suc has.0, omega arith, has.2)
-
-module _ {X : Type 0} (f : X → ℕ) where
-  -- where a list has an element, its name is among the names
-  pub contains_name : (xs : List X) (i : ℕ) (x : X) (c : ℕ) → i < length xs → get_or xs i x ≡ x → f x ≡ c → contains c (map f xs) ≡ true
-  contains_name [] i x c below at named = absurd (omega arith)
-  contains_name (y ∷ xs) zero x c below at named = let e : (f y == c) ≡ true = eq-eqb (f y) c (ap f at ∙ named) in rw e refl
-  contains_name (y ∷ xs) (suc i) x c below at named = or_right (f y == c) (contains c (map f xs)) (contains_name xs i x c (omega arith) at named)
-
-  -- what holds of all names holds of one of them
-  pub all_names : (P : ℕ → Type 0) (xs : List X) (c : ℕ) → All (λ x. P (f x)) xs → contains c (map f xs) ≡ true → P c
-  all_names P [] c all named = cc
-  all_names P (x ∷ xs) c all named = go (or_cases (f x == c) (contains c (map f xs)) named) (all_names P xs c (All-tail (λ y. P (f y)) x xs all))
-    where
-      go : ((f x == c) ≡ true) ⊎ (contains c (map f xs) ≡ true) → (contains c (map f xs) ≡ true → P c) → P c
-      go (inl is) rest = subst P (eqb-true (f x) c is) (All-head (λ y. P (f y)) x xs all)
-      go (inr more) rest = rest more
+-- ---- casts
 
 module _ {K : Type 0} (p : Cast K → Bool) where
   nowhere : (a : ℕ) (casts : List (Cast K)) → All (λ cast. a ≢ cast.actor) casts → list_any (λ cast. (cast.actor == a) && p cast) casts ≡ false

@@ -5,8 +5,8 @@ use Rattle.act_executor.proofs.Common.{actor_spec, Notice, Letter, items_from, T
 use Rattle.act_executor.proofs.Common.{Endpoint, ExecPasses, Finished, end_view, end_id, end_log, IsLogOf, replies_to, deaths, caller_at, endpoint_callers}
 use Rattle.act_executor.proofs.Common.{KillsTaken, HasDrained, IfRetired, HasServed, without_given, IsAtItsEndpoint, Driven, Lines, IsExec, ServedView}
 use Rattle.act_executor.proofs.Common.{IsServed, NoticesAudited, SitsAtReplies, NoticeTold, ActorLeft, left_of}
-use Rattle.act_executor.proofs.Lists.Places.{at_other, all_at}
-use Rattle.act_executor.proofs.Lists.Elements.{IsIn, in_from_contains, contains_from_in, all_in, all_by_places}
+use Rattle.act_rules.proofs.Places.{at_other, all_at}
+use Rattle.act_rules.proofs.Elements.{IsIn, in_from_contains, contains_from_in, all_in, all_by_places}
 
 -- an actor's end with its passes
 abbrev pub served_view : {K L : Type 0} → (K → KindState) → Finished K L → ServedView

@@ -1,11 +1,12 @@
 -- What each caller of a run left, at its place.
 use Rattle.act_executor.proofs.Common.{◌≡◌, ℕ, ◌<◌, false, List, length, map, zip, get_or, slice_get, Some, sym, ap, ◌∙◌, subst, All, Contains}
-use Rattle.act_executor.proofs.Common.{get_or_from_slice_get, IsPrefix, planned, map-slice_get, actors_in, opened_under, Letter, Asked, items_from, PutterView}
-use Rattle.act_executor.proofs.Common.{TakerView, MailView, caller_of, ControlView, asker_of, RepliesView, Endpoint, Finished, CallerPasses, Driven, HasPosted}
-use Rattle.act_executor.proofs.Common.{HasAsked, IsFreshEndpoint, IsKillEndpoint, bare_post, bare_ask, CallerSetup, Lines, IsCaller, IsDriven, LettersAudited}
-use Rattle.act_executor.proofs.Common.{KillsAudited, SitsAtMail, SitsAtControl, HasEndpoints, LetterTold, KillTold, Doing, IsDrivenAt, KindState}
-use Rattle.act_executor.proofs.Lists.Places.{at_other, all_at}
-use Rattle.act_executor.proofs.Lists.Elements.{IsIn, in_from_contains, contains_from_in, all_in, all_by_places}
+use Rattle.act_executor.proofs.Common.{get_or_from_slice_get, IsPrefix, planned, map-slice_get, actors_in, opened_under, Letter, Asked, items_from}
+use Rattle.act_executor.proofs.Common.{PutterView, TakerView, MailView, caller_of, ControlView, asker_of, RepliesView, Endpoint, Finished, CallerPasses}
+use Rattle.act_executor.proofs.Common.{Driven, HasPosted, HasAsked, IsFreshEndpoint, IsKillEndpoint, bare_post, bare_ask, CallerSetup, Lines, IsCaller}
+use Rattle.act_executor.proofs.Common.{IsDriven, LettersAudited, KillsAudited, SitsAtMail, SitsAtControl, HasEndpoints, LetterTold, KillTold, Doing}
+use Rattle.act_executor.proofs.Common.{IsDrivenAt, KindState}
+use Rattle.act_rules.proofs.Places.{at_other, all_at}
+use Rattle.act_rules.proofs.Elements.{IsIn, in_from_contains, contains_from_in, all_in, all_by_places}
 use Rattle.act_executor.proofs.OpenLines.Owners.{own_actors}
 use Rattle.act_executor.proofs.OpenLines.Actors.{served_view}
 

@@ -1,13 +1,14 @@
 -- What follows of lines whose passes were dealt by the casts and the parts.
-use Rattle.act_executor.proofs.Common.{◌≡◌, ◌≢◌, ℕ, ◌+◌, ◌<◌, true, List, [], ◌∷◌, Some, All, Contains, length, map, get_or, refl, ap, sym, ◌∙◌, subst, arith}
-use Rattle.act_executor.proofs.Common.{◌==◌, ◌&&◌, slice_get, AllPairs, list_any, range_with_len, get_or-range_with_len, length-map, get_or-map, All-nil}
-use Rattle.act_executor.proofs.Common.{All-contains, slice_get_within, get_or_from_slice_get, slice_get-get_or, TableId, contains, map-slice_get, CallersDiffer}
-use Rattle.act_executor.proofs.Common.{Cast, PutterView, new_putter, MailView, ControlView, starter, RepliesView, ReplyExecView, new_exec, IsNoDeath, Letter}
-use Rattle.act_executor.proofs.Common.{Asked, Endpoint, ExecPasses, caller_at, endpoint_callers, IsAtItsEndpoint, EndpointsDiffer, CallerPasses}
-use Rattle.act_executor.proofs.Common.{IsFreshEndpoint, AreDistinct, IsKillEndpoint, AreKillEndpoints, CallerSetup, AreMatched, Opened, group_of}
-use Rattle.act_executor.proofs.Common.{endpoints_from, IsExec, IsCaller, ArePaired, AreLines, AreAtLines, AreOpened, both_ways, contains_map}
+use Rattle.act_executor.proofs.Common.{◌≡◌, ◌≢◌, ℕ, ◌+◌, ◌<◌, true, List, [], ◌∷◌, Some, All, Contains, length, map, get_or, refl, ap, sym, ◌∙◌, subst}
+use Rattle.act_executor.proofs.Common.{arith, ◌==◌, ◌&&◌, slice_get, AllPairs, list_any, range_with_len, get_or-range_with_len, length-map, get_or-map}
+use Rattle.act_executor.proofs.Common.{All-nil, All-contains, slice_get_within, get_or_from_slice_get, slice_get-get_or, TableId, contains, map-slice_get}
+use Rattle.act_executor.proofs.Common.{CallersDiffer, Cast, PutterView, new_putter, MailView, ControlView, starter, RepliesView, ReplyExecView, new_exec}
+use Rattle.act_executor.proofs.Common.{IsNoDeath, Letter, Asked, Endpoint, ExecPasses, caller_at, endpoint_callers, IsAtItsEndpoint, EndpointsDiffer}
+use Rattle.act_executor.proofs.Common.{CallerPasses, IsFreshEndpoint, AreDistinct, IsKillEndpoint, AreKillEndpoints, CallerSetup, AreMatched, Opened}
+use Rattle.act_executor.proofs.Common.{group_of, endpoints_from, IsExec, IsCaller, ArePaired, AreLines, AreAtLines, AreOpened, both_ways, contains_map}
 use Rattle.act_executor.proofs.OpenLines.Endpoints.{each_of, has_of, rising_of}
-use Rattle.act_executor.proofs.Lists.Places.{at_both, at_other, as_long, each_at, all_at, map_apart, pairs_weaker, apart_at, has_contains, contains_name, all_names, only_cast}
+use Rattle.act_rules.proofs.Places.{at_both, at_other, as_long, all_at, map_apart, pairs_weaker, apart_at, has_contains, contains_name, all_names}
+use Rattle.act_executor.proofs.Lists.Places.{each_at, only_cast}
 
 abbrev line_of_mail : MailView → TableId
 line_of_mail mail = mail.line

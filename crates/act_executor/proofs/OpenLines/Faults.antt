@@ -1,10 +1,9 @@
 -- Which fault a run answers.
 use Rattle.act_executor.proofs.Common.{◌≡◌, ℕ, List, [], ◌∷◌, Option, Some, None, Ok, Err, slice_get, sym, subst, refl, arith, All, filter_map, option_map}
 use Rattle.act_executor.proofs.Common.{Result, IfErr, IsErrAnd, cons_option, Step, ActorSpec, first_bad, CallerSetup, bad_of_setup, first_bad_plan, RunFault}
-use Rattle.act_executor.proofs.Common.{Refusal, IsFault, IsThreadFault, fault_of}
+use Rattle.act_executor.proofs.Common.{Refusal, IsFault, IsThreadFault, fault_of, All-cons}
 use Rattle.act_executor.specs.declared.run.RunFault.TheVariants as fault
 use Rattle.act_tasks.specs.declared.Refusal.TheVariants as refusal
-use Rattle.act_executor.proofs.Lists.Agreeing.{all_cons}
 
 -- what is known of an error
 pub err_only : {X E : Type 0} (r : Result X E) (P Q : E → Type 0) → IsErrAnd r P → ((e : E) → P e → Q e) → IfErr r Q
@@ -39,7 +38,7 @@ all_good (setup ∷ setups) none = go (first_bad setup.actors.items setup.plan.i
         All (λ (p : CallerSetup). first_bad p.actors.items p.plan.items ≡ None) (setup ∷ setups)
     go None at more =
         let rest : slice_get (filter_map bad_of_setup setups) 0 ≡ None = subst (λ (x : Option ℕ). slice_get (cons_option (option_map (λ (place : ℕ). (setup.caller, place)) x) (filter_map bad_of_setup setups)) 0 ≡ None) at none in
-        all_cons (λ (p : CallerSetup). first_bad p.actors.items p.plan.items ≡ None) setup setups at (more rest)
+        All-cons (λ (p : CallerSetup). first_bad p.actors.items p.plan.items ≡ None) setup setups at (more rest)
     go (Some place) at more =
         let bad : slice_get (cons_option (option_map (λ (n : ℕ). (setup.caller, n)) (Some place)) (filter_map bad_of_setup setups)) 0 ≡ None = subst (λ (x : Option ℕ). slice_get (cons_option (option_map (λ (n : ℕ). (setup.caller, n)) x) (filter_map bad_of_setup setups)) 0 ≡ None) at none in
         cc

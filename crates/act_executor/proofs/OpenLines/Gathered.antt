@@ -3,7 +3,7 @@ use Rattle.act_executor.proofs.Common.{◌≡◌, ℕ, ◌<◌, List, ◌++◌, 
 use Rattle.act_executor.proofs.Common.{filter-append, map-map, element, Endpoint, items_of_vec, group_of, AreHands, AreGrown}
 use Rattle.std.proofs.Common.{Vec}
 use Rattle.std.specs.declared.alloc.Global.{Global}
-use Rattle.act_executor.proofs.Lists.Places.{as_long}
+use Rattle.act_rules.proofs.Places.{as_long}
 
 module _ {P : Type 0} (number : P → ℕ) (numbers : List ℕ) where
   -- each name has a hand

@@ -3,8 +3,8 @@ use Rattle.act_executor.proofs.Common.{◌≡◌, ℕ, ◌+◌, ◌<◌, zero, s
 use Rattle.act_executor.proofs.Common.{slice_get_within, range_with_len, KindState, Cast, Asked, PutterView, MailView, ControlView, RepliesView, Endpoint}
 use Rattle.act_executor.proofs.Common.{ExecPasses, Finished, CallerPasses, Driven, CallerSetup, Opened, IsExec, IsCaller, AreOpened, Doing, SitsAtReplies}
 use Rattle.act_executor.proofs.Common.{SitsAtControl, HasEndpoints, IsUnusedStarter, AreServed, AreDriven, AreStarters, element}
-use Rattle.act_executor.proofs.Lists.Places.{as_long, all_at}
-use Rattle.act_executor.proofs.Lists.Elements.{all_by_places, range_at}
+use Rattle.act_rules.proofs.Places.{as_long, all_at}
+use Rattle.act_rules.proofs.Elements.{all_by_places, range_at}
 use Rattle.act_executor.proofs.OpenLines.Tasks.{each_at}
 use Rattle.act_executor.proofs.OpenLines.Actors.{sits, same_letters_line, same_kills_line}
 use Rattle.act_executor.proofs.OpenLines.Callers.{has_endpoints, same_replies_line}

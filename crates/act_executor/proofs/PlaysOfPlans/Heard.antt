@@ -2,8 +2,7 @@
 use Rattle.act_executor.proofs.Common.{◌≡◌, ℕ, ◌==◌, Bool, true, false, cond, List, [], ◌∷◌, ◌++◌, Some, None, refl, ap, sym, ◌∙◌, subst, append_assoc, ◌&&◌}
 use Rattle.act_executor.proofs.Common.{map, filter, filter_map, AllByRecursion, cons_option, eqb-true, map-append, recursion_from_All, KindState, Notice}
 use Rattle.act_executor.proofs.Common.{Answered, Death, Post, RunItem, IsPrefix, contains, IsPrefix-map, front_trans, whole_front, Noticed, notice_actor}
-use Rattle.act_executor.proofs.Common.{items_from, Deed, OfCaller, OfActor, caller_steps, CallerStep, ChangeMade, notice_collected, replies_are_due, post_of}
-use Rattle.act_executor.proofs.Common.{is_between}
+use Rattle.act_executor.proofs.Common.{items_from, Site, Action, Caller, Actor, actions_of, notice_of, replies_are_due, post_of, is_between}
 use Rattle.act_rules.specs.declared.history.Post.TheVariants.{Reply as ReplyPost, Death as DeathPost}
 use Rattle.act_serve.specs.Served.{EndView, Retired as RetiredEnd, replies_to, deaths, places_of, place_of, IsReplyOf}
 use Rattle.act_executor.proofs.Lists.Kept.{gives_none}
@@ -17,33 +16,33 @@ post_from c (Death a) = DeathPost c a
 
 module _ (c a : ℕ) where
   -- of these steps, what was collected of the actor, as the rules name it
-  abbrev heard_in : List CallerStep → List Post
-  heard_in steps = map (post_from c) (items_from notice_actor a (filter_map notice_collected steps))
+  abbrev heard_in : List Action → List Post
+  heard_in steps = map (post_from c) (items_from notice_actor a (filter_map notice_of steps))
 
-  one_heard : (d : ℕ) (notice : Notice) (posts : List Post) (steps : List CallerStep) → posts ≡ heard_in steps
+  one_heard : (d : ℕ) (notice : Notice) (posts : List Post) (steps : List Action) → posts ≡ heard_in steps
       → (b : Bool) → (d == c) ≡ b → (x : Bool) → (notice_actor notice == a) ≡ x
-      → cond (b && x) (post_from d notice ∷ posts) posts ≡ heard_in (cons_option (cond b (Some (ChangeMade (Noticed notice))) None) steps)
+      → cond (b && x) (post_from d notice ∷ posts) posts ≡ heard_in (cons_option (cond b (Some (Noticed notice)) None) steps)
   one_heard d notice posts steps rest false is x same = rest
   one_heard d notice posts steps rest true is true same =
-      let heard = items_from notice_actor a (filter_map notice_collected steps) in
+      let heard = items_from notice_actor a (filter_map notice_of steps) in
       ap (λ (n : ℕ). post_from n notice ∷ posts) (eqb-true d c is) ∙ ap (λ (l : List Post). post_from c notice ∷ l) rest
       ∙ sym (ap (λ (b : Bool). map (post_from c) (cond b (notice ∷ heard) heard)) same)
   one_heard d notice posts steps rest true is false same =
-      let heard = items_from notice_actor a (filter_map notice_collected steps) in
+      let heard = items_from notice_actor a (filter_map notice_of steps) in
       rest ∙ sym (ap (λ (b : Bool). map (post_from c) (cond b (notice ∷ heard) heard)) same)
 
   -- the deeds collect of the actor, for the caller, what the caller's own steps do
-  pub collected_part : (deeds : List Deed) → filter (is_between c a) (filter_map post_of deeds) ≡ heard_in (caller_steps c deeds)
+  pub collected_part : (deeds : List (Site × Action)) → filter (is_between c a) (filter_map post_of deeds) ≡ heard_in (actions_of (Caller c) deeds)
   collected_part [] = refl
-  collected_part (OfCaller d (ChangeMade (Noticed (Answered reply))) ∷ deeds) =
-      one_heard d (Answered reply) (filter (is_between c a) (filter_map post_of deeds)) (caller_steps c deeds) (collected_part deeds) (d == c) refl
+  collected_part ((Caller d, Noticed (Answered reply)) ∷ deeds) =
+      one_heard d (Answered reply) (filter (is_between c a) (filter_map post_of deeds)) (actions_of (Caller c) deeds) (collected_part deeds) (d == c) refl
       (reply.actor == a) refl
-  collected_part (OfCaller d (ChangeMade (Noticed (Death b))) ∷ deeds) =
-      one_heard d (Death b) (filter (is_between c a) (filter_map post_of deeds)) (caller_steps c deeds) (collected_part deeds) (d == c) refl (b == a) refl
-  collected_part (OfCaller d step ∷ deeds) =
+  collected_part ((Caller d, Noticed (Death b)) ∷ deeds) =
+      one_heard d (Death b) (filter (is_between c a) (filter_map post_of deeds)) (actions_of (Caller c) deeds) (collected_part deeds) (d == c) refl (b == a) refl
+  collected_part ((Caller d, step) ∷ deeds) =
       collected_part deeds ∙ ap (λ (l : List Notice). map (post_from c) (items_from notice_actor a l))
-      (sym (gives_none notice_collected (d == c) step (caller_steps c deeds) refl))
-  collected_part (OfActor b step ∷ deeds) = collected_part deeds
+      (sym (gives_none notice_of (d == c) step (actions_of (Caller c) deeds) refl))
+  collected_part ((Actor b, step) ∷ deeds) = collected_part deeds
 
 -- ---- of one actor alone
 

@@ -1,24 +1,23 @@
 -- A plan is done as well without the notices of strangers.
 use Rattle.act_executor.proofs.Common.{ℕ, Bool, List, [], ◌∷◌, ◌++◌, inl, inr, refl, ap, sym, ◌∙◌, subst, filter, is_some, All-filter, filter-append, Step}
-use Rattle.act_executor.proofs.Common.{Submit, Copy, Release, Kill, Await, kept_at, OwnerView, is_known_dead, Copied, Released, Submitted, after_change}
-use Rattle.act_executor.proofs.Common.{CallerStep, ChangeMade, KillAsked, owner_after_steps, CallerMayDoAll, IsMeanwhile, DoesStep, DoesPlan}
+use Rattle.act_executor.proofs.Common.{Submit, Copy, Release, Kill, Await, kept_at, OwnerView, is_known_dead, Copied, Released, Submitted, after_action}
+use Rattle.act_executor.proofs.Common.{Action, KillAsked, after_actions, CallerMayDoAll, IsMeanwhile, DoesStep, DoesPlan}
 use Rattle.act_executor.proofs.Lists.Kept.{kept_more}
 use Rattle.act_executor.proofs.PlaysOfThreads.Allowed.{may_front, may_rest}
-use Rattle.act_executor.proofs.PlaysOfThreads.CallerWork.{is_by_these, HoldsThese, change_holds, IsStill, still}
+use Rattle.act_executor.proofs.PlaysOfThreads.CallerWork.{is_by_these, HoldsThese, step_holds, IsStill, still}
 
 module _ (actors : List ℕ) where
-  abbrev keep : CallerStep → Bool
+  abbrev keep : Action → Bool
   keep = is_by_these actors
 
-  holds_on : (owner : OwnerView) (steps : List CallerStep) → HoldsThese actors owner → CallerMayDoAll owner steps → HoldsThese actors (owner_after_steps owner steps)
+  holds_on : (owner : OwnerView) (steps : List Action) → HoldsThese actors owner → CallerMayDoAll owner steps → HoldsThese actors (after_actions owner steps)
   holds_on owner [] holds may = holds
-  holds_on owner (ChangeMade change ∷ steps) holds may = holds_on (after_change owner change) steps (change_holds actors owner change holds may.0) may.1
-  holds_on owner (KillAsked a ∷ steps) holds may = holds_on owner steps holds may.1
+  holds_on owner (step ∷ steps) holds may = holds_on (after_action owner step) steps (step_holds actors owner step holds may.0) may.1
 
-  step_kept : (owner : OwnerView) (step : Step) (before steps : List CallerStep) → IsStill actors owner before → DoesStep owner step before steps → DoesStep owner step (filter keep before) (filter keep steps)
-  step_kept owner (Submit a method args) before steps is does = ap (filter keep) does ∙ kept_more keep before (ChangeMade (Submitted a method args)) refl
-  step_kept owner (Copy a) before steps is does = ap (filter keep) does ∙ kept_more keep before (ChangeMade (Copied a)) refl
-  step_kept owner (Release a) before steps is does = ap (filter keep) does ∙ kept_more keep before (ChangeMade (Released a)) refl
+  step_kept : (owner : OwnerView) (step : Step) (before steps : List Action) → IsStill actors owner before → DoesStep owner step before steps → DoesStep owner step (filter keep before) (filter keep steps)
+  step_kept owner (Submit a method args) before steps is does = ap (filter keep) does ∙ kept_more keep before (Submitted a method args) refl
+  step_kept owner (Copy a) before steps is does = ap (filter keep) does ∙ kept_more keep before (Copied a) refl
+  step_kept owner (Release a) before steps is does = ap (filter keep) does ∙ kept_more keep before (Released a) refl
   step_kept owner (Kill a) before steps is does = elim does [
     | inl unasked ↦ inl (ap (filter keep) unasked.0, ap (λ (o : OwnerView). is_known_dead o a) is.same ∙ unasked.1)
     | inr asked ↦ inr (ap (filter keep) asked ∙ kept_more keep before (KillAsked a) refl)
@@ -26,7 +25,7 @@ module _ (actors : List ℕ) where
   step_kept owner (Await k) before steps is does = (ap (filter keep) does.0, ap (λ (o : OwnerView). is_some (kept_at o.kept k)) is.same ∙ does.1)
 
   -- the steps before a plan's step are some of those with it
-  before_may : (owner : OwnerView) (step : Step) (before steps later : List CallerStep) → DoesStep owner step before steps → CallerMayDoAll owner (steps ++ later) → CallerMayDoAll owner before
+  before_may : (owner : OwnerView) (step : Step) (before steps later : List Action) → DoesStep owner step before steps → CallerMayDoAll owner (steps ++ later) → CallerMayDoAll owner before
   before_may owner (Kill a) before steps later does may = elim does [
     | inl unasked ↦ subst (CallerMayDoAll owner) unasked.0 (may_front owner steps later may)
     | inr asked ↦ may_front owner before _ (subst (CallerMayDoAll owner) asked (may_front owner steps later may))
@@ -34,7 +33,7 @@ module _ (actors : List ℕ) where
   before_may owner (Await k) before steps later does may = subst (CallerMayDoAll owner) does.0 (may_front owner steps later may)
   before_may owner step before steps later does may = may_front owner before _ (subst (CallerMayDoAll owner) does (may_front owner steps later may))
 
-  pub plan_kept : (plan : List Step) (owner : OwnerView) (steps : List CallerStep) → HoldsThese actors owner → CallerMayDoAll owner steps → DoesPlan owner plan steps → DoesPlan owner plan (filter keep steps)
+  pub plan_kept : (plan : List Step) (owner : OwnerView) (steps : List Action) → HoldsThese actors owner → CallerMayDoAll owner steps → DoesPlan owner plan steps → DoesPlan owner plan (filter keep steps)
   plan_kept [] owner steps holds may does = All-filter keep IsMeanwhile steps does
   plan_kept (step ∷ plan) owner steps holds may (before, done, later, quiet, does, whole, more) =
       let all : CallerMayDoAll owner (done ++ later) = subst (CallerMayDoAll owner) whole may in
@@ -47,5 +46,5 @@ module _ (actors : List ℕ) where
         step_kept owner step before done (still actors owner before holds (before_may owner step before done later does all)) does,
         ap (filter keep) whole ∙ filter-append keep done later,
         subst (λ (o : OwnerView). DoesPlan o plan (filter keep later)) (sym same)
-            (plan_kept plan (owner_after_steps owner done) later (holds_on owner done holds done_may) (may_rest owner done later all) more),
+            (plan_kept plan (after_actions owner done) later (holds_on owner done holds done_may) (may_rest owner done later all) more),
       )

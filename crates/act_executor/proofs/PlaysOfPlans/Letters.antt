@@ -1,13 +1,14 @@
 -- No letter that an actor takes of a caller comes twice, and so it is of the letters that are delivered.
 use Rattle.act_executor.proofs.Common.{◌≡◌, ◌≢◌, ℕ, suc, ◌==◌, Bool, true, false, cond, List, [], ◌∷◌, ◌++◌, Option, Some, None, refl, ap, sym, ◌∙◌, subst}
-use Rattle.act_executor.proofs.Common.{arith, All, AllPairs, ◌&&◌, map, filter, filter_map, slice_get, option_map, AllByRecursion, cons_option, eqb-true}
-use Rattle.act_executor.proofs.Common.{eq-eqb, map-append, recursion_from_All, Packet, ReleaseNote, Submission, number_of, same_place, OwnerView, packet_for}
-use Rattle.act_executor.proofs.Common.{Letter, Call, Note, Deed, OfCaller, OfActor, actor_steps, IsSent, AreTwo, letter_of, IsPrefix, contains, items_from}
-use Rattle.act_executor.proofs.Common.{caller_of, steps_in, found_in, ActorStep, LetterTaken, letter_taken}
+use Rattle.act_executor.proofs.Common.{true≢false, option_and_then, eqb_tells, inl, inr, arith, All, AllPairs, ◌&&◌, map, filter, filter_map, slice_get}
+use Rattle.act_executor.proofs.Common.{option_map, AllByRecursion, cons_option, eqb-true, eq-eqb, map-append, recursion_from_All, Packet, ReleaseNote}
+use Rattle.act_executor.proofs.Common.{Submission, number_of, same_place, OwnerView, packet_for, Letter, Call, Note, Site, Action, Caller, Actor, actions_of}
+use Rattle.act_executor.proofs.Common.{IsSent, AreTwo, letter_of, IsPrefix, contains, items_from, caller_of, steps_in, found_in, CallTaken, NoteTaken}
+use Rattle.act_executor.proofs.Common.{letter_taken}
 use Rattle.act_rules.specs.declared.history.Letter.{Letter as SentLetter}
 use Rattle.act_rules.specs.declared.history.Letter.TheVariants.{Call as CallLetter, Note as NoteLetter}
 use Rattle.act_executor.proofs.PlaysOfPlans.Once.{Differ, differ_pairs, front_differs, HasEnds, both_same, all_differ}
-use Rattle.act_executor.proofs.PlaysOfThreads.ActorWork.{is_of_these}
+use Rattle.act_executor.proofs.PlaysOfThreads.ActorWork.{is_of_these, kept_letter}
 use Rattle.act_causes.proofs.Found.{found_is as found_alone}
 use Rattle.act_executor.proofs.Lists.Kept.{keep_stamped, kept_steps, kept_found, gives_none}
 
@@ -86,74 +87,84 @@ abbrev pub letter_from : ℕ → ℕ → Letter → Option SentLetter
 letter_from c a letter = cond (caller_of letter == c) (Some (sent_letter a letter)) None
 
 -- the letter of the caller's that the actor takes in the step, if it takes one
-abbrev pub letter_in_step : ℕ → ℕ → ActorStep → Option SentLetter
-letter_in_step c a (LetterTaken letter) = letter_from c a letter
-letter_in_step c a step = None
+abbrev pub letter_in_step : ℕ → ℕ → Action → Option SentLetter
+letter_in_step c a step = option_and_then (letter_from c a) (letter_taken step)
 
 module _ (c a : ℕ) where
-  one_taken : (b : ℕ) (letter : Letter) (letters : List SentLetter) (steps : List ActorStep) → letters ≡ filter_map (letter_in_step c a) steps
+  one_taken : (b : ℕ) (step : Action) (letter : Letter) (letters : List SentLetter) (steps : List Action) → letter_taken step ≡ Some letter → letters ≡ filter_map (letter_in_step c a) steps
       → (x : Bool) → (caller_of letter == c) ≡ x → (y : Bool) → (b == a) ≡ y
-      → cond (x && y) (sent_letter b letter ∷ letters) letters ≡ filter_map (letter_in_step c a) (cons_option (cond y (Some (LetterTaken letter)) None) steps)
-  one_taken b letter letters steps rest true is true same =
-      ap (λ (n : ℕ). sent_letter n letter ∷ letters) (eqb-true b a same) ∙ ap (λ (l : List SentLetter). sent_letter a letter ∷ l) rest
-      ∙ sym (ap (λ (x : Bool). cons_option (cond x (Some (sent_letter a letter)) None) (filter_map (letter_in_step c a) steps)) is)
-  one_taken b letter letters steps rest false is true same =
-      rest ∙ sym (ap (λ (x : Bool). cons_option (cond x (Some (sent_letter a letter)) None) (filter_map (letter_in_step c a) steps)) is)
-  one_taken b letter letters steps rest true is false same = rest
-  one_taken b letter letters steps rest false is false same = rest
+      → cond (x && y) (sent_letter b letter ∷ letters) letters ≡ filter_map (letter_in_step c a) (cons_option (cond y (Some step) None) steps)
+  one_taken b step letter letters steps takes rest x is false same = and_none x ∙ rest
+    where
+      and_none : (x : Bool) → cond (x && false) (sent_letter b letter ∷ letters) letters ≡ letters
+      and_none true = refl
+      and_none false = refl
+  one_taken b step letter letters steps takes rest x is true same = go x is ∙ sym (ap (λ (o : Option SentLetter). cons_option o (filter_map (letter_in_step c a) steps)) gives)
+    where
+      gives : letter_in_step c a step ≡ cond x (Some (sent_letter a letter)) None
+      gives = ap (option_and_then (letter_from c a)) takes ∙ ap (λ (x : Bool). cond x (Some (sent_letter a letter)) None) is
+
+      go : (x : Bool) → (caller_of letter == c) ≡ x → cond (x && true) (sent_letter b letter ∷ letters) letters ≡ cons_option (cond x (Some (sent_letter a letter)) None) (filter_map (letter_in_step c a) steps)
+      go true is = ap (λ (n : ℕ). sent_letter n letter ∷ letters) (eqb-true b a same) ∙ ap (λ (l : List SentLetter). sent_letter a letter ∷ l) rest
+      go false is = rest
 
   -- of the caller's letters the deeds bring to the actor what the actor's own steps take
-  pub arrived_part : (deeds : List Deed) → filter (is_sent_between c a) (filter_map letter_of deeds) ≡ filter_map (letter_in_step c a) (actor_steps a deeds)
+  pub arrived_part : (deeds : List (Site × Action)) → filter (is_sent_between c a) (filter_map letter_of deeds) ≡ filter_map (letter_in_step c a) (actions_of (Actor a) deeds)
   arrived_part [] = refl
-  arrived_part (OfCaller d step ∷ deeds) = arrived_part deeds
-  arrived_part (OfActor b (LetterTaken (Call packet)) ∷ deeds) =
-      one_taken b (Call packet) (filter (is_sent_between c a) (filter_map letter_of deeds)) (actor_steps a deeds) (arrived_part deeds)
+  arrived_part ((Caller d, step) ∷ deeds) = arrived_part deeds
+  arrived_part ((Actor b, CallTaken packet) ∷ deeds) =
+      one_taken b (CallTaken packet) (Call packet) (filter (is_sent_between c a) (filter_map letter_of deeds)) (actions_of (Actor a) deeds) refl (arrived_part deeds)
       (packet.caller == c) refl (b == a) refl
-  arrived_part (OfActor b (LetterTaken (Note note)) ∷ deeds) =
-      one_taken b (Note note) (filter (is_sent_between c a) (filter_map letter_of deeds)) (actor_steps a deeds) (arrived_part deeds) (note.caller == c) refl
+  arrived_part ((Actor b, NoteTaken note) ∷ deeds) =
+      one_taken b (NoteTaken note) (Note note) (filter (is_sent_between c a) (filter_map letter_of deeds)) (actions_of (Actor a) deeds) refl (arrived_part deeds) (note.caller == c) refl
       (b == a) refl
-  arrived_part (OfActor b step ∷ deeds) = arrived_part deeds ∙ sym (gives_none (letter_in_step c a) (b == a) step (actor_steps a deeds) refl)
+  arrived_part ((Actor b, step) ∷ deeds) = arrived_part deeds ∙ sym (gives_none (letter_in_step c a) (b == a) step (actions_of (Actor a) deeds) refl)
 
 -- ---- the steps of an actor's thread
 
 module _ (c a : ℕ) where
-  by_letters : (steps : List ActorStep) → filter_map (letter_in_step c a) steps ≡ filter_map (letter_from c a) (filter_map letter_taken steps)
+  by_letters : (steps : List Action) → filter_map (letter_in_step c a) steps ≡ filter_map (letter_from c a) (filter_map letter_taken steps)
   by_letters [] = refl
-  by_letters (LetterTaken letter ∷ steps) = ap (cons_option (letter_from c a letter)) (by_letters steps)
-  by_letters (step ∷ steps) = by_letters steps
-
-  stranger_letter : (callers : List ℕ) (letter : Letter) → contains c callers ≡ true → contains (caller_of letter) callers ≡ false → letter_from c a letter ≡ None
-  stranger_letter callers letter listed lost = go (caller_of letter == c) refl
+  by_letters (step ∷ steps) = go (letter_taken step) (by_letters steps)
     where
-      go : (b : Bool) → (caller_of letter == c) ≡ b → cond b (Some (sent_letter a letter)) None ≡ None
-      go true is = let bad : true ≡ false = sym listed ∙ ap (λ (n : ℕ). contains n callers) (sym (eqb-true (caller_of letter) c is)) ∙ lost in cc
-      go false is = refl
+      go : (o : Option Letter) → filter_map (letter_in_step c a) steps ≡ filter_map (letter_from c a) (filter_map letter_taken steps)
+          → cons_option (option_and_then (letter_from c a) o) (filter_map (letter_in_step c a) steps) ≡ filter_map (letter_from c a) (cons_option o (filter_map letter_taken steps))
+      go None rest = rest
+      go (Some letter) rest = ap (cons_option (letter_from c a letter)) rest
 
-  lost_letter : (callers : List ℕ) → contains c callers ≡ true → (step : ActorStep) → is_of_these callers step ≡ false → letter_in_step c a step ≡ None
-  lost_letter callers listed (LetterTaken letter) lost = stranger_letter callers letter listed lost
-  lost_letter callers listed step lost = refl
+  -- a caller that is listed otherwise than the caller takes no letter of the caller's
+  other_letter : (callers : List ℕ) (kept : Bool) → contains c callers ≢ kept → (step : Action) → is_of_these callers step ≡ kept → letter_in_step c a step ≡ None
+  other_letter callers kept apart step is = go (letter_taken step) refl
+    where
+      by : (letter : Letter) → contains (caller_of letter) callers ≡ kept → letter_from c a letter ≡ None
+      by letter mine = elim (eqb_tells (caller_of letter) c) [
+        | inl t ↦ absurd (apart (ap (λ (n : ℕ). contains n callers) (sym t.1) ∙ mine))
+        | inr f ↦ ap (λ (b : Bool). cond b (Some (sent_letter a letter)) None) f.0
+      ]
+
+      go : (o : Option Letter) → letter_taken step ≡ o → option_and_then (letter_from c a) o ≡ None
+      go None e = refl
+      go (Some letter) e = by letter (sym (kept_letter callers step letter e) ∙ is)
 
   -- the letters that are taken of a listed caller
-  pub letters_kept : (callers : List ℕ) → contains c callers ≡ true → (t : List (ℕ × ActorStep)) (taken : List Letter) → map (λ x. x.1) (found_in letter_taken t) ≡ taken
+  pub letters_kept : (callers : List ℕ) → contains c callers ≡ true → (t : List (ℕ × Action)) (taken : List Letter) → map (λ x. x.1) (found_in letter_taken t) ≡ taken
       → filter_map (letter_in_step c a) (steps_in (filter (keep_stamped (is_of_these callers)) t)) ≡ filter_map (letter_from c a) taken
   letters_kept callers listed t taken is =
       ap (filter_map (letter_in_step c a)) (kept_steps (is_of_these callers) t)
-      ∙ kept_found (is_of_these callers) (letter_in_step c a) (lost_letter callers listed) (steps_in t)
+      ∙ kept_found (is_of_these callers) (letter_in_step c a) (λ step lost. other_letter callers false (λ same. true≢false (sym listed ∙ same)) step lost) (steps_in t)
       ∙ by_letters (steps_in t)
       ∙ ap (filter_map (letter_from c a)) (sym (found_alone letter_taken t) ∙ is)
 
-  none_listed : (callers : List ℕ) → contains c callers ≡ false → (steps : List ActorStep) → filter_map (letter_in_step c a) (filter (is_of_these callers) steps) ≡ []
+  none_listed : (callers : List ℕ) → contains c callers ≡ false → (steps : List Action) → filter_map (letter_in_step c a) (filter (is_of_these callers) steps) ≡ []
   none_listed callers none [] = refl
-  none_listed callers none (LetterTaken letter ∷ steps) = go (contains (caller_of letter) callers) refl (caller_of letter == c) refl (none_listed callers none steps)
+  none_listed callers none (step ∷ steps) = go (is_of_these callers step) refl (none_listed callers none steps)
     where
-      go : (b : Bool) → contains (caller_of letter) callers ≡ b → (x : Bool) → (caller_of letter == c) ≡ x → filter_map (letter_in_step c a) (filter (is_of_these callers) steps) ≡ []
-          → filter_map (letter_in_step c a) (cond b (LetterTaken letter ∷ filter (is_of_these callers) steps) (filter (is_of_these callers) steps)) ≡ []
-      go true is true same rest = let bad : true ≡ false = sym is ∙ ap (λ (n : ℕ). contains n callers) (eqb-true (caller_of letter) c same) ∙ none in cc
-      go true is false same rest = ap (λ (b : Bool). cons_option (cond b (Some (sent_letter a letter)) None) (filter_map (letter_in_step c a) (filter (is_of_these callers) steps))) same ∙ rest
-      go false is x same rest = rest
-  none_listed callers none (step ∷ steps) = none_listed callers none steps
+      go : (b : Bool) → is_of_these callers step ≡ b → filter_map (letter_in_step c a) (filter (is_of_these callers) steps) ≡ []
+          → filter_map (letter_in_step c a) (cond b (step ∷ filter (is_of_these callers) steps) (filter (is_of_these callers) steps)) ≡ []
+      go true is rest = ap (λ (o : Option SentLetter). cons_option o (filter_map (letter_in_step c a) (filter (is_of_these callers) steps))) (other_letter callers true (λ same. true≢false (sym same ∙ none)) step is) ∙ rest
+      go false is rest = rest
 
-  pub letters_lost : (callers : List ℕ) → contains c callers ≡ false → (t : List (ℕ × ActorStep)) → filter_map (letter_in_step c a) (steps_in (filter (keep_stamped (is_of_these callers)) t)) ≡ []
+  pub letters_lost : (callers : List ℕ) → contains c callers ≡ false → (t : List (ℕ × Action)) → filter_map (letter_in_step c a) (steps_in (filter (keep_stamped (is_of_these callers)) t)) ≡ []
   letters_lost callers none t = ap (filter_map (letter_in_step c a)) (kept_steps (is_of_these callers) t) ∙ none_listed callers none (steps_in t)
 
   -- ---- what was taken was put

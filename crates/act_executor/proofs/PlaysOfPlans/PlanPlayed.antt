@@ -1,21 +1,20 @@
 -- What is joined is a play of its plans, and a call whose kept answer is a death never ran.
-use Rattle.act_executor.proofs.Common.{◌≡◌, ◌≢◌, ℕ, ◌==◌, Bool, true, false, List, [], ◌∷◌, ◌++◌, map, slice_get, Option, Some, None, refl, ap, sym, ◌∙◌, subst}
-use Rattle.act_executor.proofs.Common.{All, AllPairs, filter, option_map, eq-eqb, eqb-true, KindState, Event, Post, RunItem, Step, Release, IsPrefix, ActorSpec}
-use Rattle.act_executor.proofs.Common.{contains, opening_of, actors_naming, runs_of, history, Answer, kept_at, world_sound, map-slice_get, Notice, OwnerView}
-use Rattle.act_executor.proofs.Common.{items_from, MailView, ControlView, RepliesView, notice_actor, steps_in, Driven, CallerStep, notice_collected, SpecsFit}
-use Rattle.act_executor.proofs.Common.{plan_of, end_log, places_of, ServedView, AreJoined, IsPlayOfSteps, pairs_of_map, cast_at, ActorStep, log_of_steps}
-use Rattle.act_executor.proofs.Common.{filter_map, CallsThatDiedNeverRan, kept_in, log_in, is_between, DoesPlanIn, CollectsInLine, IsPlayOfPlans}
-use Rattle.act_executor.proofs.Common.{IsPlayedAsPlanned, HasPosted, IsSent}
+use Rattle.act_executor.proofs.Common.{◌≡◌, ℕ, Bool, true, false, List, [], ◌∷◌, ◌++◌, map, slice_get, Option, Some, None, refl, ap, sym, ◌∙◌, subst, All}
+use Rattle.act_executor.proofs.Common.{filter, option_map, KindState, Event, Post, RunItem, Step, Release, IsPrefix, ActorSpec, contains, opening_of}
+use Rattle.act_executor.proofs.Common.{actors_naming, runs_of, history, Answer, kept_at, world_sound, map-slice_get, Notice, OwnerView, items_from, MailView}
+use Rattle.act_executor.proofs.Common.{ControlView, RepliesView, notice_actor, steps_in, Driven, Action, notice_of, SpecsFit, plan_of, end_log, places_of}
+use Rattle.act_executor.proofs.Common.{ServedView, AreJoined, IsPlayOfRun, cast_at, log_in, log_of, filter_map, CallsThatDiedNeverRan, kept_in, is_between}
+use Rattle.act_executor.proofs.Common.{DoesPlanIn, CollectsInLine, IsPlayOfPlans, IsPlayedAsPlanned, HasPosted, IsSent, Actor, Caller}
 use Rattle.act_rules.specs.declared.history.Post.TheVariants.{Reply as ReplyPost, Death as DeathPost}
 use Rattle.act_rules.specs.declared.history.Letter.{Letter as SentLetter}
-use Rattle.act_executor.proofs.Lists.Elements.{IsIn, in_from_contains, all_in, all_by_places, finds, found_is, contains_is}
-use Rattle.act_executor.proofs.EndsOfRuns.Found.{naming, same_cast, served_cast, one_of}
+use Rattle.act_rules.proofs.Elements.{IsIn, in_from_contains, all_in, all_by_places, contains_is}
+use Rattle.act_executor.proofs.EndsOfRuns.Found.{naming, same_cast, served_cast}
 use Rattle.act_executor.proofs.EndsOfRuns.Joint.{driven_of, served_of, Thread, thread, driver, audit_of, given_to}
 use Rattle.act_executor.proofs.PlaysOfThreads.AsPlay.{casts_stay}
 use Rattle.act_executor.proofs.PlaysOfThreads.HaveTraces.{HaveTraces}
-use Rattle.act_executor.proofs.PlaysOfThreads.JoinedTraces.{callers, actors, caller_did, actor_did, are_traced, caller_found, caller_none, actor_none}
-use Rattle.act_executor.proofs.PlaysOfThreads.JoinedTraces.{actor_found, is_play_of, kept_left, log_is_left, log_found, callers_differ}
-use Rattle.act_executor.proofs.PlaysOfPlans.TracedPlans.{IsPlayOfPlannedSteps, play_of_steps}
+use Rattle.act_executor.proofs.PlaysOfThreads.JoinedTraces.{threads, did, are_traced, caller_found, caller_none, actor_none}
+use Rattle.act_executor.proofs.PlaysOfThreads.JoinedTraces.{actor_found, is_play_of, kept_left, log_is_left, log_found, driven_at}
+use Rattle.act_executor.proofs.PlaysOfPlans.TracedPlans.{IsPlayOfPlannedRun, play_of_steps}
 use Rattle.act_executor.proofs.PlaysOfPlans.Heard.{post_from, of_listed, of_stranger, given_posts}
 use Rattle.act_executor.proofs.PlaysOfPlans.Ran.{died_unrun}
 use Rattle.act_executor.proofs.PlaysOfPlans.Once.{Differ, collected_once}
@@ -27,14 +26,14 @@ module _ {mails : List MailView} {controls : List ControlView} {replies : List R
   owner_in d = d.owner
 
   abbrev heard_by : ℕ → List Notice
-  heard_by c = filter_map notice_collected (caller_did j have c)
+  heard_by c = filter_map notice_of (did j have (Caller c))
 
   nothing : (c a : ℕ) (notices : List Notice) (more : List Post) → notices ≡ [] → IsPrefix (map (post_from c) notices) more
   nothing c a notices more none = (more, ap (λ (l : List Notice). map (post_from c) l ++ more) none)
 
   -- ---- what a caller collected of an actor
 
-  module _ (events : List Event) (play : IsPlayOfSteps casts (caller_did j have) (actor_did j have) events) where
+  module _ (events : List Event) (play : IsPlayOfRun casts (did j have) events) where
     taken_of : (c a : ℕ) (d : Driven) (s : ServedView) (e : driven_of c driven ≡ Some d) (f : served_of a served ≡ Some s) (t : Thread j a s) → IsIn t.cast.cast.callers c
         → IsPrefix (map (post_from c) (items_from notice_actor a d.passes.collects.taken)) (map (λ place. ReplyPost c a place) (places_of c (runs_of a (history casts events))) ++ DeathPost c a ∷ [])
     taken_of c a d s e f t listed =
@@ -66,7 +65,7 @@ module _ {mails : List MailView} {controls : List ControlView} {replies : List R
     line_of c a is = subst (λ (l : List Post). IsPrefix l (map (λ place. ReplyPost c a place) (places_of c (runs_of a (history casts events))) ++ DeathPost c a ∷ [])) (sym is) (go (driven_of c driven) refl)
       where
         go : (o : Option Driven) → driven_of c driven ≡ o → IsPrefix (map (post_from c) (items_from notice_actor a (heard_by c))) (map (λ place. ReplyPost c a place) (places_of c (runs_of a (history casts events))) ++ DeathPost c a ∷ [])
-        go None e = nothing c a (items_from notice_actor a (heard_by c)) _ (ap (λ (l : List (ℕ × CallerStep)). items_from notice_actor a (filter_map notice_collected (steps_in l))) (caller_none j have c e))
+        go None e = nothing c a (items_from notice_actor a (heard_by c)) _ (ap (λ (l : List (ℕ × Action)). items_from notice_actor a (filter_map notice_of (steps_in l))) (caller_none j have c e))
         go (Some d) e = driven_line c a d e (contains a (actors_naming c casts)) refl
 
     -- what ran has a cast
@@ -75,7 +74,7 @@ module _ {mails : List MailView} {controls : List ControlView} {replies : List R
       where
         go : (o : Option ServedView) → served_of a served ≡ o → (state : KindState) × (opening_of a (history casts events) ≡ Some state)
         go None e =
-            let none : runs_of a (history casts events) ≡ [] = play.runs a ∙ ap (λ (l : List (ℕ × ActorStep)). log_of_steps (steps_in l)) (actor_none j have a e) in
+            let none : runs_of a (history casts events) ≡ [] = play.runs a ∙ ap (λ (l : List (ℕ × Action)). log_of (steps_in l)) (actor_none j have a e) in
             let bad : None ≡ Some item = subst (λ (l : List RunItem). slice_get l p ≡ Some item) none at in cc
         go (Some s) e =
             let t = thread j a s e in
@@ -90,11 +89,11 @@ module _ {mails : List MailView} {controls : List ControlView} {replies : List R
       let posted = all_in (HasPosted mails d.owner) d.passes.letters.items audit.endpoint (driver j c d e).driving.letters (in_from_contains d.passes.letters.items audit.endpoint audit.sits) line in
       taken_differ c a d.owner s.passes.letters.taken audit.endpoint.pass.put audit.front (subst (λ (n : ℕ). All (IsSent d.owner n) audit.endpoint.pass.put) (audit.line line) posted.0) posted.1
 
-  letters_differ : (c a : ℕ) → Differ (filter_map (letter_in_step c a) (actor_did j have a))
+  letters_differ : (c a : ℕ) → Differ (filter_map (letter_in_step c a) (did j have (Actor a)))
   letters_differ c a = go (served_of a served) refl
     where
       by : (s : ServedView) (e : served_of a served ≡ Some s) (b : Bool) → contains c (actor_found j have a s e).cast.callers ≡ b
-          → Differ (filter_map (letter_in_step c a) (actor_did j have a))
+          → Differ (filter_map (letter_in_step c a) (did j have (Actor a)))
       by s e false is = subst (λ (l : List SentLetter). Differ l) (sym ((actor_found j have a s e).no_letters c a is)) tt
       by s e true is =
           let w = actor_found j have a s e in
@@ -104,28 +103,20 @@ module _ {mails : List MailView} {controls : List ControlView} {replies : List R
           let found = driven_named j t.cast.cast c t.cast.inside listed in
           subst (λ (l : List SentLetter). Differ l) (sym (w.letters_taken c a is)) (taken_once c a found.one s found.is t listed)
 
-      go : (o : Option ServedView) → served_of a served ≡ o → Differ (filter_map (letter_in_step c a) (actor_did j have a))
-      go None e = subst (λ (l : List (ℕ × ActorStep)). Differ (filter_map (letter_in_step c a) (steps_in l))) (sym (actor_none j have a e)) tt
+      go : (o : Option ServedView) → served_of a served ≡ o → Differ (filter_map (letter_in_step c a) (did j have (Actor a)))
+      go None e = subst (λ (l : List (ℕ × Action)). Differ (filter_map (letter_in_step c a) (steps_in l))) (sym (actor_none j have a e)) tt
       go (Some s) e = by s e (contains c (actor_found j have a s e).cast.callers) refl
 
   -- ---- each caller's plan
 
-  found_by_id : (k : ℕ) (d : Driven) → slice_get driven k ≡ Some d → driven_of d.owner.id driven ≡ Some d
-  found_by_id k d at =
-      let differ : AllPairs (λ one other. one.owner.id ≢ other.owner.id) driven = pairs_of_map (λ (x : Driven). x.owner.id) driven (callers_differ j have) in
-      let found = finds (λ (x : Driven). x.owner.id == d.owner.id) driven k d at (eq-eqb d.owner.id d.owner.id refl) in
-      let is = found_is (λ (x : Driven). x.owner.id == d.owner.id) driven found.one found.is in
-      let same = one_of (λ (x : Driven). x.owner.id) driven is.inside.place k found.one d differ is.inside.at at (eqb-true found.one.owner.id d.owner.id is.passes) in
-      found.is ∙ ap (λ (x : Driven). Some x) same
-
-  module _ (events : List Event) (played : IsPlayOfPlannedSteps casts (caller_did j have) (actor_did j have) events) where
+  module _ (events : List Event) (played : IsPlayOfPlannedRun casts (did j have) events) where
     lines : (c a : ℕ) → CollectsInLine (history casts events) c a
     lines c a = line_of events played.play c a (played.collected c a)
 
     does_plan : (owner : OwnerView) (d : Driven) (k : ℕ) → slice_get driven k ≡ Some d → owner_in d ≡ owner →
         (closing : List ℕ) × DoesPlanIn casts owner.id (plan_of owner.id plans ++ map (λ a. Release a) closing) [] events
     does_plan owner d k at is =
-        let does = (caller_found j have d.owner.id d (found_by_id k d at)).does in
+        let does = (caller_found j have d.owner.id d (driven_at j have k d at)).does in
         subst (λ (o : OwnerView). (closing : List ℕ) × DoesPlanIn casts o.id (plan_of o.id plans ++ map (λ a. Release a) closing) [] events) is (does.0, played.does d.owner.id _ does.1)
 
     pub is_play_of_plans : IsPlayOfPlans casts plans events (map owner_in driven) (map (λ s. s.end) served)
@@ -147,8 +138,8 @@ module _ {mails : List MailView} {controls : List ControlView} {replies : List R
 
   -- a call that died never ran
   pub never_ran : SpecsFit casts → CallsThatDiedNeverRan (kept_in (map owner_in driven)) (log_in (map (λ s. s.end) served))
-  never_ran fit = let played = play_of_steps casts (callers j have) (actors j have) fit (are_traced j have) in died_never_ran played.0 played.1
+  never_ran fit = let played = play_of_steps casts (threads j have) fit (are_traced j have) in died_never_ran played.0 played.1
 
   -- and some play is one of the plans
   pub as_planned : SpecsFit casts → IsPlayedAsPlanned casts plans (map owner_in driven) (map (λ s. s.end) served)
-  as_planned fit = let played = play_of_steps casts (callers j have) (actors j have) fit (are_traced j have) in (played.0, is_play_of_plans played.0 played.1)
+  as_planned fit = let played = play_of_steps casts (threads j have) fit (are_traced j have) in (played.0, is_play_of_plans played.0 played.1)

@@ -1,15 +1,15 @@
 -- What a caller's thread did by its plan, the caller does by its plan in the play.
-use Rattle.act_executor.proofs.Common.{◌≡◌, ℕ, ◌==◌, Bool, true, false, cond, List, [], ◌∷◌, ◌++◌, Option, Some, None, inl, inr, refl, ap, sym, ◌∙◌, subst, All}
-use Rattle.act_executor.proofs.Common.{append_assoc, append-nil, filter_map, is_some, AllByRecursion, AllZip, cons_option, All-from_recursion}
+use Rattle.act_executor.proofs.Common.{◌≡◌, ℕ, ◌==◌, Bool, true, false, cond, List, [], ◌∷◌, ◌++◌, Option, Some, None, inl, inr, refl, ap, sym, ◌∙◌, subst}
+use Rattle.act_executor.proofs.Common.{All, append_assoc, append-nil, filter_map, is_some, AllByRecursion, AllZip, cons_option, All-from_recursion}
 use Rattle.act_executor.proofs.Common.{recursion_from_All, filter_map-append, Answered, Death, Event, Step, history, Answer, ActorSpec, History, kept_at}
-use Rattle.act_executor.proofs.Common.{OwnerView, is_known_dead, Copied, Released, Submitted, Noticed, Call, Note, Deed, OfCaller, OfActor, caller_step}
-use Rattle.act_executor.proofs.Common.{caller_steps, left_by, opened_of, owner_by, IsEventOf, LetterTaken, CallerStep, ChangeMade, KillAsked}
-use Rattle.act_executor.proofs.Common.{owner_after_steps, KeepsAnswers, EachFront, step_of, DoesStepIn, DoesPlanIn, DoesPlan, death_listed}
+use Rattle.act_executor.proofs.Common.{OwnerView, is_known_dead, Copied, Released, Submitted, Noticed, Site, Action, Caller, Actor, action_at, actions_of}
+use Rattle.act_executor.proofs.Common.{opened_of, owner_by, IsEventOf, CallTaken, NoteTaken, KillAsked, after_actions, KeepsAnswers, EachFront, step_of}
+use Rattle.act_executor.proofs.Common.{DoesStepIn, DoesPlanIn, DoesPlan, death_listed, CallRun, DeathTold, KillTaken, Retirement, Sent}
 use Rattle.act_rules.specs.declared.script.Step.TheVariants.{Submit as SubmitStep, Copy as CopyStep, Release as ReleaseStep, Kill as KillStep, Await as AwaitStep}
 use Rattle.act_drive.specs.PlanTraces.{IsMeanwhile as IsMeanwhileStep}
 use Rattle.act_executor.specs.PlanPlays.{IsMeanwhile}
-use Rattle.act_executor.proofs.PlaysOfThreads.Allowed.{after_steps-append}
-use Rattle.act_executor.proofs.PlaysOfThreads.Seen.{deed_of_caller}
+use Rattle.act_causes.proofs.Made.{owner_then}
+use Rattle.act_causes.proofs.Sites.{deed_is}
 
 -- ---- cuts of what a filter keeps
 
@@ -87,40 +87,37 @@ module _ {A B : Type 0} (f : A → Option B) where
 -- ---- while the caller only sends and collects
 
 -- whether the caller only sends or collects
-abbrev IsQuiet : Option CallerStep → Type 0
+abbrev IsQuiet : Option Action → Type 0
 IsQuiet None = Unit {0}
 IsQuiet (Some step) = IsMeanwhileStep step
 
 -- a step that is neither is no deed of the caller's
-not_quiet : (b : Bool) (step : CallerStep) (planned : Step) → (IsMeanwhileStep step → ⊥) → IsQuiet (cond b (Some step) None) → cond b (Some planned) None ≡ None
+not_quiet : (b : Bool) (step : Action) (planned : Step) → (IsMeanwhileStep step → ⊥) → IsQuiet (cond b (Some step) None) → cond b (Some planned) None ≡ None
 not_quiet true step planned never quiet = absurd (never quiet)
 not_quiet false step planned never quiet = refl
 
-quiet_event : (c : ℕ) (h : History) (deed : Deed) (event : Event) → IsEventOf h deed event → IsQuiet (caller_step c deed) → step_of c event ≡ None
-quiet_event c h (OfCaller d (ChangeMade (Copied a))) event is quiet = ap (step_of c) is
-    ∙ not_quiet (d == c) (ChangeMade (Copied a)) (CopyStep a) (λ no. no) quiet
-quiet_event c h (OfCaller d (ChangeMade (Released a))) event is quiet = ap (step_of c) is
-    ∙ not_quiet (d == c) (ChangeMade (Released a)) (ReleaseStep a) (λ no. no) quiet
-quiet_event c h (OfCaller d (ChangeMade (Submitted a method args))) event is quiet =
-    ap (step_of c) is ∙ not_quiet (d == c) (ChangeMade (Submitted a method args)) (SubmitStep a method args) (λ no. no) quiet
-quiet_event c h (OfCaller d (KillAsked a)) event is quiet = ap (step_of c) is ∙ not_quiet (d == c) (KillAsked a) (KillStep a) (λ no. no) quiet
-quiet_event c h (OfCaller d (ChangeMade (Noticed (Answered reply)))) event is quiet = ap (step_of c) is.1
-quiet_event c h (OfCaller d (ChangeMade (Noticed (Death a)))) event is quiet = ap (step_of c) is.1
-quiet_event c h (OfActor a (LetterTaken (Call packet))) event is quiet = ap (step_of c) is.1
-quiet_event c h (OfActor a (LetterTaken (Note note))) event is quiet = ap (step_of c) is.1
-quiet_event c h deed event is quiet = ap (step_of c) is
-
--- ---- what the caller's own steps leave of it
-
-owner_on : (casts : List ActorSpec) (c : ℕ) (before deeds : List Deed)
-    → owner_by casts c (before ++ deeds) ≡ owner_after_steps (owner_by casts c before) (caller_steps c deeds)
-owner_on casts c before deeds =
-    ap (left_by casts c) (filter_map-append (caller_step c) before deeds)
-    ∙ after_steps-append (opened_of c casts) (caller_steps c before) (caller_steps c deeds)
+quiet_event : (c : ℕ) (h : History) (deed : Site × Action) (event : Event) → IsEventOf h deed event → IsQuiet (action_at (Caller c) deed) → step_of c event ≡ None
+quiet_event c h (Caller d, Copied a) event is quiet = ap (step_of c) is
+    ∙ not_quiet (d == c) (Copied a) (CopyStep a) (λ no. no) quiet
+quiet_event c h (Caller d, Released a) event is quiet = ap (step_of c) is
+    ∙ not_quiet (d == c) (Released a) (ReleaseStep a) (λ no. no) quiet
+quiet_event c h (Caller d, Submitted a method args) event is quiet =
+    ap (step_of c) is ∙ not_quiet (d == c) (Submitted a method args) (SubmitStep a method args) (λ no. no) quiet
+quiet_event c h (Caller d, KillAsked a) event is quiet = ap (step_of c) is ∙ not_quiet (d == c) (KillAsked a) (KillStep a) (λ no. no) quiet
+quiet_event c h (Caller d, Noticed (Answered reply)) event is quiet = ap (step_of c) is.1
+quiet_event c h (Caller d, Noticed (Death a)) event is quiet = ap (step_of c) is.1
+quiet_event c h (Actor a, CallTaken packet) event is quiet = ap (step_of c) is.1
+quiet_event c h (Actor a, NoteTaken note) event is quiet = ap (step_of c) is.1
+quiet_event c h (Caller d, Sent k) event is quiet = ap (step_of c) is
+quiet_event c h (Actor a, CallRun item) event is quiet = ap (step_of c) is
+quiet_event c h (Actor a, KillTaken asker note) event is quiet = ap (step_of c) is
+quiet_event c h (Actor a, DeathTold d) event is quiet = ap (step_of c) is
+quiet_event c h (Actor a, Retirement) event is quiet = ap (step_of c) is
+quiet_event c h deed event is quiet = absurd is
 
 -- ---- cuts of the deeds and their events
 
-record IsCutAt (casts : List ActorSpec) (h : History) (before : List Deed) (first : List Event) (deeds later : List Deed) (events : List Event) : Type 0 where
+record IsCutAt (casts : List ActorSpec) (h : History) (before : List (Site × Action)) (first : List Event) (deeds later : List (Site × Action)) (events : List Event) : Type 0 where
   done : List Event
   rest : List Event
   whole : events ≡ done ++ rest
@@ -128,7 +125,7 @@ record IsCutAt (casts : List ActorSpec) (h : History) (before : List Deed) (firs
   rest_steps : AllZip (IsEventOf h) later rest
   fronts : EachFront casts (before ++ deeds) (first ++ done) later rest
 
-cut_at : (casts : List ActorSpec) (h : History) (before : List Deed) (first : List Event) (deeds later : List Deed) (events : List Event)
+cut_at : (casts : List ActorSpec) (h : History) (before : List (Site × Action)) (first : List Event) (deeds later : List (Site × Action)) (events : List Event)
     → AllZip (IsEventOf h) (deeds ++ later) events → EachFront casts before first (deeds ++ later) events → IsCutAt casts h before first deeds later events
 cut_at casts h before first [] later events steps fronts = record {
   done = [];
@@ -136,7 +133,7 @@ cut_at casts h before first [] later events steps fronts = record {
   whole = refl;
   steps = tt;
   rest_steps = steps;
-  fronts = subst (λ (l : List Deed). EachFront casts l (first ++ []) later events) (sym (append-nil before)) (subst (λ (l : List Event). EachFront casts before l later events) (sym (append-nil first)) fronts);
+  fronts = subst (λ (l : List (Site × Action)). EachFront casts l (first ++ []) later events) (sym (append-nil before)) (subst (λ (l : List Event). EachFront casts before l later events) (sym (append-nil first)) fronts);
 }
 cut_at casts h before first (deed ∷ deeds) later [] steps fronts = absurd steps
 cut_at casts h before first (deed ∷ deeds) later (event ∷ events) steps fronts =
@@ -147,31 +144,31 @@ cut_at casts h before first (deed ∷ deeds) later (event ∷ events) steps fron
       whole = ap (λ (l : List Event). event ∷ l) cut.whole;
       steps = (steps.0, cut.steps);
       rest_steps = cut.rest_steps;
-      fronts = subst (λ (l : List Deed). EachFront casts l (first ++ event ∷ cut.done) later cut.rest) (append_assoc before (deed ∷ []) deeds)
+      fronts = subst (λ (l : List (Site × Action)). EachFront casts l (first ++ event ∷ cut.done) later cut.rest) (append_assoc before (deed ∷ []) deeds)
           (subst (λ (l : List Event). EachFront casts ((before ++ deed ∷ []) ++ deeds) l later cut.rest) (append_assoc first (event ∷ []) cut.done) cut.fronts);
     }
 
-keeps_here : (casts : List ActorSpec) (before : List Deed) (first : List Event) (deeds : List Deed) (events : List Event) → EachFront casts before first deeds events → KeepsAnswers casts before first
+keeps_here : (casts : List ActorSpec) (before : List (Site × Action)) (first : List Event) (deeds : List (Site × Action)) (events : List Event) → EachFront casts before first deeds events → KeepsAnswers casts before first
 keeps_here casts before first [] [] fronts = fronts
 keeps_here casts before first [] (event ∷ events) fronts = absurd fronts
 keeps_here casts before first (deed ∷ deeds) [] fronts = absurd fronts
 keeps_here casts before first (deed ∷ deeds) (event ∷ events) fronts = fronts.0
 
-quiet_all : (c : ℕ) (h : History) (deeds : List Deed) (events : List Event) → AllZip (IsEventOf h) deeds events
-    → AllByRecursion IsMeanwhileStep (caller_steps c deeds) → AllByRecursion (λ event. step_of c event ≡ None) events
+quiet_all : (c : ℕ) (h : History) (deeds : List (Site × Action)) (events : List Event) → AllZip (IsEventOf h) deeds events
+    → AllByRecursion IsMeanwhileStep (actions_of (Caller c) deeds) → AllByRecursion (λ event. step_of c event ≡ None) events
 quiet_all c h [] [] steps quiet = tt
 quiet_all c h [] (event ∷ events) steps quiet = absurd steps
 quiet_all c h (deed ∷ deeds) [] steps quiet = absurd steps
-quiet_all c h (deed ∷ deeds) (event ∷ events) steps quiet = go (caller_step c deed) refl quiet (quiet_all c h deeds events steps.1)
+quiet_all c h (deed ∷ deeds) (event ∷ events) steps quiet = go (action_at (Caller c) deed) refl quiet (quiet_all c h deeds events steps.1)
   where
-    go : (o : Option CallerStep) → caller_step c deed ≡ o → AllByRecursion IsMeanwhileStep (cons_option o (caller_steps c deeds))
-        → (AllByRecursion IsMeanwhileStep (caller_steps c deeds) → AllByRecursion (λ event. step_of c event ≡ None) events)
+    go : (o : Option Action) → action_at (Caller c) deed ≡ o → AllByRecursion IsMeanwhileStep (cons_option o (actions_of (Caller c) deeds))
+        → (AllByRecursion IsMeanwhileStep (actions_of (Caller c) deeds) → AllByRecursion (λ event. step_of c event ≡ None) events)
         → AllByRecursion (λ event. step_of c event ≡ None) (event ∷ events)
     go None is quiet rest = (quiet_event c h deed event steps.0 (subst IsQuiet (sym is) tt), rest quiet)
     go (Some step) is quiet rest = (quiet_event c h deed event steps.0 (subst IsQuiet (sym is) quiet.0), rest quiet.1)
 
-meanwhile : (c : ℕ) (h : History) (deeds : List Deed) (events : List Event) (steps : List CallerStep) → AllZip (IsEventOf h) deeds events
-    → caller_steps c deeds ≡ steps → All IsMeanwhileStep steps → IsMeanwhile c events
+meanwhile : (c : ℕ) (h : History) (deeds : List (Site × Action)) (events : List Event) (steps : List Action) → AllZip (IsEventOf h) deeds events
+    → actions_of (Caller c) deeds ≡ steps → All IsMeanwhileStep steps → IsMeanwhile c events
 meanwhile c h deeds events steps zip is quiet = All-from_recursion (λ event. step_of c event ≡ None) events
     (quiet_all c h deeds events zip (subst (AllByRecursion IsMeanwhileStep) (sym is) (recursion_from_All IsMeanwhileStep steps quiet)))
 
@@ -179,42 +176,42 @@ meanwhile c h deeds events steps zip is quiet = All-from_recursion (λ event. st
 
 module _ (casts : List ActorSpec) (c : ℕ) (h : History) where
   -- where the play stands: after these deeds, which are these events, the caller has these steps before it
-  pub record Stands (owner : OwnerView) (before : List Deed) (first : List Event) (steps : List CallerStep) (events : List Event) : Type 0 where
-    pub deeds : List Deed
+  pub record Stands (owner : OwnerView) (before : List (Site × Action)) (first : List Event) (steps : List Action) (events : List Event) : Type 0 where
+    pub deeds : List (Site × Action)
     pub owner_is : owner_by casts c before ≡ owner
-    pub own : caller_steps c deeds ≡ steps
+    pub own : actions_of (Caller c) deeds ≡ steps
     pub zip : AllZip (IsEventOf h) deeds events
     pub fronts : EachFront casts before first deeds events
 
   -- after some steps by which it only sent and collected
-  record Spares (owner : OwnerView) (first : List Event) (skipped later : List CallerStep) (events : List Event) : Type 0 where
-    deeds : List Deed
+  record Spares (owner : OwnerView) (first : List Event) (skipped later : List Action) (events : List Event) : Type 0 where
+    deeds : List (Site × Action)
     done : List Event
     rest : List Event
     whole : events ≡ done ++ rest
     quiet : IsMeanwhile c done
     known : KeepsAnswers casts deeds (first ++ done)
-    owner_is : owner_by casts c deeds ≡ owner_after_steps owner skipped
-    next : Stands (owner_after_steps owner skipped) deeds ((first ++ done) ++ []) later rest
+    owner_is : owner_by casts c deeds ≡ after_actions owner skipped
+    next : Stands (after_actions owner skipped) deeds ((first ++ done) ++ []) later rest
 
   -- and after a step more
-  record Acts (owner : OwnerView) (first : List Event) (skipped : List CallerStep) (step : CallerStep) (later : List CallerStep) (events : List Event) : Type 0 where
-    deeds : List Deed
+  record Acts (owner : OwnerView) (first : List Event) (skipped : List Action) (step : Action) (later : List Action) (events : List Event) : Type 0 where
+    deeds : List (Site × Action)
     done : List Event
     one : Event
     rest : List Event
     whole : events ≡ done ++ one ∷ rest
     quiet : IsMeanwhile c done
-    is : IsEventOf h (OfCaller c step) one
-    next : Stands (owner_after_steps owner (skipped ++ step ∷ [])) deeds ((first ++ done) ++ one ∷ []) later rest
+    is : IsEventOf h (Caller c, step) one
+    next : Stands (after_actions owner (skipped ++ step ∷ [])) deeds ((first ++ done) ++ one ∷ []) later rest
 
-  spares : (owner : OwnerView) (before : List Deed) (first : List Event) (skipped later : List CallerStep) (events : List Event) → Stands owner before first (skipped ++ later) events → All IsMeanwhileStep skipped → Spares owner first skipped later events
+  spares : (owner : OwnerView) (before : List (Site × Action)) (first : List Event) (skipped later : List Action) (events : List Event) → Stands owner before first (skipped ++ later) events → All IsMeanwhileStep skipped → Spares owner first skipped later events
   spares owner before first skipped later events stands quiet =
-      let by = cut_in (caller_step c) stands.deeds skipped later stands.own in
-      let cut = cut_at casts h before first by.first by.later events (subst (λ (l : List Deed). AllZip (IsEventOf h) l events) by.whole stands.zip) (subst (λ (l : List Deed). EachFront casts before first l events) by.whole stands.fronts) in
-      let owner_is : owner_by casts c (before ++ by.first) ≡ owner_after_steps owner skipped =
-      owner_on casts c before by.first ∙ ap (λ (o : OwnerView). owner_after_steps o (caller_steps c by.first)) stands.owner_is
-      ∙ ap (owner_after_steps owner) by.first_is in
+      let by = cut_in (action_at (Caller c)) stands.deeds skipped later stands.own in
+      let cut = cut_at casts h before first by.first by.later events (subst (λ (l : List (Site × Action)). AllZip (IsEventOf h) l events) by.whole stands.zip) (subst (λ (l : List (Site × Action)). EachFront casts before first l events) by.whole stands.fronts) in
+      let owner_is : owner_by casts c (before ++ by.first) ≡ after_actions owner skipped =
+      owner_then casts c before by.first ∙ ap (λ (o : OwnerView). after_actions o (actions_of (Caller c) by.first)) stands.owner_is
+      ∙ ap (after_actions owner) by.first_is in
       record {
         deeds = before ++ by.first;
         done = cut.done;
@@ -232,25 +229,25 @@ module _ (casts : List ActorSpec) (c : ℕ) (h : History) where
         };
       }
 
-  acts : (owner : OwnerView) (before : List Deed) (first : List Event) (skipped : List CallerStep) (step : CallerStep) (later : List CallerStep) (events : List Event) → Stands owner before first ((skipped ++ step ∷ []) ++ later) events → All IsMeanwhileStep skipped → Acts owner first skipped step later events
+  acts : (owner : OwnerView) (before : List (Site × Action)) (first : List Event) (skipped : List Action) (step : Action) (later : List Action) (events : List Event) → Stands owner before first ((skipped ++ step ∷ []) ++ later) events → All IsMeanwhileStep skipped → Acts owner first skipped step later events
   acts owner before first skipped step later events stands quiet = go cut.rest refl
     where
-      by : IsCutBy (caller_step c) stands.deeds skipped step later
-      by = cut_by (caller_step c) stands.deeds skipped step later (stands.own ∙ append_assoc skipped (step ∷ []) later)
+      by : IsCutBy (action_at (Caller c)) stands.deeds skipped step later
+      by = cut_by (action_at (Caller c)) stands.deeds skipped step later (stands.own ∙ append_assoc skipped (step ∷ []) later)
 
       cut : IsCutAt casts h before first by.first (by.one ∷ by.later) events
-      cut = cut_at casts h before first by.first (by.one ∷ by.later) events (subst (λ (l : List Deed). AllZip (IsEventOf h) l events) by.whole stands.zip) (subst (λ (l : List Deed). EachFront casts before first l events) by.whole stands.fronts)
+      cut = cut_at casts h before first by.first (by.one ∷ by.later) events (subst (λ (l : List (Site × Action)). AllZip (IsEventOf h) l events) by.whole stands.zip) (subst (λ (l : List (Site × Action)). EachFront casts before first l events) by.whole stands.fronts)
 
-      steps_are : caller_steps c (by.first ++ by.one ∷ []) ≡ skipped ++ step ∷ []
-      steps_are = filter_map-append (caller_step c) by.first (by.one ∷ [])
-          ∙ ap (λ (l : List CallerStep). l ++ cons_option (caller_step c by.one) []) by.first_is
-          ∙ ap (λ (o : Option CallerStep). skipped ++ cons_option o []) by.one_is
+      steps_are : actions_of (Caller c) (by.first ++ by.one ∷ []) ≡ skipped ++ step ∷ []
+      steps_are = filter_map-append (action_at (Caller c)) by.first (by.one ∷ [])
+          ∙ ap (λ (l : List Action). l ++ cons_option (action_at (Caller c) by.one) []) by.first_is
+          ∙ ap (λ (o : Option Action). skipped ++ cons_option o []) by.one_is
 
-      owner_is : owner_by casts c ((before ++ by.first) ++ by.one ∷ []) ≡ owner_after_steps owner (skipped ++ step ∷ [])
+      owner_is : owner_by casts c ((before ++ by.first) ++ by.one ∷ []) ≡ after_actions owner (skipped ++ step ∷ [])
       owner_is = ap (owner_by casts c) (append_assoc before by.first (by.one ∷ []))
-          ∙ owner_on casts c before (by.first ++ by.one ∷ [])
-          ∙ ap (λ (o : OwnerView). owner_after_steps o (caller_steps c (by.first ++ by.one ∷ []))) stands.owner_is
-          ∙ ap (owner_after_steps owner) steps_are
+          ∙ owner_then casts c before (by.first ++ by.one ∷ [])
+          ∙ ap (λ (o : OwnerView). after_actions o (actions_of (Caller c) (by.first ++ by.one ∷ []))) stands.owner_is
+          ∙ ap (after_actions owner) steps_are
 
       go : (rest : List Event) → cut.rest ≡ rest → Acts owner first skipped step later events
       go [] is = absurd (subst (AllZip (IsEventOf h) (by.one ∷ by.later)) is cut.rest_steps)
@@ -264,7 +261,7 @@ module _ (casts : List ActorSpec) (c : ℕ) (h : History) where
             rest = rest;
             whole = cut.whole ∙ ap (λ (l : List Event). cut.done ++ l) is;
             quiet = meanwhile c h by.first cut.done skipped cut.steps by.first_is quiet;
-            is = subst (λ (deed : Deed). IsEventOf h deed event) (deed_of_caller c by.one step by.one_is) zip.0;
+            is = subst (λ (deed : Site × Action). IsEventOf h deed event) (deed_is (Caller c) by.one step by.one_is) zip.0;
             next = record {
               deeds = by.later;
               owner_is = owner_is;
@@ -275,61 +272,61 @@ module _ (casts : List ActorSpec) (c : ℕ) (h : History) where
           }
 
   -- where the steps are cut so
-  cut_so : (owner : OwnerView) (before : List Deed) (first : List Event) (steps done skipped later : List CallerStep) (events : List Event) → Stands owner before first steps events → steps ≡ done ++ later → done ≡ skipped → Stands owner before first (skipped ++ later) events
-  cut_so owner before first steps done skipped later events stands whole is = subst (λ (l : List CallerStep). Stands owner before first l events) (whole ∙ ap (λ (l : List CallerStep). l ++ later) is) stands
+  cut_so : (owner : OwnerView) (before : List (Site × Action)) (first : List Event) (steps done skipped later : List Action) (events : List Event) → Stands owner before first steps events → steps ≡ done ++ later → done ≡ skipped → Stands owner before first (skipped ++ later) events
+  cut_so owner before first steps done skipped later events stands whole is = subst (λ (l : List Action). Stands owner before first l events) (whole ∙ ap (λ (l : List Action). l ++ later) is) stands
 
   -- the later steps, from where they stand
-  abbrev GoesOn : List Step → OwnerView → List CallerStep → Type 0
-  GoesOn plan owner later = (deeds : List Deed) (first rest : List Event) → Stands owner deeds first later rest → DoesPlanIn casts c plan first rest
+  abbrev GoesOn : List Step → OwnerView → List Action → Type 0
+  GoesOn plan owner later = (deeds : List (Site × Action)) (first rest : List Event) → Stands owner deeds first later rest → DoesPlanIn casts c plan first rest
 
   -- a step is done
-  acted : (step : Step) (plan : List Step) (owner : OwnerView) (before : List Deed) (first : List Event) (skipped : List CallerStep) (own : CallerStep) (later : List CallerStep) (events : List Event)
-      → ((done : List Event) (event : Event) → IsEventOf h (OfCaller c own) event → DoesStepIn casts c step done (event ∷ []))
-      → Stands owner before first ((skipped ++ own ∷ []) ++ later) events → All IsMeanwhileStep skipped → GoesOn plan (owner_after_steps owner (skipped ++ own ∷ [])) later → DoesPlanIn casts c (step ∷ plan) first events
+  acted : (step : Step) (plan : List Step) (owner : OwnerView) (before : List (Site × Action)) (first : List Event) (skipped : List Action) (own : Action) (later : List Action) (events : List Event)
+      → ((done : List Event) (event : Event) → IsEventOf h (Caller c, own) event → DoesStepIn casts c step done (event ∷ []))
+      → Stands owner before first ((skipped ++ own ∷ []) ++ later) events → All IsMeanwhileStep skipped → GoesOn plan (after_actions owner (skipped ++ own ∷ [])) later → DoesPlanIn casts c (step ∷ plan) first events
   acted step plan owner before first skipped own later events does stands quiet more =
       let a = acts owner before first skipped own later events stands quiet in
       (a.done, a.one ∷ [], a.rest, a.whole ∙ sym (append_assoc a.done (a.one ∷ []) a.rest), a.quiet, does (first ++ a.done) a.one a.is, more a.deeds ((first ++ a.done) ++ a.one ∷ []) a.rest a.next)
 
   -- nothing is done for a step
-  spared : (step : Step) (plan : List Step) (owner : OwnerView) (before : List Deed) (first : List Event) (skipped later : List CallerStep) (events : List Event)
-      → ((deeds : List Deed) (done : List Event) → KeepsAnswers casts deeds done → owner_by casts c deeds ≡ owner_after_steps owner skipped → DoesStepIn casts c step done [])
-      → Stands owner before first (skipped ++ later) events → All IsMeanwhileStep skipped → GoesOn plan (owner_after_steps owner skipped) later → DoesPlanIn casts c (step ∷ plan) first events
+  spared : (step : Step) (plan : List Step) (owner : OwnerView) (before : List (Site × Action)) (first : List Event) (skipped later : List Action) (events : List Event)
+      → ((deeds : List (Site × Action)) (done : List Event) → KeepsAnswers casts deeds done → owner_by casts c deeds ≡ after_actions owner skipped → DoesStepIn casts c step done [])
+      → Stands owner before first (skipped ++ later) events → All IsMeanwhileStep skipped → GoesOn plan (after_actions owner skipped) later → DoesPlanIn casts c (step ∷ plan) first events
   spared step plan owner before first skipped later events does stands quiet more =
       let s = spares owner before first skipped later events stands quiet in
       (s.done, [], s.rest, s.whole ∙ sym (append_assoc s.done [] s.rest), s.quiet, does s.deeds (first ++ s.done) s.known s.owner_is, more s.deeds ((first ++ s.done) ++ []) s.rest s.next)
 
-  pub does_plan : (plan : List Step) (owner : OwnerView) (before : List Deed) (first : List Event) (steps : List CallerStep) (events : List Event) → Stands owner before first steps events → DoesPlan owner plan steps → DoesPlanIn casts c plan first events
+  pub does_plan : (plan : List Step) (owner : OwnerView) (before : List (Site × Action)) (first : List Event) (steps : List Action) (events : List Event) → Stands owner before first steps events → DoesPlan owner plan steps → DoesPlanIn casts c plan first events
   does_plan [] owner before first steps events stands does = meanwhile c h stands.deeds events steps stands.zip stands.own does
   does_plan (SubmitStep a method args ∷ plan) owner before first steps events stands (skipped, done, later, quiet, does, whole, more) =
-      acted (SubmitStep a method args) plan owner before first skipped (ChangeMade (Submitted a method args)) later events
-      (λ first event is. ap (λ (e : Event). e ∷ []) is) (cut_so owner before first steps done (skipped ++ ChangeMade (Submitted a method args) ∷ []) later events stands whole does) quiet
-      (λ deeds first rest stands. does_plan plan _ deeds first later rest stands (subst (λ (l : List CallerStep). DoesPlan (owner_after_steps owner l) plan later) does more))
+      acted (SubmitStep a method args) plan owner before first skipped (Submitted a method args) later events
+      (λ first event is. ap (λ (e : Event). e ∷ []) is) (cut_so owner before first steps done (skipped ++ Submitted a method args ∷ []) later events stands whole does) quiet
+      (λ deeds first rest stands. does_plan plan _ deeds first later rest stands (subst (λ (l : List Action). DoesPlan (after_actions owner l) plan later) does more))
   does_plan (CopyStep a ∷ plan) owner before first steps events stands (skipped, done, later, quiet, does, whole, more) =
-      acted (CopyStep a) plan owner before first skipped (ChangeMade (Copied a)) later events
-      (λ first event is. ap (λ (e : Event). e ∷ []) is) (cut_so owner before first steps done (skipped ++ ChangeMade (Copied a) ∷ []) later events stands whole does) quiet
-      (λ deeds first rest stands. does_plan plan _ deeds first later rest stands (subst (λ (l : List CallerStep). DoesPlan (owner_after_steps owner l) plan later) does more))
+      acted (CopyStep a) plan owner before first skipped (Copied a) later events
+      (λ first event is. ap (λ (e : Event). e ∷ []) is) (cut_so owner before first steps done (skipped ++ Copied a ∷ []) later events stands whole does) quiet
+      (λ deeds first rest stands. does_plan plan _ deeds first later rest stands (subst (λ (l : List Action). DoesPlan (after_actions owner l) plan later) does more))
   does_plan (ReleaseStep a ∷ plan) owner before first steps events stands (skipped, done, later, quiet, does, whole, more) =
-      acted (ReleaseStep a) plan owner before first skipped (ChangeMade (Released a)) later events
-      (λ first event is. ap (λ (e : Event). e ∷ []) is) (cut_so owner before first steps done (skipped ++ ChangeMade (Released a) ∷ []) later events stands whole does) quiet
-      (λ deeds first rest stands. does_plan plan _ deeds first later rest stands (subst (λ (l : List CallerStep). DoesPlan (owner_after_steps owner l) plan later) does more))
+      acted (ReleaseStep a) plan owner before first skipped (Released a) later events
+      (λ first event is. ap (λ (e : Event). e ∷ []) is) (cut_so owner before first steps done (skipped ++ Released a ∷ []) later events stands whole does) quiet
+      (λ deeds first rest stands. does_plan plan _ deeds first later rest stands (subst (λ (l : List Action). DoesPlan (after_actions owner l) plan later) does more))
   does_plan (KillStep a ∷ plan) owner before first steps events stands (skipped, done, later, quiet, does, whole, more) = elim does [
     | inl unasked ↦ spared (KillStep a) plan owner before first skipped later events
         (λ deeds first known is. inr (refl, death_listed c a (history casts first).collected (known.deaths c a (ap (λ (o : OwnerView). is_known_dead o a) is ∙ unasked.1))))
         (cut_so owner before first steps done skipped later events stands whole unasked.0) quiet
-        (λ deeds first rest stands. does_plan plan _ deeds first later rest stands (subst (λ (l : List CallerStep). DoesPlan (owner_after_steps owner l) plan later) unasked.0 more))
+        (λ deeds first rest stands. does_plan plan _ deeds first later rest stands (subst (λ (l : List Action). DoesPlan (after_actions owner l) plan later) unasked.0 more))
     | inr asked ↦ acted (KillStep a) plan owner before first skipped (KillAsked a) later events
         (λ first event is. inl (ap (λ (e : Event). e ∷ []) is)) (cut_so owner before first steps done (skipped ++ KillAsked a ∷ []) later events stands whole asked) quiet
-        (λ deeds first rest stands. does_plan plan _ deeds first later rest stands (subst (λ (l : List CallerStep). DoesPlan (owner_after_steps owner l) plan later) asked more))
+        (λ deeds first rest stands. does_plan plan _ deeds first later rest stands (subst (λ (l : List Action). DoesPlan (after_actions owner l) plan later) asked more))
   ]
   does_plan (AwaitStep k ∷ plan) owner before first steps events stands (skipped, done, later, quiet, does, whole, more) =
       spared (AwaitStep k) plan owner before first skipped later events
       (λ deeds first known is. (refl, ap (λ (l : List (Option Answer)). is_some (kept_at l k)) (known.kept c ∙ ap (λ (o : OwnerView). o.kept) is) ∙ does.1))
       (cut_so owner before first steps done skipped later events stands whole does.0) quiet
-      (λ deeds first rest stands. does_plan plan _ deeds first later rest stands (subst (λ (l : List CallerStep). DoesPlan (owner_after_steps owner l) plan later) does.0 more))
+      (λ deeds first rest stands. does_plan plan _ deeds first later rest stands (subst (λ (l : List Action). DoesPlan (after_actions owner l) plan later) does.0 more))
 
 -- a caller whose deeds in the list are the steps by which its thread did a plan does the plan in the play
-pub plan_in_play : (casts : List ActorSpec) (c : ℕ) (h : History) (deeds : List Deed) (events : List Event) (steps : List CallerStep) (plan : List Step)
-    → AllZip (IsEventOf h) deeds events → EachFront casts [] [] deeds events → caller_steps c deeds ≡ steps → DoesPlan (opened_of c casts) plan steps
+pub plan_in_play : (casts : List ActorSpec) (c : ℕ) (h : History) (deeds : List (Site × Action)) (events : List Event) (steps : List Action) (plan : List Step)
+    → AllZip (IsEventOf h) deeds events → EachFront casts [] [] deeds events → actions_of (Caller c) deeds ≡ steps → DoesPlan (opened_of c casts) plan steps
     → DoesPlanIn casts c plan [] events
 plan_in_play casts c h deeds events steps plan zip fronts own does =
     does_plan casts c h plan (opened_of c casts) [] [] steps events (record { deeds = deeds; owner_is = refl; own = own; zip = zip; fronts = fronts }) does

@@ -1,12 +1,12 @@
--- What a caller's thread did, without the notices of actors that don't name it: they change nothing of it.
+-- What a caller's thread did, without the notices of actors that don't name it: they step nothing of it.
 use Rattle.act_executor.proofs.Common.{◌≡◌, ℕ, ◌+◌, ◌-◌, Bool, true, false, List, [], ◌∷◌, length, Some, None, inl, inr, refl, ap, sym, ◌∙◌, subst, ◌==◌}
-use Rattle.act_executor.proofs.Common.{◌&&◌, not, filter, Option, option_map, slice_get, is_some, if◌then◌else◌, option_or, AllByRecursion, eqb-true, eqb_tells}
-use Rattle.act_executor.proofs.Common.{Notice, Answered, Death, Arg, Submission, contains, kept_at, submit_refusal, limit_refusal, All_at, All_more, Handle}
-use Rattle.act_executor.proofs.Common.{copies_in, with_copy, without_copy, copies-with_copy, copies-without_copy, copies-with_copy-other}
-use Rattle.act_executor.proofs.Common.{copies-without_copy-other, copies-with_number, copies-opened, First, Late, Stray, OwnerView, opened_under, owner_limit}
-use Rattle.act_executor.proofs.Common.{pending, refusal_to_submit, is_sent, is_to, is_death, after_collect, after_reply_that, with_death, Change, Copied}
-use Rattle.act_executor.proofs.Common.{Released, Submitted, Sent, Noticed, after_change, notice_actor, notice_keeps, CallerStep, ChangeMade, KillAsked}
-use Rattle.act_executor.proofs.Common.{notice_collected, owner_after_steps, MayChange, CallerMayDoAll}
+use Rattle.act_executor.proofs.Common.{◌&&◌, not, filter, Option, option_map, slice_get, is_some, if◌then◌else◌, option_or, AllByRecursion, eqb-true}
+use Rattle.act_executor.proofs.Common.{eqb_tells, Notice, Answered, Death, Arg, Submission, contains, kept_at, submit_refusal, limit_refusal, All_at}
+use Rattle.act_executor.proofs.Common.{All_more, Handle, copies_in, with_copy, without_copy, copies-with_copy, copies-without_copy, copies-with_copy-other}
+use Rattle.act_executor.proofs.Common.{copies-without_copy-other, copies-with_number, copies-opened, First, Late, Stray, OwnerView, opened_under}
+use Rattle.act_executor.proofs.Common.{owner_limit, pending, refusal_to_submit, is_sent, is_to, is_death, after_collect, after_reply_that, with_death}
+use Rattle.act_executor.proofs.Common.{Action, Copied, Released, Submitted, Noticed, after_action, notice_actor, notice_keeps, notice_of, after_actions}
+use Rattle.act_executor.proofs.Common.{CallerMayDo, CallerMayDoAll}
 use Rattle.act_executor.proofs.Lists.Kept.{kept_first, lost_first}
 
 -- every step but the collecting of a notice of an actor that isn't among these
@@ -15,8 +15,8 @@ is_from_these actors None = true
 is_from_these actors (Some notice) = contains (notice_actor notice) actors
 
 -- whether a step collects no notice, or one of an actor among these
-abbrev pub is_by_these : List ℕ → CallerStep → Bool
-is_by_these actors step = is_from_these actors (notice_collected step)
+abbrev pub is_by_these : List ℕ → Action → Bool
+is_by_these actors step = is_from_these actors (notice_of step)
 
 module _ (actors : List ℕ) where
   abbrev IsToThese : Submission → Type 0
@@ -79,59 +79,56 @@ module _ (actors : List ℕ) where
     | inr f ↦ copies-without_copy-other a b handles f.1 ∙ none
   ]
 
-  pub change_holds : (owner : OwnerView) (change : Change) → HoldsThese owner → MayChange owner change → HoldsThese (after_change owner change)
-  change_holds owner (Copied a) holds may = record { strangers = λ b none. copied_none a b owner.handles (holds.strangers b none); calls = holds.calls }
-  change_holds owner (Released a) holds may = record { strangers = λ b none. released_none a b owner.handles (holds.strangers b none); calls = holds.calls }
-  change_holds owner (Submitted a method args) holds may = record {
+  pub step_holds : (owner : OwnerView) (step : Action) → HoldsThese owner → CallerMayDo owner step → HoldsThese (after_action owner step)
+  step_holds owner (Copied a) holds may = record { strangers = λ b none. copied_none a b owner.handles (holds.strangers b none); calls = holds.calls }
+  step_holds owner (Released a) holds may = record { strangers = λ b none. released_none a b owner.handles (holds.strangers b none); calls = holds.calls }
+  step_holds owner (Submitted a method args) holds may = record {
     strangers = λ b none. copies-with_number a b owner.handles ∙ holds.strangers b none;
     calls = All_more IsToThese owner.calls (record { actor = a; method = method; args = args }) holds.calls (known_to_submit owner a args holds may);
   }
-  change_holds owner (Sent k) holds may = record { strangers = holds.strangers; calls = holds.calls }
-  change_holds owner (Noticed notice) holds may =
+  step_holds owner (Noticed notice) holds may =
       let same = notice_keeps owner notice in
       record {
         strangers = λ b none. ap (copies_in b) same.2 ∙ holds.strangers b none;
         calls = subst (AllByRecursion IsToThese) (sym same.1) holds.calls;
       }
+  step_holds owner step holds may = record { strangers = holds.strangers; calls = holds.calls }
 
   -- ---- all steps
 
-  abbrev keep : CallerStep → Bool
+  abbrev keep : Action → Bool
   keep = is_by_these actors
 
   -- without what is left out, the caller may do the rest, and ends as it did
-  pub record IsStill (owner : OwnerView) (steps : List CallerStep) : Type 0 where
+  pub record IsStill (owner : OwnerView) (steps : List Action) : Type 0 where
     pub may : CallerMayDoAll owner (filter keep steps)
-    pub same : owner_after_steps owner (filter keep steps) ≡ owner_after_steps owner steps
+    pub same : after_actions owner (filter keep steps) ≡ after_actions owner steps
 
-  more : (owner : OwnerView) (change : Change) (steps : List CallerStep) → MayChange owner change → keep (ChangeMade change) ≡ true → IsStill (after_change owner change) steps → IsStill owner (ChangeMade change ∷ steps)
-  more owner change steps may is rest =
-      let first = kept_first keep (ChangeMade change) steps is in
+  more : (owner : OwnerView) (step : Action) (steps : List Action) → CallerMayDo owner step → keep step ≡ true → IsStill (after_action owner step) steps → IsStill owner (step ∷ steps)
+  more owner step steps may is rest =
+      let first = kept_first keep step steps is in
       record {
         may = subst (CallerMayDoAll owner) (sym first) (may, rest.may);
-        same = ap (owner_after_steps owner) first ∙ rest.same;
+        same = ap (after_actions owner) first ∙ rest.same;
       }
 
-  less : (owner : OwnerView) (change : Change) (steps : List CallerStep) → keep (ChangeMade change) ≡ false → after_change owner change ≡ owner → IsStill (after_change owner change) steps → IsStill owner (ChangeMade change ∷ steps)
-  less owner change steps is stays rest =
-      let first = lost_first keep (ChangeMade change) steps is in
+  less : (owner : OwnerView) (step : Action) (steps : List Action) → keep step ≡ false → after_action owner step ≡ owner → IsStill (after_action owner step) steps → IsStill owner (step ∷ steps)
+  less owner step steps is stays rest =
+      let first = lost_first keep step steps is in
       record {
         may = subst (CallerMayDoAll owner) (sym first) (subst (λ (o : OwnerView). CallerMayDoAll o (filter keep steps)) stays rest.may);
-        same = ap (owner_after_steps owner) first ∙ subst (λ (o : OwnerView). owner_after_steps o (filter keep steps) ≡ owner_after_steps (after_change owner change) steps) stays rest.same;
+        same = ap (after_actions owner) first ∙ subst (λ (o : OwnerView). after_actions o (filter keep steps) ≡ after_actions (after_action owner step) steps) stays rest.same;
       }
 
-  one_more : (owner : OwnerView) (change : Change) (steps : List CallerStep) → HoldsThese owner → MayChange owner change → IsStill (after_change owner change) steps → IsStill owner (ChangeMade change ∷ steps)
+  one_more : (owner : OwnerView) (step : Action) (steps : List Action) → HoldsThese owner → CallerMayDo owner step → IsStill (after_action owner step) steps → IsStill owner (step ∷ steps)
   one_more owner (Noticed notice) steps holds may rest = go (contains (notice_actor notice) actors) refl
     where
-      go : (b : Bool) → contains (notice_actor notice) actors ≡ b → IsStill owner (ChangeMade (Noticed notice) ∷ steps)
+      go : (b : Bool) → contains (notice_actor notice) actors ≡ b → IsStill owner (Noticed notice ∷ steps)
       go true is = more owner (Noticed notice) steps may is rest
       go false is = less owner (Noticed notice) steps is (stranger_ignored owner notice holds is) rest
-  one_more owner change steps holds may rest = more owner change steps may refl rest
+  one_more owner step steps holds may rest = more owner step steps may refl rest
 
   -- a caller of these actors alone may do its steps without the notices of others, and ends as with them
-  pub still : (owner : OwnerView) (steps : List CallerStep) → HoldsThese owner → CallerMayDoAll owner steps → IsStill owner steps
+  pub still : (owner : OwnerView) (steps : List Action) → HoldsThese owner → CallerMayDoAll owner steps → IsStill owner steps
   still owner [] holds may = record { may = tt; same = refl }
-  still owner (KillAsked a ∷ steps) holds may =
-      let rest = still owner steps holds may.1 in
-      record { may = (may.0, rest.may); same = rest.same }
-  still owner (ChangeMade change ∷ steps) holds may = one_more owner change steps holds may.0 (still (after_change owner change) steps (change_holds owner change holds may.0) may.1)
+  still owner (step ∷ steps) holds may = one_more owner step steps holds may.0 (still (after_action owner step) steps (step_holds owner step holds may.0) may.1)

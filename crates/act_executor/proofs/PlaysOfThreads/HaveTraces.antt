@@ -1,7 +1,7 @@
 -- What each thread of a run did, step by step, beside what it left.
 use Rattle.act_executor.proofs.Common.{◌≡◌, ℕ, List, [], ◌++◌, All, ap, ◌∙◌, subst, flat_map, AllZip, RunItem, Step, ActorSpec, ControlView, ControlExecView}
-use Rattle.act_executor.proofs.Common.{RepliesView, ReplyExecView, TakerView, clock, steps_in, found_in, IsTimed, AreTakenLater, Endpoint, Letter, ExecPasses}
-use Rattle.act_executor.proofs.Common.{EndView, Killed, Retired, Starved, end_id, caller_at, endpoint_callers, ActorStep, letter_taken, kill_taken}
+use Rattle.act_executor.proofs.Common.{RepliesView, ReplyExecView, TakerView, clock, steps_in, found_in, IsTimed, AreTakenLater, Endpoint, Letter}
+use Rattle.act_executor.proofs.Common.{ExecPasses, EndView, Killed, Retired, Starved, end_id, caller_at, endpoint_callers, Action, letter_taken, kill_taken}
 use Rattle.act_executor.proofs.Common.{ActorMayDoAll, exec_clock, IsGivenAfter, IsActorTrace, IsActorTraced, Driven, HasDonePlan, plan_of, opened_of}
 use Rattle.act_executor.proofs.Common.{ServedView}
 
@@ -17,7 +17,7 @@ module _ (p q : ExecPasses) (letters : p.letters ≡ q.letters) (kills : p.kills
   clocks : exec_clock p ≡ exec_clock q
   clocks = λ i. clock (flat_map (λ (endpoint : Endpoint ReplyExecView). endpoint.pass.stamps) (notices i)) ((letters i).stamps ++ (kills i).stamps)
 
-  trace_moved : (a : ℕ) (lines : List RepliesView) (log : List RunItem) (trace : List (ℕ × ActorStep)) → IsActorTrace a lines log p trace → IsActorTrace a lines log q trace
+  trace_moved : (a : ℕ) (lines : List RepliesView) (log : List RunItem) (trace : List (ℕ × Action)) → IsActorTrace a lines log p trace → IsActorTrace a lines log q trace
   trace_moved a lines log trace is = record {
     timed = subst (λ (n : ℕ). IsTimed n trace) clocks is.timed;
     allowed = subst (λ (l : List (Endpoint ReplyExecView)). ActorMayDoAll a (endpoint_callers lines l) [] (steps_in trace)) notices is.allowed;

@@ -1,60 +1,63 @@
 -- What each thread may do, at each of its steps.
-use Rattle.act_executor.proofs.Common.{◌≡◌, ℕ, ◌==◌, List, [], ◌∷◌, ◌++◌, Option, Some, None, All, refl, sym, subst, arith, Contains, append-nil, append_assoc}
-use Rattle.act_executor.proofs.Common.{find, eqb-true, steps_in, cast_at, ActorSpec, IsNamed, Thread, trace_in, trace_of, CallerThreads, ActorThreads}
-use Rattle.act_executor.proofs.Common.{opened_of, ActorStep, ActorMayDo, ActorMayDoAll, CallerStep, CallerMayDoAll}
-use Rattle.act_executor.proofs.Lists.Elements.{all_in, found_is}
+use Rattle.act_executor.proofs.Common.{◌≡◌, ℕ, ◌≤◌, List, [], ◌∷◌, ◌++◌, Some, All, refl, sym, subst, arith, Contains, append-nil, append_assoc, steps_in}
+use Rattle.act_executor.proofs.Common.{cast_at, ActorSpec, IsNamed, Site, Caller, Actor, Action, MayDo, MayDoAll, left_by, opened_of, ActorMayDoAll}
+use Rattle.act_executor.proofs.Common.{CallerMayDoAll, after_all-append, SpecsFit, Threads, AreBelow, site_number, contains, eqb-true, ◌==◌}
+use Rattle.act_rules.proofs.Elements.{all_in, any_is, contains_is, found_is}
 
--- ---- a thread by its number
+-- ---- by the machines of a caller and of an actor
 
--- what holds of each thread holds of the one found, and where none is, of no steps
-of_thread : {S : Type 0} (P : ℕ → List (ℕ × S) → Type 0) (t : ℕ) → P t [] → (threads : List (Thread S)) → All (λ thread. P thread.number thread.trace) threads
-    → P t (trace_of t threads)
-of_thread {S = S} P t none threads all = go (find (λ (thread : Thread S). thread.number == t) threads) refl
-  where
-    go : (o : Option (Thread S)) → find (λ (thread : Thread S). thread.number == t) threads ≡ o → P t (trace_in o)
-    go None e = none
-    go (Some thread) e =
-        let is = found_is (λ (x : Thread S). x.number == t) threads thread e in
-        subst (λ (n : ℕ). P n thread.trace) (eqb-true thread.number t is.passes) (all_in (λ (x : Thread S). P x.number x.trace) threads thread all is.inside)
+-- a named caller that may do all of some steps, after those before
+pub caller_may_all : (casts : List ActorSpec) (c : ℕ) (before steps : List Action) → IsNamed casts c → CallerMayDoAll (left_by casts c before) steps → MayDoAll casts (Caller c) before steps
+caller_may_all casts c before [] named may = tt
+caller_may_all casts c before (step ∷ steps) named may = (
+  (named, may.0),
+  caller_may_all casts c (before ++ step ∷ []) steps named (subst (λ owner. CallerMayDoAll owner steps) (sym (after_all-append (opened_of c casts) before (step ∷ []))) may.1),
+)
+
+pub caller_of_all : (casts : List ActorSpec) (c : ℕ) (before steps : List Action) → MayDoAll casts (Caller c) before steps → CallerMayDoAll (left_by casts c before) steps
+caller_of_all casts c before [] may = tt
+caller_of_all casts c before (step ∷ steps) may = (
+  may.0.1,
+  subst (λ owner. CallerMayDoAll owner steps) (after_all-append (opened_of c casts) before (step ∷ [])) (caller_of_all casts c (before ++ step ∷ []) steps may.1),
+)
+
+pub actor_may_all : (casts : List ActorSpec) (a : ℕ) (cast : ActorSpec) (before steps : List Action) → cast_at a casts ≡ Some cast → ActorMayDoAll a cast.callers before steps → MayDoAll casts (Actor a) before steps
+actor_may_all casts a cast before [] at may = tt
+actor_may_all casts a cast before (step ∷ steps) at may = ((cast, at, may.0), actor_may_all casts a cast (before ++ step ∷ []) steps at may.1)
+
+-- ---- at one step
+
+-- who may do all of some steps may do each after those before it
+pub may_at : (casts : List ActorSpec) (site : Site) (before front later : List Action) (step : Action) → MayDoAll casts site before (front ++ step ∷ later) → MayDo casts site (before ++ front) step
+may_at casts site before [] later step may = subst (λ (l : List Action). MayDo casts site l step) (sym (append-nil before)) may.0
+may_at casts site before (one ∷ front) later step may =
+    subst (λ (l : List Action). MayDo casts site l step) (append_assoc before (one ∷ []) front) (may_at casts site (before ++ one ∷ []) front later step may.1)
 
 -- nothing is contained in an empty list
 pub contains_none : {A : Type 0} (x : A) (P : Type 0) → Contains [] x → P
 contains_none x P has = absurd (let below = has.1 in omega arith)
 
--- ---- callers
+-- ---- no numbers but those of casts
 
--- the caller of a thread that does something is named
-pub caller_named : (casts : List ActorSpec) (callers : CallerThreads) (c : ℕ) (x : ℕ × CallerStep) → All (λ thread. IsNamed casts thread.number) callers
-    → Contains (trace_of c callers) x → IsNamed casts c
-caller_named casts callers c x named =
-    of_thread (λ n trace. Contains trace x → IsNamed casts n) c (contains_none x (IsNamed casts c)) callers (λ k d below has. named k d below)
+caller_small : (casts : List ActorSpec) (c : ℕ) → SpecsFit casts → IsNamed casts c → c ≤ 16
+caller_small casts c fit named =
+    let one = any_is (λ (cast : ActorSpec). contains c cast.callers) casts named in
+    let callers = all_in (λ (cast : ActorSpec). All (λ d. (1 ≤ d) × (d ≤ 16)) cast.callers) casts one.0 fit.callers one.1.inside in
+    (all_in (λ d. (1 ≤ d) × (d ≤ 16)) one.0.callers c callers (contains_is c one.0.callers one.1.passes)).1
 
--- where each caller may do the steps of its thread, a caller may do those found under its number
-pub caller_may : (casts : List ActorSpec) (callers : CallerThreads) (c : ℕ)
-    → All (λ thread. CallerMayDoAll (opened_of thread.number casts) (steps_in thread.trace)) callers
-    → CallerMayDoAll (opened_of c casts) (steps_in (trace_of c callers))
-caller_may casts callers c may = of_thread (λ n trace. CallerMayDoAll (opened_of n casts) (steps_in trace)) c tt callers may
+actor_small : (casts : List ActorSpec) (a : ℕ) (cast : ActorSpec) → SpecsFit casts → cast_at a casts ≡ Some cast → a ≤ 8
+actor_small casts a cast fit at =
+    let one = found_is (λ (x : ActorSpec). x.actor == a) casts cast at in
+    subst (λ n. n ≤ 8) (eqb-true cast.actor a one.passes) (all_in (λ (x : ActorSpec). x.actor ≤ 8) casts cast fit.actors one.inside)
 
--- ---- actors
+-- who may do something has a small number
+site_small : (casts : List ActorSpec) (site : Site) (before : List Action) (action : Action) → SpecsFit casts → MayDo casts site before action → site_number site ≤ 16
+site_small casts (Caller c) before action fit may = caller_small casts c fit may.0
+site_small casts (Actor a) before action fit may = let small = actor_small casts a may.0 fit may.1 in omega (arith, small)
 
--- the actor of a thread that does something has a cast, and may do its steps
-pub record ActorMay (casts : List ActorSpec) (a : ℕ) (trace : List (ℕ × ActorStep)) : Type 0 where
-  pub cast : ActorSpec
-  pub at : cast_at a casts ≡ Some cast
-  pub all : ActorMayDoAll a cast.callers [] (steps_in trace)
-
-pub actor_may : (casts : List ActorSpec) (actors : ActorThreads) (a : ℕ) (x : ℕ × ActorStep)
-    → All (λ thread. (cast : ActorSpec) × (cast_at thread.number casts ≡ Some cast) × ActorMayDoAll thread.number cast.callers []
-    (steps_in thread.trace)) actors
-    → Contains (trace_of a actors) x → ActorMay casts a (trace_of a actors)
-actor_may casts actors a x may =
-    of_thread (λ n trace. Contains trace x → ActorMay casts n trace) a (contains_none x (ActorMay casts a [])) actors
-    (λ k d below has. (let all = may k d below in record { cast = all.0; at = all.1; all = all.2 }))
-
--- it may do a step after those before it
-pub actor_may_at : (a : ℕ) (named : List ℕ) (before front later : List ActorStep) (step : ActorStep) → ActorMayDoAll a named before (front ++ step ∷ later)
-    → ActorMayDo a named (before ++ front) step
-actor_may_at a named before [] later step may = subst (λ (l : List ActorStep). ActorMayDo a named l step) (sym (append-nil before)) may.0
-actor_may_at a named before (one ∷ front) later step may =
-    subst (λ (l : List ActorStep). ActorMayDo a named l step) (append_assoc before (one ∷ []) front)
-    (actor_may_at a named (before ++ one ∷ []) front later step may.1)
+pub threads_below : (casts : List ActorSpec) (threads : Threads) → SpecsFit casts → ((site : Site) → MayDoAll casts site [] (steps_in (threads site))) → AreBelow 17 threads
+threads_below casts threads fit may site past = go (threads site) refl (may site)
+  where
+    go : (trace : List (ℕ × Action)) → threads site ≡ trace → MayDoAll casts site [] (steps_in trace) → threads site ≡ []
+    go [] is may = is
+    go (x ∷ trace) is may = let small = site_small casts site [] x.1 fit may.0 in absurd (omega (arith, small, past))

@@ -1,6 +1,6 @@
 use Rattle.act_executor.proofs.Common.{◌≡◌, ◌<◌, List, length, map, get_or, All, ap, sym, ◌∙◌, subst, arith, map-set_same, ReplyExecView, Endpoint, Finished}
 use Rattle.act_executor.proofs.Common.{Driven, SitsAtReplies, NoticeTold, ActorLeft, left_of}
-use Rattle.act_executor.proofs.Lists.Agreeing.{told_next, any_default, same_place}
+use Rattle.act_rules.proofs.Places.{told_next, any_default, same_place}
 use Rattle.act_executor.proofs.joined.audit_actors.Goals as goal
 
 pub audit_notices-requires-clause-sit : goal.audit_notices-requires-clause-sit

@@ -1,6 +1,7 @@
-use Rattle.act_executor.proofs.Common.{rules, ◌≡◌, ◌++◌, List, map, All, ap, sym, ◌∙◌, subst, refl, into_iter_items, MailView, ControlView, OwnerView, Finished}
-use Rattle.act_executor.proofs.Common.{Driven, SitsAtMail, SitsAtControl, LetterTold, KillTold, HasEndpoints, CallerTold}
-use Rattle.act_executor.proofs.Lists.Agreeing.{all_head, all_tail, all_cons, append_over}
+use Rattle.act_executor.proofs.Common.{rules, ◌≡◌, ◌++◌, List, map, All, ap, sym, ◌∙◌, subst, refl, into_iter_items, MailView, ControlView, OwnerView}
+use Rattle.act_executor.proofs.Common.{Finished, Driven, SitsAtMail, SitsAtControl, LetterTold, KillTold, HasEndpoints, CallerTold, All-cons, All-head}
+use Rattle.act_executor.proofs.Common.{All-tail}
+use Rattle.act_rules.proofs.Places.{append_over}
 use Rattle.act_executor.proofs.joined.audit_callers.Goals as goal
 
 pub loop-caller-init : goal.loop-caller-init
@@ -15,13 +16,13 @@ loop-caller-init g c =
 
 pub audit_letters-requires-clause-sit : goal.audit_letters-requires-clause-sit
 audit_letters-requires-clause-sit g c =
-    let one = all_head (HasEndpoints c.args.lines.now) _ _ (subst (λ (l : List Driven). All (HasEndpoints c.args.lines.now) l) c.in-Some.ensures.steps.0 c.loop-caller.invariant.sit) in
+    let one = All-head (HasEndpoints c.args.lines.now) _ _ (subst (λ (l : List Driven). All (HasEndpoints c.args.lines.now) l) c.in-Some.ensures.steps.0 c.loop-caller.invariant.sit) in
     let mails : c.args.lines.now.mails.items ≡ c.as_slice.result.now = search rules in
     subst (λ (l : List MailView). All (SitsAtMail l) c.in-Some.caller.passes.letters.items) mails one.letters
 
 pub audit_kills-requires-clause-sit : goal.audit_kills-requires-clause-sit
 audit_kills-requires-clause-sit g c =
-    let one = all_head (HasEndpoints c.args.lines.now) _ _ (subst (λ (l : List Driven). All (HasEndpoints c.args.lines.now) l) c.in-Some.ensures.steps.0 c.loop-caller.invariant.sit) in
+    let one = All-head (HasEndpoints c.args.lines.now) _ _ (subst (λ (l : List Driven). All (HasEndpoints c.args.lines.now) l) c.in-Some.ensures.steps.0 c.loop-caller.invariant.sit) in
     let controls : c.args.lines.now.controls.items ≡ c.as_slice-in-loop-caller.result.now = search rules in
     subst (λ (l : List ControlView). All (SitsAtControl l) c.in-Some.caller.passes.kills.items) controls one.kills
 
@@ -37,8 +38,8 @@ loop-caller-preserved g c =
     let kills : All (KillTold first) one.passes.kills.items = subst (λ (l : List (Finished _ _)). All (KillTold l) one.passes.kills.items) between c.audit_kills.ensures.told in
     record {
       same = c.audit_kills.ensures.same ∙ between;
-      sit = all_tail (HasEndpoints c.args.lines.now) _ _ (subst (λ (l : List Driven). All (HasEndpoints c.args.lines.now) l) c.in-Some.ensures.steps.0 inv.sit);
-      told = λ h. inv.told (subst (λ (l : List Driven). All P l) (sym c.in-Some.ensures.steps.0) (all_cons P one rest (record { letters = letters; kills = kills }) h));
+      sit = All-tail (HasEndpoints c.args.lines.now) _ _ (subst (λ (l : List Driven). All (HasEndpoints c.args.lines.now) l) c.in-Some.ensures.steps.0 inv.sit);
+      told = λ h. inv.told (subst (λ (l : List Driven). All P l) (sym c.in-Some.ensures.steps.0) (All-cons P one rest (record { letters = letters; kills = kills }) h));
       owners = ap (λ (l : List OwnerView). l ++ map (λ (caller : Driven). caller.owner) rest) c.in_ok-push.ensures.items ∙ append_over c.loop-caller.owners.items one.owner (map (λ (caller : Driven). caller.owner) rest)
           ∙ ap (λ (l : List Driven). c.loop-caller.owners.items ++ map (λ (caller : Driven). caller.owner) l) (sym c.in-Some.ensures.steps.0) ∙ inv.owners;
     }

@@ -1,6 +1,6 @@
 use Rattle.act_executor.proofs.Common.{◌≡◌, ℕ, ◌<◌, length, zip, sym, ap, ◌∙◌, subst, arith, length-map, IsPrefix, Letter, items_from, MailView, caller_of}
 use Rattle.act_executor.proofs.Common.{Finished}
-use Rattle.act_executor.proofs.Lists.Agreeing.{same_at, any_default}
+use Rattle.act_rules.proofs.Places.{same_at, any_default}
 use Rattle.act_executor.proofs.joined.audit_letter.Goals as goal
 
 pub audit-requires : goal.audit-requires

@@ -1,5 +1,4 @@
-use Rattle.act_executor.proofs.Common.{List, map, ap, sym, ◌∙◌, subst, refl, All, Endpoint, Finished, SitsAtMail, LetterTold}
-use Rattle.act_executor.proofs.Lists.Agreeing.{all_head, all_tail, all_cons}
+use Rattle.act_executor.proofs.Common.{List, map, ap, sym, ◌∙◌, subst, refl, All, Endpoint, Finished, SitsAtMail, LetterTold, All-cons, All-head, All-tail}
 use Rattle.act_executor.proofs.joined.audit_letters.Goals as goal
 
 pub loop-endpoint-init : goal.loop-endpoint-init
@@ -15,7 +14,7 @@ pub audit_letter-requires-clause-lines : goal.audit_letter-requires-clause-lines
 audit_letter-requires-clause-lines g c = c.requires.lines ∙ ap (map (λ (f : Finished _ _). f.passes.letters.line)) (sym c.loop-endpoint.invariant.same)
 
 pub audit_letter-requires-clause-sits : goal.audit_letter-requires-clause-sits
-audit_letter-requires-clause-sits g c = all_head (SitsAtMail c.args.mails.now) _ _ (subst (λ (l : List (Endpoint _)). All (SitsAtMail c.args.mails.now) l) c.in-Some.ensures.steps.0 c.loop-endpoint.invariant.sit)
+audit_letter-requires-clause-sits g c = All-head (SitsAtMail c.args.mails.now) _ _ (subst (λ (l : List (Endpoint _)). All (SitsAtMail c.args.mails.now) l) c.in-Some.ensures.steps.0 c.loop-endpoint.invariant.sit)
 
 pub loop-endpoint-preserved : goal.loop-endpoint-preserved
 loop-endpoint-preserved g c =
@@ -24,6 +23,6 @@ loop-endpoint-preserved g c =
     let here : P c.in-Some.endpoint = subst (λ (l : List (Finished _ _)). LetterTold l c.in-Some.endpoint) inv.same c.audit_letter.ensures.told in
     record {
       same = c.audit_letter.ensures.same ∙ inv.same;
-      sit = all_tail (SitsAtMail c.args.mails.now) _ _ (subst (λ (l : List (Endpoint _)). All (SitsAtMail c.args.mails.now) l) c.in-Some.ensures.steps.0 inv.sit);
-      told = λ h. inv.told (subst (λ (l : List (Endpoint _)). All P l) (sym c.in-Some.ensures.steps.0) (all_cons P _ _ here h));
+      sit = All-tail (SitsAtMail c.args.mails.now) _ _ (subst (λ (l : List (Endpoint _)). All (SitsAtMail c.args.mails.now) l) c.in-Some.ensures.steps.0 inv.sit);
+      told = λ h. inv.told (subst (λ (l : List (Endpoint _)). All P l) (sym c.in-Some.ensures.steps.0) (All-cons P _ _ here h));
     }

@@ -1,5 +1,5 @@
 use Rattle.act_executor.proofs.Common.{sym, ap, ◌∙◌, RepliesView, Driven}
-use Rattle.act_executor.proofs.Lists.Agreeing.{same_at}
+use Rattle.act_rules.proofs.Places.{same_at}
 use Rattle.act_executor.proofs.joined.audit_notice.Goals as goal
 
 pub audit-requires : goal.audit-requires

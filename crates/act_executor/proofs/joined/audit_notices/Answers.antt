@@ -1,5 +1,5 @@
 use Rattle.act_executor.proofs.Common.{◌≡◌, ◌<◌, List, length, get_or, set, ap, ◌∙◌, subst, arith, set-get_or, ReplyExecView, Endpoint, Driven, NoticeTold}
-use Rattle.act_executor.proofs.Lists.Agreeing.{told_next, any_default}
+use Rattle.act_rules.proofs.Places.{told_next, any_default}
 use Rattle.act_executor.proofs.joined.audit_notices.Goals as goal
 
 pub loop-at-preserved : goal.loop-at-preserved

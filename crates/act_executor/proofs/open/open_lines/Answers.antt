@@ -1,7 +1,7 @@
 use Rattle.act_executor.proofs.Common.{rules, ◌≡◌, ℕ, List, [], length, map, ap, sym, ◌∙◌, subst, length-map, CallersDiffer, Cast, PutterView, TakerView}
 use Rattle.act_executor.proofs.Common.{MailView, ControlExecView, RepliesView, ReplyExecView, Letter, Asked, Notice, RunItem, Endpoint, ExecPasses}
 use Rattle.act_executor.proofs.Common.{CallerPasses, CallerSetup, items_of_vec, group_of}
-use Rattle.act_executor.proofs.Lists.Places.{as_long, all_through, map_apart}
+use Rattle.act_rules.proofs.Places.{as_long, all_through, map_apart}
 use Rattle.act_executor.proofs.OpenLines.Gathered.{hands_long, dealt_by, by_way}
 use Rattle.act_executor.proofs.OpenLines.Dealt.{AreDealt, are_opened}
 use Rattle.act_executor.proofs.open.open_lines.Goals as goal

@@ -1,6 +1,6 @@
-use Rattle.act_executor.proofs.Common.{◌≡◌, ℕ, ◌<◌, List, [], All, arith, length, map, take, ap, sym, ◌∙◌, subst, length-take-le, All-push, IfOk-weaker, Notice}
-use Rattle.act_executor.proofs.Common.{RunItem, RepliesView, ReplyExecView, new_exec, TakerView, CallerSetup, Endpoint, AreHands}
-use Rattle.act_executor.proofs.Lists.Places.{as_long}
+use Rattle.act_executor.proofs.Common.{◌≡◌, ℕ, ◌<◌, List, [], All, arith, length, map, take, ap, sym, ◌∙◌, subst, length-take-le, All-push, IfOk-weaker}
+use Rattle.act_executor.proofs.Common.{Notice, RunItem, RepliesView, ReplyExecView, new_exec, TakerView, CallerSetup, Endpoint, AreHands}
+use Rattle.act_rules.proofs.Places.{as_long}
 use Rattle.act_executor.proofs.OpenLines.Gathered.{hands_long, dealt_more}
 use Rattle.act_executor.proofs.OpenLines.Endpoints.{endpoints_more, one_more, next_taken, next_pushed}
 use Rattle.act_executor.proofs.open.open_reply.Goals as goal

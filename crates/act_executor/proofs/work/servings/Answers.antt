@@ -1,7 +1,8 @@
-use Rattle.act_executor.proofs.Common.{rules, ◌≡◌, ◌<◌, ◌++◌, ◌∷◌, List, length, map, zip, All, ◌⊎◌, inl, inr, ap, sym, ◌∙◌, subst, into_iter_items, Endpoint}
-use Rattle.act_executor.proofs.Common.{ExecPasses, Cast, CallersDiffer, Each, IsExec, serving_start, cast_start}
+use Rattle.act_executor.proofs.Common.{rules, ◌≡◌, ◌<◌, ◌++◌, ◌∷◌, List, length, map, zip, All, ◌⊎◌, inl, inr, ap, sym, ◌∙◌, subst, into_iter_items}
+use Rattle.act_executor.proofs.Common.{Endpoint, ExecPasses, Cast, CallersDiffer, Each, IsExec, serving_start, cast_start, Actor, All-head, All-tail}
 use Rattle.std.proofs.lemmas.List.{append-nil}
-use Rattle.act_executor.proofs.Lists.Agreeing.{all_head, all_tail, each_pop, append_over, nothing_zips}
+use Rattle.act_rules.proofs.Places.{append_over, nothing_zips}
+use Rattle.act_executor.proofs.Lists.Places.{each_pop}
 use Rattle.act_executor.proofs.work.servings.Goals as goal
 
 pub loop-cast-init : goal.loop-cast-init
@@ -24,12 +25,12 @@ loop-cast-init g c =
     }
 
 pub add_serving-requires-clause-callers : goal.add_serving-requires-clause-callers
-add_serving-requires-clause-callers g c = all_head (λ (cast : Cast _). CallersDiffer cast.callers) _ _ (subst (λ (l : List (Cast _)). All (λ (cast : Cast _). CallersDiffer cast.callers) l) c.in-Some.ensures.steps.0.0 c.loop-cast.invariant.callers)
+add_serving-requires-clause-callers g c = All-head (λ (cast : Cast _). CallersDiffer cast.callers) _ _ (subst (λ (l : List (Cast _)). All (λ (cast : Cast _). CallersDiffer cast.callers) l) c.in-Some.ensures.steps.0.0 c.loop-cast.invariant.callers)
 
 pub add_serving-requires-clause-place : goal.add_serving-requires-clause-place
 add_serving-requires-clause-place g c =
     let P : Endpoint ExecPasses → Type 0 = λ exec. (exec.place < length c.args.lines.now.mails.items) × (exec.place < length c.args.lines.now.controls.items) in
-    all_head P _ _ (subst (λ (l : List (Endpoint ExecPasses)). All P l) c.in-Some.ensures.steps.1.0 c.loop-cast.invariant.places)
+    All-head P _ _ (subst (λ (l : List (Endpoint ExecPasses)). All P l) c.in-Some.ensures.steps.1.0 c.loop-cast.invariant.places)
 
 pub add_serving-requires-clause-exec : goal.add_serving-requires-clause-exec
 add_serving-requires-clause-exec g c = (each_pop (IsExec c.args.lines.now) _ _ _ _ _ _ c.in-Some.ensures.steps.0.0 c.in-Some.ensures.steps.1.0 c.loop-cast.invariant.execs).0
@@ -50,8 +51,8 @@ loop-cast-preserved g c =
     record {
       first_long = search (rules, first);
       second_long = search (rules, second);
-      callers = all_tail Q _ _ (subst (λ (l : List (Cast _)). All Q l) first inv.callers);
-      places = all_tail P _ _ (subst (λ (l : List (Endpoint ExecPasses)). All P l) second inv.places);
+      callers = All-tail Q _ _ (subst (λ (l : List (Cast _)). All Q l) first inv.callers);
+      places = All-tail P _ _ (subst (λ (l : List (Endpoint ExecPasses)). All P l) second inv.places);
       execs = (each_pop (IsExec c.args.lines.now) _ _ _ _ _ _ first second inv.execs).1;
       ready = c.in_ok-add_serving.ensures.ready;
       starts = ap (λ l. l ++ rest) c.in_ok-add_serving.ensures.starts ∙ append_over (map (serving_start state) before) (cast_start state replies (c.in-Some.cast, c.in-Some.exec)) rest

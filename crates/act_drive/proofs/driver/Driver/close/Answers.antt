@@ -14,23 +14,19 @@ loop-mail-preserved g c =
       none = none_more mails c.loop-mail.mail-index c.actor.result c.loop-mail.self c.let_go.new.self below (λ d. ap (λ (m : MailView). m.actor) (get_or_default mails c.loop-mail.mail-index d c.mail-item.result below ∙ sym c.mail-item.is) ∙ sym c.actor.ensures) c.in_ok-let_go.ensures.only_releases c.in_ok-let_go.ensures.none c.loop-mail.invariant.none;
     }
 
-pub returns-clause-none : goal.returns-clause-none
-returns-clause-none g c =
-    let mails = c.args.lines.now.mails.now in
-    let past : length mails ≤ c.loop-mail.mail-index = search rules in
-    subst (λ (l : List MailView). All (λ mail. copies_held (copies_in mail.actor c.loop-mail.self.owner.handles) ≡ 0) l) (take_all c.loop-mail.mail-index mails past) c.loop-mail.invariant.none
+pub returns : goal.returns
+returns g c = record {
+  none =
+      let mails = c.args.lines.now.mails.now in
+      let past : length mails ≤ c.loop-mail.mail-index = search rules in
+      subst (λ (l : List MailView). All (λ mail. copies_held (copies_in mail.actor c.loop-mail.self.owner.handles) ≡ 0) l) (take_all c.loop-mail.mail-index mails past) c.loop-mail.invariant.none;
+  calling = c.loop-mail.invariant.calling;
+  only_releases = c.loop-mail.invariant.only_releases;
+  traced = c.loop-mail.invariant.traced;
+}
 
 pub returns-in_err-let_go-clause-calling : goal.returns-in_err-let_go-clause-calling
 returns-in_err-let_go-clause-calling g c = c.in_err-let_go.ensures.calling
 
 pub returns-in_err-let_go-clause-only_releases : goal.returns-in_err-let_go-clause-only_releases
 returns-in_err-let_go-clause-only_releases g c = winds_trans _ _ _ c.loop-mail.invariant.only_releases c.in_err-let_go.ensures.only_releases
-
-pub returns-clause-calling : goal.returns-clause-calling
-returns-clause-calling g c = c.loop-mail.invariant.calling
-
-pub returns-clause-only_releases : goal.returns-clause-only_releases
-returns-clause-only_releases g c = c.loop-mail.invariant.only_releases
-
-pub returns-clause-traced : goal.returns-clause-traced
-returns-clause-traced g c = c.loop-mail.invariant.traced

@@ -1,4 +1,4 @@
-use Rattle.act_drive.proofs.Common.{refl, Copy, Copied, ChangeMade}
+use Rattle.act_drive.proofs.Common.{refl, Copy, Copied}
 use Rattle.act_drive.proofs.OwnChanges.{calling_step, ended_copied}
 use Rattle.act_drive.proofs.PlanSteps.{copy_follows}
 use Rattle.act_drive.proofs.Notes.{ok_of}
@@ -14,4 +14,4 @@ pub returns-in-Ok-clause-follows : goal.returns-in-Ok-clause-follows
 returns-in-Ok-clause-follows g c lines = copy_follows lines c.args.self.now _ c.args.a c.in-Ok.ensures.ok refl
 
 pub returns-in-Ok-clause-traced : goal.returns-in-Ok-clause-traced
-returns-in-Ok-clause-traced g c lines = traces_step lines c.args.self.now _ (Copy c.args.a) (ChangeMade (Copied c.args.a)) (λ _ _. refl) refl (ok_of _ _ _ c.in-Ok.ensures.value) c.in-Ok.ensures.ok refl refl
+returns-in-Ok-clause-traced g c lines = traces_step lines c.args.self.now _ (Copy c.args.a) (Copied c.args.a) (λ _ _. refl) refl (ok_of _ _ _ c.in-Ok.ensures.value) c.in-Ok.ensures.ok refl refl

@@ -1,4 +1,4 @@
-use Rattle.act_drive.proofs.Common.{refl, Submit, Submitted, ChangeMade}
+use Rattle.act_drive.proofs.Common.{refl, Submit, Submitted}
 use Rattle.act_drive.proofs.OwnChanges.{calling_step, ended_submitted}
 use Rattle.act_drive.proofs.Notes.{submit_flags}
 use Rattle.act_drive.proofs.Keeps.{submit_returns}
@@ -15,4 +15,4 @@ pub returns-clause-stays : goal.returns-clause-stays
 returns-clause-stays c = stays_submitted c.args.self.now _ c.args.a c.args.method c.args.args c.in_ok-k.ensures.ok refl
 
 pub returns-clause-traced : goal.returns-clause-traced
-returns-clause-traced c lines = traces_step lines c.args.self.now _ (Submit c.args.a c.args.method c.args.args) (ChangeMade (Submitted c.args.a c.args.method c.args.args)) (λ _ _. refl) refl c.in_ok-k.ensures.accepted c.in_ok-k.ensures.ok refl refl
+returns-clause-traced c lines = traces_step lines c.args.self.now _ (Submit c.args.a c.args.method c.args.args) (Submitted c.args.a c.args.method c.args.args) (λ _ _. refl) refl c.in_ok-k.ensures.accepted c.in_ok-k.ensures.ok refl refl

@@ -23,11 +23,10 @@ returns-in_err-release-clause-calling g c = c.in_err-release.ensures.calling
 pub returns-in_err-release-clause-only_releases : goal.returns-in_err-release-clause-only_releases
 returns-in_err-release-clause-only_releases g c = winds_trans _ _ _ c.loop-gone.invariant.only_releases c.in_err-release.ensures.only_releases
 
-pub returns-clause-calling : goal.returns-clause-calling
-returns-clause-calling g c = c.loop-gone.invariant.calling
-
-pub returns-clause-only_releases : goal.returns-clause-only_releases
-returns-clause-only_releases g c = c.loop-gone.invariant.only_releases
-
-pub returns-clause-traced : goal.returns-clause-traced
-returns-clause-traced g c = c.loop-gone.invariant.traced
+pub returns : goal.returns
+returns g c = record {
+  calling = c.loop-gone.invariant.calling;
+  only_releases = c.loop-gone.invariant.only_releases;
+  traced = c.loop-gone.invariant.traced;
+  none = search rules;
+}

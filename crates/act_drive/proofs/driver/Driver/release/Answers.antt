@@ -1,5 +1,5 @@
-use Rattle.act_drive.proofs.Common.{refl, ◌≡◌, Some, None, Ok, ◌∙◌, ap, OwnerView, with_handles, release_told, Release, Released, copies_in, without_copy}
-use Rattle.act_drive.proofs.Common.{ReleaseNote, Note, ChangeMade}
+use Rattle.act_drive.proofs.Common.{rules, refl, ◌≡◌, Some, None, Ok, ◌∙◌, ap, OwnerView, with_handles, release_told, Release, Released, copies_in}
+use Rattle.act_drive.proofs.Common.{without_copy, ReleaseNote, Note}
 use Rattle.act_drive.proofs.OwnChanges.{calling_step, ended_released}
 use Rattle.act_drive.proofs.PlanSteps.{release_follows}
 use Rattle.act_drive.proofs.Notes.{calling_noted, last_of, note_stays, not_last, ok_of}
@@ -8,60 +8,35 @@ use Rattle.act_drive.proofs.Keeps.{release_returns}
 use Rattle.act_drive.proofs.Tracing.{traces_step, traces_noted}
 use Rattle.act_drive.proofs.driver.Driver.release.Goals as goal
 
-pub returns-in-Ok-Some-clause-calling : goal.returns-in-Ok-Some-clause-calling
-returns-in-Ok-Some-clause-calling g c =
+pub returns-in-Ok-Some : goal.returns-in-Ok-Some
+returns-in-Ok-Some g c =
     let between = c.clear.new.self in
     let told : Ok (Some c.in-Ok-Some.note) ≡ release_told between.owner c.args.a = rw c.in-Ok-Some.field-0-is at c.in-Ok-Some.ensures.value in
     let last = last_of _ _ _ _ told in
-    let is : c.release.new.self ≡ with_handles between.owner (without_copy c.args.a between.owner.handles) = c.in-Ok-Some.ensures.ok in
-    calling_noted c.args.lines.now between _ c.args.a c.in-Ok-Some.note is refl c.clear.ensures.empty c.put.ensures refl last.1 c.release.ensures.given last.0 c.clear.ensures.only_waits.calling
+    record {
+      calling =
+          let is : c.release.new.self ≡ with_handles between.owner (without_copy c.args.a between.owner.handles) = c.in-Ok-Some.ensures.ok in
+          calling_noted c.args.lines.now between _ c.args.a c.in-Ok-Some.note is refl c.clear.ensures.empty c.put.ensures refl last.1 c.release.ensures.given last.0 c.clear.ensures.only_waits.calling;
+      follows = release_follows c.args.lines.now c.args.self.now c.clear.new.self _ c.args.a c.clear.ensures.only_waits.waits c.in-Ok-Some.ensures.ok refl;
+      only_releases = released_winds c.args.self.now c.clear.new.self _ c.args.a c.clear.ensures.only_waits.waits c.in-Ok-Some.ensures.ok refl;
+      noted = λ one. c.put.ensures ∙ ap (λ (n : ReleaseNote). Some (Note n)) (last.1 ∙ note_stays c.args.self.now between c.args.a c.clear.ensures.only_waits.waits);
+      handles = ap (λ (o : OwnerView). o.handles) c.in-Ok-Some.ensures.ok ∙ ap (without_copy c.args.a) c.clear.ensures.only_waits.waits.handles;
+      traced = λ start done is. traces_noted c.args.lines.now between _ c.args.a c.in-Ok-Some.note (ok_of _ _ _ told) last.0 (ap (λ (n : ReleaseNote). n.actor) last.1) c.in-Ok-Some.ensures.ok refl c.put.ensures start done (c.clear.ensures.only_waits.traced start done is);
+      accepted = search rules;
+      on_refusal = search rules;
+    }
 
-pub returns-in-Ok-Some-clause-follows : goal.returns-in-Ok-Some-clause-follows
-returns-in-Ok-Some-clause-follows g c = release_follows c.args.lines.now c.args.self.now c.clear.new.self _ c.args.a c.clear.ensures.only_waits.waits c.in-Ok-Some.ensures.ok refl
-
-pub returns-in-Ok-None-clause-calling : goal.returns-in-Ok-None-clause-calling
-returns-in-Ok-None-clause-calling g c =
+pub returns-in-Ok-None : goal.returns-in-Ok-None
+returns-in-Ok-None g c =
     let between = c.clear.new.self in
     let told : Ok None ≡ release_told between.owner c.args.a = rw c.in-Ok-None.field-0-is at c.in-Ok-None.ensures.value in
-    calling_step c.args.lines.now between _ (Released c.args.a) c.in-Ok-None.ensures.ok refl refl refl refl c.clear.ensures.only_waits.calling.flags (ended_released between.owner c.args.a) (release_returns between.owner c.args.a (λ one. not_last _ _ told one)) c.clear.ensures.only_waits.calling
-
-pub returns-in-Ok-None-clause-follows : goal.returns-in-Ok-None-clause-follows
-returns-in-Ok-None-clause-follows g c = release_follows c.args.lines.now c.args.self.now c.clear.new.self _ c.args.a c.clear.ensures.only_waits.waits c.in-Ok-None.ensures.ok refl
-
-pub returns-in-Ok-Some-clause-only_releases : goal.returns-in-Ok-Some-clause-only_releases
-returns-in-Ok-Some-clause-only_releases g c = released_winds c.args.self.now c.clear.new.self _ c.args.a c.clear.ensures.only_waits.waits c.in-Ok-Some.ensures.ok refl
-
-pub returns-in-Ok-None-clause-only_releases : goal.returns-in-Ok-None-clause-only_releases
-returns-in-Ok-None-clause-only_releases g c = released_winds c.args.self.now c.clear.new.self _ c.args.a c.clear.ensures.only_waits.waits c.in-Ok-None.ensures.ok refl
-
-pub returns-in-Ok-Some-clause-noted : goal.returns-in-Ok-Some-clause-noted
-returns-in-Ok-Some-clause-noted g c one =
-    let between = c.clear.new.self in
-    let told : Ok (Some c.in-Ok-Some.note) ≡ release_told between.owner c.args.a = rw c.in-Ok-Some.field-0-is at c.in-Ok-Some.ensures.value in
-    let last = last_of _ _ _ _ told in
-    c.put.ensures ∙ ap (λ (n : ReleaseNote). Some (Note n)) (last.1 ∙ note_stays c.args.self.now between c.args.a c.clear.ensures.only_waits.waits)
-
-pub returns-in-Ok-None-clause-noted : goal.returns-in-Ok-None-clause-noted
-returns-in-Ok-None-clause-noted g c one =
-    let between = c.clear.new.self in
-    let told : Ok None ≡ release_told between.owner c.args.a = rw c.in-Ok-None.field-0-is at c.in-Ok-None.ensures.value in
-    absurd (not_last _ _ told (ap (copies_in c.args.a) c.clear.ensures.only_waits.waits.handles ∙ one))
-
-pub returns-in-Ok-Some-clause-handles : goal.returns-in-Ok-Some-clause-handles
-returns-in-Ok-Some-clause-handles g c = ap (λ (o : OwnerView). o.handles) c.in-Ok-Some.ensures.ok ∙ ap (without_copy c.args.a) c.clear.ensures.only_waits.waits.handles
-
-pub returns-in-Ok-None-clause-handles : goal.returns-in-Ok-None-clause-handles
-returns-in-Ok-None-clause-handles g c = ap (λ (o : OwnerView). o.handles) c.in-Ok-None.ensures.ok ∙ ap (without_copy c.args.a) c.clear.ensures.only_waits.waits.handles
-
-pub returns-in-Ok-Some-clause-traced : goal.returns-in-Ok-Some-clause-traced
-returns-in-Ok-Some-clause-traced g c start done is =
-    let between = c.clear.new.self in
-    let told : Ok (Some c.in-Ok-Some.note) ≡ release_told between.owner c.args.a = rw c.in-Ok-Some.field-0-is at c.in-Ok-Some.ensures.value in
-    let last = last_of _ _ _ _ told in
-    traces_noted c.args.lines.now between _ c.args.a c.in-Ok-Some.note (ok_of _ _ _ told) last.0 (ap (λ (n : ReleaseNote). n.actor) last.1) c.in-Ok-Some.ensures.ok refl c.put.ensures start done (c.clear.ensures.only_waits.traced start done is)
-
-pub returns-in-Ok-None-clause-traced : goal.returns-in-Ok-None-clause-traced
-returns-in-Ok-None-clause-traced g c start done is =
-    let between = c.clear.new.self in
-    let told : Ok None ≡ release_told between.owner c.args.a = rw c.in-Ok-None.field-0-is at c.in-Ok-None.ensures.value in
-    traces_step c.args.lines.now between _ (Release c.args.a) (ChangeMade (Released c.args.a)) (λ _ _. refl) refl (ok_of _ _ _ told) c.in-Ok-None.ensures.ok refl refl start done (c.clear.ensures.only_waits.traced start done is)
+    record {
+      calling = calling_step c.args.lines.now between _ (Released c.args.a) c.in-Ok-None.ensures.ok refl refl refl refl c.clear.ensures.only_waits.calling.flags (ended_released between.owner c.args.a) (release_returns between.owner c.args.a (λ one. not_last _ _ told one)) c.clear.ensures.only_waits.calling;
+      follows = release_follows c.args.lines.now c.args.self.now c.clear.new.self _ c.args.a c.clear.ensures.only_waits.waits c.in-Ok-None.ensures.ok refl;
+      only_releases = released_winds c.args.self.now c.clear.new.self _ c.args.a c.clear.ensures.only_waits.waits c.in-Ok-None.ensures.ok refl;
+      noted = λ one. absurd (not_last _ _ told (ap (copies_in c.args.a) c.clear.ensures.only_waits.waits.handles ∙ one));
+      handles = ap (λ (o : OwnerView). o.handles) c.in-Ok-None.ensures.ok ∙ ap (without_copy c.args.a) c.clear.ensures.only_waits.waits.handles;
+      traced = λ start done is. traces_step c.args.lines.now between _ (Release c.args.a) (Released c.args.a) (λ _ _. refl) refl (ok_of _ _ _ told) c.in-Ok-None.ensures.ok refl refl start done (c.clear.ensures.only_waits.traced start done is);
+      accepted = search rules;
+      on_refusal = search rules;
+    }

@@ -1,17 +1,15 @@
 use Rattle.act_drive.proofs.Drivers.{stays_trans}
 use Rattle.act_drive.proofs.driver.Driver.run.Goals as goal
+use Rattle.act_drive.proofs.Common.{rules}
 
-pub returns-in-Ok-clause-calling : goal.returns-in-Ok-clause-calling
-returns-in-Ok-clause-calling g c = c.in-Ok.ensures.calling
-
-pub returns-in-Ok-clause-stays : goal.returns-in-Ok-clause-stays
-returns-in-Ok-clause-stays g c = c.in-Ok.ensures.stays
-
-pub returns-in-Ok-clause-done : goal.returns-in-Ok-clause-done
-returns-in-Ok-clause-done g c _ = c.in-Ok.ensures.done
-
-pub returns-in-Ok-clause-traced : goal.returns-in-Ok-clause-traced
-returns-in-Ok-clause-traced g c _ = c.in-Ok.ensures.traced
+pub returns-in-Ok : goal.returns-in-Ok
+returns-in-Ok g c = record {
+  calling = c.in-Ok.ensures.calling;
+  stays = c.in-Ok.ensures.stays;
+  done = λ _. c.in-Ok.ensures.done;
+  traced = λ _. c.in-Ok.ensures.traced;
+  ended = search rules;
+}
 
 pub returns-in-Err-clause-calling : goal.returns-in-Err-clause-calling
 returns-in-Err-clause-calling g c = c.starve.ensures.calling

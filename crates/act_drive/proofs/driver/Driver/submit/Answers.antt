@@ -5,14 +5,14 @@ use Rattle.act_drive.proofs.Drivers.{stays_trans}
 use Rattle.act_drive.proofs.CodeSteps.{on_err}
 use Rattle.act_drive.proofs.driver.Driver.submit.Goals as goal
 
-pub returns-clause-follows : goal.returns-clause-follows
-returns-clause-follows g c = waited_step c.submit_in_room.result c.args.lines.now (Submit c.args.a c.args.method c.args.args) c.args.self.now c.wait_for_room.new.self c.submit_in_room.new.self c.in_ok-wait_for_room.ensures.only_waits.waits c.submit_in_room.ensures.follows
-
-pub returns-clause-traced : goal.returns-clause-traced
-returns-clause-traced g c = traced_waited c.submit_in_room.result c.args.lines.now (Submit c.args.a c.args.method c.args.args) c.args.self.now c.wait_for_room.new.self c.submit_in_room.new.self c.in_ok-wait_for_room.ensures.only_waits.traced c.submit_in_room.ensures.traced
-
-pub returns-clause-on_refusal : goal.returns-clause-on_refusal
-returns-clause-on_refusal g c = unchanged_waited c.submit_in_room.result c.args.lines.now c.args.self.now c.wait_for_room.new.self c.submit_in_room.new.self c.in_ok-wait_for_room.ensures.only_waits.traced c.submit_in_room.ensures.on_refusal
+pub returns : goal.returns
+returns g c = record {
+  follows = waited_step c.submit_in_room.result c.args.lines.now (Submit c.args.a c.args.method c.args.args) c.args.self.now c.wait_for_room.new.self c.submit_in_room.new.self c.in_ok-wait_for_room.ensures.only_waits.waits c.submit_in_room.ensures.follows;
+  traced = traced_waited c.submit_in_room.result c.args.lines.now (Submit c.args.a c.args.method c.args.args) c.args.self.now c.wait_for_room.new.self c.submit_in_room.new.self c.in_ok-wait_for_room.ensures.only_waits.traced c.submit_in_room.ensures.traced;
+  on_refusal = unchanged_waited c.submit_in_room.result c.args.lines.now c.args.self.now c.wait_for_room.new.self c.submit_in_room.new.self c.in_ok-wait_for_room.ensures.only_waits.traced c.submit_in_room.ensures.on_refusal;
+  calling = c.submit_in_room.ensures.calling c.args.lines.now c.in_ok-wait_for_room.ensures.only_waits.calling;
+  stays = stays_trans _ _ _ c.in_ok-wait_for_room.ensures.only_waits.waits.stay c.submit_in_room.ensures.stays;
+}
 
 pub returns-in_err-wait_for_room-clause-calling : goal.returns-in_err-wait_for_room-clause-calling
 returns-in_err-wait_for_room-clause-calling g c = c.in_err-wait_for_room.ensures.only_waits.calling
@@ -22,9 +22,3 @@ returns-in_err-wait_for_room-clause-stays g c = c.in_err-wait_for_room.ensures.o
 
 pub returns-in_err-wait_for_room-clause-on_refusal : goal.returns-in_err-wait_for_room-clause-on_refusal
 returns-in_err-wait_for_room-clause-on_refusal g c = on_err c.from_residual.result _ c.in_err-wait_for_room.ensures.only_waits.traced
-
-pub returns-clause-calling : goal.returns-clause-calling
-returns-clause-calling g c = c.submit_in_room.ensures.calling c.args.lines.now c.in_ok-wait_for_room.ensures.only_waits.calling
-
-pub returns-clause-stays : goal.returns-clause-stays
-returns-clause-stays g c = stays_trans _ _ _ c.in_ok-wait_for_room.ensures.only_waits.waits.stay c.submit_in_room.ensures.stays

@@ -1,4 +1,4 @@
-use Rattle.act_drive.proofs.Common.{refl, Copy, Copied, ChangeMade}
+use Rattle.act_drive.proofs.Common.{refl, Copy, Copied}
 use Rattle.act_drive.proofs.OwnChanges.{calling_step, ended_copied}
 use Rattle.act_drive.proofs.Notes.{ok_of}
 use Rattle.act_drive.proofs.Keeps.{copy_returns}
@@ -14,4 +14,4 @@ pub returns-clause-does : goal.returns-clause-does
 returns-clause-does c lines = does_copy lines c.args.self.now _ c.args.a c.in_ok-copies.ensures.ok refl (ok_of _ _ _ c.in_ok-copies.ensures.value)
 
 pub returns-clause-traced : goal.returns-clause-traced
-returns-clause-traced c lines = traces_step lines c.args.self.now _ (Copy c.args.a) (ChangeMade (Copied c.args.a)) (λ _ _. refl) refl (ok_of _ _ _ c.in_ok-copies.ensures.value) c.in_ok-copies.ensures.ok refl refl
+returns-clause-traced c lines = traces_step lines c.args.self.now _ (Copy c.args.a) (Copied c.args.a) (λ _ _. refl) refl (ok_of _ _ _ c.in_ok-copies.ensures.value) c.in_ok-copies.ensures.ok refl refl

@@ -4,14 +4,16 @@ use Rattle.act_drive.proofs.PlanSteps.{follows_waits}
 use Rattle.act_drive.proofs.Done.{done_of}
 use Rattle.act_drive.proofs.driver.Driver.wind_up.Goals as goal
 
-pub returns-clause-done : goal.returns-clause-done
-returns-clause-done g c actors steps f =
-    done_of c.args.lines.now actors steps c.turn.new.self c.close.new.self c.finish.new.self c.in_ok-close.ensures.only_releases c.in_ok-close.ensures.none c.in_ok-finish.ensures.only_waits.waits c.in_ok-finish.ensures.only_waits.calling c.in_ok-finish.ensures.answered c.in_ok-finish.ensures.empty (follows_waits c.args.lines.now actors steps c.args.self.now c.turn.new.self c.in_ok-turn.ensures.only_waits.waits f)
-
-pub returns-clause-traced : goal.returns-clause-traced
-returns-clause-traced g c start done is =
-    let closed = c.in_ok-close.ensures.traced start done (c.in_ok-turn.ensures.only_waits.traced start done is) in
-    (closed.0, c.in_ok-finish.ensures.only_waits.traced start _ closed.1)
+pub returns : goal.returns
+returns g c = record {
+  done = λ actors steps f. done_of c.args.lines.now actors steps c.turn.new.self c.close.new.self c.finish.new.self c.in_ok-close.ensures.only_releases c.in_ok-close.ensures.none c.in_ok-finish.ensures.only_waits.waits c.in_ok-finish.ensures.only_waits.calling c.in_ok-finish.ensures.answered c.in_ok-finish.ensures.empty (follows_waits c.args.lines.now actors steps c.args.self.now c.turn.new.self c.in_ok-turn.ensures.only_waits.waits f);
+  traced = λ start done is.
+      let closed = c.in_ok-close.ensures.traced start done (c.in_ok-turn.ensures.only_waits.traced start done is) in
+      (closed.0, c.in_ok-finish.ensures.only_waits.traced start _ closed.1);
+  calling = c.in_ok-finish.ensures.only_waits.calling;
+  stays = stays_trans _ _ _ (stays_trans _ _ _ c.in_ok-turn.ensures.only_waits.waits.stay c.in_ok-close.ensures.only_releases.stay) c.in_ok-finish.ensures.only_waits.waits.stay;
+  calls = c.in_ok-finish.ensures.only_waits.waits.calls ∙ c.in_ok-close.ensures.only_releases.calls ∙ c.in_ok-turn.ensures.only_waits.waits.calls;
+}
 
 pub returns-in_err-turn-clause-calling : goal.returns-in_err-turn-clause-calling
 returns-in_err-turn-clause-calling g c = c.in_err-turn.ensures.only_waits.calling
@@ -31,13 +33,3 @@ returns-in_err-finish-clause-calling g c = c.in_err-finish.ensures.only_waits.ca
 pub returns-in_err-finish-clause-stays : goal.returns-in_err-finish-clause-stays
 returns-in_err-finish-clause-stays g c =
     stays_trans _ _ _ (stays_trans _ _ _ c.in_ok-turn.ensures.only_waits.waits.stay c.in_ok-close.ensures.only_releases.stay) c.in_err-finish.ensures.only_waits.waits.stay
-
-pub returns-clause-calling : goal.returns-clause-calling
-returns-clause-calling g c = c.in_ok-finish.ensures.only_waits.calling
-
-pub returns-clause-stays : goal.returns-clause-stays
-returns-clause-stays g c =
-    stays_trans _ _ _ (stays_trans _ _ _ c.in_ok-turn.ensures.only_waits.waits.stay c.in_ok-close.ensures.only_releases.stay) c.in_ok-finish.ensures.only_waits.waits.stay
-
-pub returns-clause-calls : goal.returns-clause-calls
-returns-clause-calls g c = c.in_ok-finish.ensures.only_waits.waits.calls ∙ c.in_ok-close.ensures.only_releases.calls ∙ c.in_ok-turn.ensures.only_waits.waits.calls

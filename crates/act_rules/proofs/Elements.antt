@@ -1,10 +1,11 @@
 -- Elements of lists by their places, and look-ups.
-use Rattle.act_executor.proofs.Common.{◌≡◌, ℕ, zero, suc, ◌+◌, Bool, true, false, cond, List, [], ◌∷◌, ◌++◌, length, Some, None, refl, ap, sym, ◌∙◌, subst}
-use Rattle.act_executor.proofs.Common.{arith, inl, inr, ◌<◌, length-append, ◌==◌, ◌||◌, map, filter, find, slice_get, All, Contains, ◌⊎◌}
-use Rattle.act_executor.proofs.Common.{list_any, range_with_len, enumerate_from, eq-eqb, eqb-true, slice_get_read, slice_get-get_or, slice_get_within}
-use Rattle.act_executor.proofs.Common.{get_or_from_slice_get, All-contains, any_passes_from_place, IsPrefix, slice_get-filter, slice_get_front, contains}
-use Rattle.act_executor.proofs.Common.{get_or-map, length-map}
-use Rattle.std.proofs.lemmas.List.{append-nil}
+use Rattle.act_rules.proofs.Common.{◌≡◌, ℕ, zero, suc, ◌+◌, ◌<◌, ◌==◌, ◌||◌, Bool, true, false, cond, List, [], ◌∷◌, ◌++◌, length, Some, None, refl, ap, sym}
+use Rattle.act_rules.proofs.Common.{◌∙◌, subst, arith, inl, inr, ◌⊎◌, map, filter, find, slice_get, All, Contains, list_any, range_with_len, enumerate_from}
+use Rattle.act_rules.proofs.Common.{eq-eqb, eqb-true, slice_get-get_or, slice_get_within, IsPrefix, contains, get_or-map, length-map}
+use Rattle.act_rules.proofs.Lists.{slice_get-filter, slice_get_front}
+use Rattle.std.proofs.lemmas.List.Elements.{All-contains}
+use Rattle.std.proofs.lemmas.Map.Keys.{any_passes_from_place}
+use Rattle.std.proofs.lemmas.Option.{slice_get_read, get_or_from_slice_get}
 
 -- x stands in xs
 pub record IsIn {A : Type 0} (xs : List A) (x : A) : Type 0 where
@@ -107,14 +108,6 @@ is_contained n ns i = any_passes_from_place (λ (m : ℕ). m == n) ns i.place n 
 pub empty_by_places : {A : Type 0} (xs : List A) → ((k : ℕ) (x : A) → slice_get xs k ≡ Some x → ⊥) → xs ≡ []
 empty_by_places [] f = refl
 empty_by_places (x ∷ xs) f = absurd (f 0 x refl)
-
--- a front that is as long is the whole
-pub whole_by_length : {A : Type 0} (xs ys : List A) → IsPrefix xs ys → length xs ≡ length ys → xs ≡ ys
-whole_by_length {A = A} xs ys f same = go f.0 f.1
-  where
-    go : (rest : List A) → xs ++ rest ≡ ys → xs ≡ ys
-    go [] e = sym (append-nil xs) ∙ e
-    go (r ∷ rest) e = let long : length (xs ++ r ∷ rest) ≡ length ys = ap length e in absurd (omega (arith, length-append xs (r ∷ rest)))
 
 -- an enumerated list without its numbers is the list
 pub enumerated : {A : Type 0} (n : ℕ) (xs : List A) → map (λ (pair : ℕ × A). pair.1) (enumerate_from n xs) ≡ xs
