@@ -4,25 +4,26 @@ use Rattle.act_early.proofs.Common.{WorldRefusal, Step, ActorSpec, History, open
 use Rattle.act_early.proofs.Common.{after_all-append, outcomes-append, At, IsPlay}
 use Rattle.act_early.proofs.Worlds.{play_keeps}
 
-record IsLeft (specs : List ActorSpec) (h : History) : Type 0 where
-  events : List Event
-  accepted : All IsOk (outcomes (opening specs) events)
-  left : h ≡ after_all (opening specs) events
+-- accepted events left it
+pub record IsLeft (specs : List ActorSpec) (h : History) : Type 0 where
+  pub events : List Event
+  pub accepted : All IsOk (outcomes (opening specs) events)
+  pub left : h ≡ after_all (opening specs) events
 
-one_more : (specs : List ActorSpec) → IsKept (IsLeft specs)
-one_more specs h other before may = record {
-  events = before.events ++ other ∷ [];
-  accepted = subst (λ (l : List Outcome). All IsOk l)
-      (sym (outcomes-append (opening specs) before.events (other ∷ [])
-      ∙ ap (λ (g : History). outcomes (opening specs) before.events ++ outcome_of g other ∷ []) (sym before.left)))
-      (All-append IsOk (outcomes (opening specs) before.events) (outcome_of h other ∷ []) before.accepted
-      (All-cons IsOk (outcome_of h other) [] ok (All-nil IsOk)));
-  left = sym (after_all-append (opening specs) before.events (other ∷ []) ∙ ap (λ (g : History). after_all g (other ∷ [])) (sym before.left)
-      ∙ ap (after_by h other) may);
-}
-  where
-    ok : IsOk (outcome_of h other)
-    ok = subst (λ (o : Option WorldRefusal). IsOk (outcome_by h other o)) (sym may) refl
+-- one more accepted event leaves what it adds
+pub one_more : (specs : List ActorSpec) → IsKept (IsLeft specs)
+one_more specs h other before may =
+    let ok : IsOk (outcome_of h other) = subst (λ (o : Option WorldRefusal). IsOk (outcome_by h other o)) (sym may) refl in
+    record {
+      events = before.events ++ other ∷ [];
+      accepted = subst (λ (l : List Outcome). All IsOk l)
+          (sym (outcomes-append (opening specs) before.events (other ∷ [])
+          ∙ ap (λ (g : History). outcomes (opening specs) before.events ++ outcome_of g other ∷ []) (sym before.left)))
+          (All-append IsOk (outcomes (opening specs) before.events) (outcome_of h other ∷ []) before.accepted
+          (All-cons IsOk (outcome_of h other) [] ok (All-nil IsOk)));
+      left = sym (after_all-append (opening specs) before.events (other ∷ []) ∙ ap (λ (g : History). after_all g (other ∷ [])) (sym before.left)
+          ∙ ap (after_by h other) may);
+    }
 
 pub accepted_play : (casts : List ActorSpec) (plans : ℕ → List Step) (at : At) → IsPlay casts plans at
     → (events : List Event) × All IsOk (outcomes (opening casts) events) × (at.history ≡ after_all (opening casts) events)

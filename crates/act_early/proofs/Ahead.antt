@@ -70,6 +70,8 @@ run_ahead specs plans b c before early late w ahead was m a = go (next_item b c 
     same : (item : RunItem) → next_item b c h ≡ Some item → Matches (after_run b c h (Some item)) early.history late.history
         → slice_get (runs_of b early.history) n ≡ Some item
     same item e m =
+        let front_of : (xs : List RunItem) (k : ℕ) (x : RunItem) → slice_get xs k ≡ Some x → k + 1 ≤ length xs =
+        λ xs k x at. let lt = slice_get_within xs k x at in omega arith in
         let stands = run_stands b h.ran item in
         let there : slice_get (runs_of b late.history) n ≡ Some item =
         slice_get_front (runs_of b (after_run b c h (Some item))) (runs_of b late.history) n item (m.before.runs b) stands in
@@ -81,9 +83,6 @@ run_ahead specs plans b c before early late w ahead was m a = go (next_item b c 
         let is : other.0 ≡ item = same_item b c h early.history item other.0 w.early.sound (ready b c h item w.play.sound e) (ahead.runs b)
         (calls_ahead plans c before early (w.moves c) (w.goes c) (ahead.steps c)) (kept_ahead specs plans before early late c w was ahead) other.1 caller in
         other.1 ∙ ap (λ (i : RunItem). Some i) is
-      where
-        front_of : (xs : List RunItem) (k : ℕ) (x : RunItem) → slice_get xs k ≡ Some x → k + 1 ≤ length xs
-        front_of xs k x at = let lt = slice_get_within xs k x at in omega arith
 
     go : (o : Option RunItem) → next_item b c h ≡ o → Matches (after_run b c h o) early.history late.history
         → IsPrefix (runs_of a (after_run b c h o)) (runs_of a early.history)

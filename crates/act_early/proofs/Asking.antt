@@ -1,8 +1,7 @@
 -- The kills that are asked are those of the steps that callers are done with.
-use Rattle.act_early.proofs.Common.{◌≡◌, ℕ, Bool, true, false, cond, List, [], ◌∷◌, Some, None, refl, ap, sym, ◌∙◌, subst, Option, ◌==◌, ◌||◌, list_any}
-use Rattle.act_early.proofs.Common.{eqb-true, eq-eqb, list_any-append, Event, RunItem, Step, Kill, is_kill_of, ActorSpec, History}
-use Rattle.act_early.proofs.Common.{contains, is_dead, next_item, add_event, after_run, IsKept, contains_more, dead_stays, At, next_step, after_step, taken}
-use Rattle.act_early.proofs.Common.{IsPlay, Opens, Takes, Skips, Closes, Happens, or_left}
+use Rattle.act_early.proofs.Common.{◌≡◌, ℕ, Bool, true, false, cond, List, [], ◌∷◌, Some, refl, ap, sym, ◌∙◌, subst, ◌==◌, ◌||◌, list_any, eqb-true, eq-eqb}
+use Rattle.act_early.proofs.Common.{list_any-append, Event, Step, Kill, is_kill_of, ActorSpec, History, contains, is_dead, add_event, IsKept, contains_more}
+use Rattle.act_early.proofs.Common.{dead_stays, At, next_step, after_step, taken, IsPlay, Opens, Takes, Skips, Closes, Happens, or_left}
 use Rattle.act_rules.specs.declared.event.Event.TheVariants as event
 use Rattle.act_early.proofs.Worlds.{step_keeps, contains_push, either_of, or_second}
 use Rattle.act_early.proofs.Counting.{done_steps, done-push}
@@ -11,11 +10,7 @@ use Rattle.act_early.proofs.Progress.{free_idle}
 -- ---- asked or dead, for good
 
 asked_stays : (a : ℕ) (h : History) (other : Event) → contains a h.asked ≡ true → contains a (add_event h other).asked ≡ true
-asked_stays a h (event.Run b c) e = go (next_item b c h)
-  where
-    go : (o : Option RunItem) → contains a (after_run b c h o).asked ≡ true
-    go None = e
-    go (Some item) = e
+asked_stays a h (event.Run b c) e = ap (contains a) (free_idle h (event.Run b c) refl).asked ∙ e
 asked_stays a h (event.AskKill c b) e = contains_more a h.asked (b ∷ []) e
 asked_stays a h other e = e
 

@@ -3,8 +3,7 @@ use Rattle.act_early.proofs.Common.{◌≡◌, ℕ, zero, suc, Bool, true, false
 use Rattle.act_early.proofs.Common.{filter_map, slice_get, Err, cons_option, filter_map-append, ActorDied, Event, RunItem, Submission, Post, Answer, kept_at}
 use Rattle.act_early.proofs.Common.{History, under, runs_of, calls_of, kept_of, answer_in, first_answer, add_event, slice_get_front, filter_map-same}
 use Rattle.act_early.proofs.Common.{All_weaker, Grows, added_grows, calls_grow, IsSoundPost, PostsAreSound, answer_in_stays, kept_by, kept_at_is}
-use Rattle.act_early.proofs.Common.{held_submission, IsSound, is_reply, is_heard, choices_of, first_answer-same}
-use Rattle.act_rules.specs.declared.history.Post.TheVariants.{Death as DeathPost}
+use Rattle.act_early.proofs.Common.{held_submission, IsSound, is_reply, is_heard, choices_of, first_answer-same, DeathPost}
 
 -- functions that agree on each item of a list map it to the same list
 pub map-same_at : {A B : Type 0} (f g : A → B) (xs : List A) → ((place : ℕ) (x : A) → slice_get xs place ≡ Some x → f x ≡ g x) → map f xs ≡ map g xs

@@ -5,9 +5,8 @@ use Rattle.act_early.proofs.Common.{and_from, slice_get_within, KindState, RunIt
 use Rattle.act_early.proofs.Common.{History, contains, under, names, cast_of, runs_of, calls_of, kept_of, is_item_of, answer_of, answer_in, first_answer}
 use Rattle.act_early.proofs.Common.{next_item, refusal_of, and_also, slice_get_front, slice_get_last, element, Grows, added_grows, runs_grow, calls_grow}
 use Rattle.act_early.proofs.Common.{run_needs, run_stands, length-answers_from, answer_alive, one_place, At, with_event, Happens, IsPlay, is_reply, choices_of}
-use Rattle.act_early.proofs.Common.{HasRunMore, HasTakenMore}
+use Rattle.act_early.proofs.Common.{HasRunMore, HasTakenMore, ReplyPost}
 use Rattle.act_rules.specs.declared.event.Event.TheVariants as event
-use Rattle.act_rules.specs.declared.history.Post.TheVariants.{Reply as ReplyPost}
 use Rattle.act_early.proofs.Worlds.{world, contains_push}
 use Rattle.act_early.proofs.Replies.{reply_died}
 use Rattle.act_early.proofs.Choices.{first_more, kept_first, heard_quiet, heard_more, choices_same}
@@ -92,6 +91,25 @@ first_none (x ∷ xs) o e = cc
 heard_more_choices : (a b c : ℕ) (h g k : History) (item : RunItem) → IsReplied a c h g k item
     → choices_of b k ≡ choices_of b h ++ cond (a == b) ((c, true) ∷ []) []
 heard_more_choices a b c h g k item r =
+    let n = length (runs_of a h) in
+    let caller : item.caller ≡ c = item_caller a c h item r.run.next in
+    let answer : (answer : Answer) × (answer_of a n k ≡ Some answer) × (is_reply (Some answer) ≡ true) = answered_by a c h g k item r in
+    let call : (call : Submission) × (slice_get (calls_of c h) item.future ≡ Some call) = run_call a c h g item r.run in
+    let before : slice_get (calls_of c g) item.future ≡ Some call.0 =
+    slice_get_front (calls_of c h) (calls_of c g) item.future call.0 (calls_grow c h g r.run.grows) call.1 in
+    let after : slice_get (calls_of c k) item.future ≡ Some call.0 =
+    slice_get_front (calls_of c g) (calls_of c k) item.future call.0 (calls_grow c g k r.grows) before in
+    let there : slice_get (runs_of a k) n ≡ Some item = ap (λ (l : List (ℕ × RunItem)). slice_get (under a l) n) r.ran ∙ stands_at a c h g item r.run in
+    let mine : ((c == c) && is_item_of c item.future (slice_get (runs_of a k) n)) ≡ true =
+    and_from (c == c) (is_item_of c item.future (slice_get (runs_of a k) n)) (eq-eqb c c refl)
+    (ap (is_item_of c item.future) there ∙ and_from (item.caller == c) (item.future == item.future) (eq-eqb item.caller c caller)
+    (eq-eqb item.future item.future refl)) in
+    let gives : answer_in k c item.future call.0.actor (ReplyPost c a n) ≡ Some answer.0 = ap (λ (x : Bool). cond x (answer_of a n k) None) mine ∙ answer.1 in
+    let none : first_answer g c (item.future, call.0) ≡ None = sym (kept_first g c item.future call.0 before) ∙ unheard a c h g item r.run in
+    let new : kept_at (kept_of c k) item.future ≡ Some answer.0 =
+    kept_first k c item.future call.0 after ∙ first_more g k c (item.future, call.0) (ReplyPost c a n) r.grows r.run.after.posts r.collected
+    ∙ ap (λ (o : Option Answer). slice_get (filter_map (answer_in g c item.future call.0.actor) g.collected ++ cons_option o []) 0) gives
+    ∙ first_none (filter_map (answer_in g c item.future call.0.actor) g.collected) (Some answer.0) none in
     more_choices h k a b c item true (ap (λ (l : List (ℕ × RunItem)). under b l) r.ran ∙ run_runs a b c h g item r.run)
     (λ place other at.
     let later = slice_get_front (runs_of b h) (runs_of b g) place other (runs_grow b h g r.run.grows) at in
@@ -99,43 +117,6 @@ heard_more_choices a b c h g k item r =
     ∙ heard_quiet h g b place other r.run.grows r.run.sound r.run.collected at)
     caller
     (ap (λ (d : ℕ). is_reply (kept_at (kept_of d k) item.future)) caller ∙ ap is_reply new ∙ answer.2)
-  where
-    n : ℕ
-    n = length (runs_of a h)
-
-    caller : item.caller ≡ c
-    caller = item_caller a c h item r.run.next
-
-    answer : (answer : Answer) × (answer_of a n k ≡ Some answer) × (is_reply (Some answer) ≡ true)
-    answer = answered_by a c h g k item r
-
-    call : (call : Submission) × (slice_get (calls_of c h) item.future ≡ Some call)
-    call = run_call a c h g item r.run
-
-    before : slice_get (calls_of c g) item.future ≡ Some call.0
-    before = slice_get_front (calls_of c h) (calls_of c g) item.future call.0 (calls_grow c h g r.run.grows) call.1
-
-    after : slice_get (calls_of c k) item.future ≡ Some call.0
-    after = slice_get_front (calls_of c g) (calls_of c k) item.future call.0 (calls_grow c g k r.grows) before
-
-    there : slice_get (runs_of a k) n ≡ Some item
-    there = ap (λ (l : List (ℕ × RunItem)). slice_get (under a l) n) r.ran ∙ stands_at a c h g item r.run
-
-    mine : ((c == c) && is_item_of c item.future (slice_get (runs_of a k) n)) ≡ true
-    mine = and_from (c == c) (is_item_of c item.future (slice_get (runs_of a k) n)) (eq-eqb c c refl)
-        (ap (is_item_of c item.future) there ∙ and_from (item.caller == c) (item.future == item.future) (eq-eqb item.caller c caller)
-        (eq-eqb item.future item.future refl))
-
-    gives : answer_in k c item.future call.0.actor (ReplyPost c a n) ≡ Some answer.0
-    gives = ap (λ (x : Bool). cond x (answer_of a n k) None) mine ∙ answer.1
-
-    none : first_answer g c (item.future, call.0) ≡ None
-    none = sym (kept_first g c item.future call.0 before) ∙ unheard a c h g item r.run
-
-    new : kept_at (kept_of c k) item.future ≡ Some answer.0
-    new = kept_first k c item.future call.0 after ∙ first_more g k c (item.future, call.0) (ReplyPost c a n) r.grows r.run.after.posts r.collected
-        ∙ ap (λ (o : Option Answer). slice_get (filter_map (answer_in g c item.future call.0.actor) g.collected ++ cons_option o []) 0) gives
-        ∙ first_none (filter_map (answer_in g c item.future call.0.actor) g.collected) (Some answer.0) none
 
 -- ---- the plays
 
@@ -159,32 +140,23 @@ cast_known (Some cast) c e = refl
 pub run_more : (casts : List ActorSpec) (plans : ℕ → List Step) (a c : ℕ) (p : At) (item : RunItem) → IsPlay casts plans p → refusal_of p.history (event.Run a c) ≡ None
     → next_item a c p.history ≡ Some item
     → HasRunMore a c true p.history (with_event (event.Collect (length p.history.posts)) (with_event (event.Run a c) p)).history
-run_more casts plans a c p item play may e = ((λ b. heard_more_choices a b c h g k item replied), λ b. ap (contains b) r.killed)
-  where
-    h : History
-    h = p.history
-
-    g : History
-    g = (with_event (event.Run a c) p).history
-
-    r : IsRun a c h g item
-    r = run_is casts plans a c p item play may e
-
-    k : History
-    k = (with_event (event.Collect (length h.posts)) (with_event (event.Run a c) p)).history
-
-    place : slice_get g.posts (length h.posts) ≡ Some (ReplyPost c a (length (runs_of a h)))
-    place = ap (λ (l : List Post). slice_get l (length h.posts)) r.posts ∙ slice_get_last h.posts (ReplyPost c a (length (runs_of a h)))
-
-    replied : IsReplied a c h g k item
-    replied = record {
+run_more casts plans a c p item play may e =
+    let h = p.history in
+    let g = (with_event (event.Run a c) p).history in
+    let r : IsRun a c h g item = run_is casts plans a c p item play may e in
+    let k = (with_event (event.Collect (length h.posts)) (with_event (event.Run a c) p)).history in
+    let place : slice_get g.posts (length h.posts) ≡ Some (ReplyPost c a (length (runs_of a h))) =
+    ap (λ (l : List Post). slice_get l (length h.posts)) r.posts ∙ slice_get_last h.posts (ReplyPost c a (length (runs_of a h))) in
+    let replied : IsReplied a c h g k item =
+    record {
       run = r;
       grows = added_grows g (event.Collect (length h.posts));
       ran = refl;
       collected = ap (and_also g.collected) place;
       casts = refl;
       known = ap (λ (l : List ActorSpec). is_some (find (λ (cast : ActorSpec). cast.actor == a) l)) r.casts ∙ cast_known (cast_of a h) c (run_needs h a c may).1;
-    }
+    } in
+    ((λ b. heard_more_choices a b c h g k item replied), λ b. ap (contains b) r.killed)
 
 pub heard_play : (specs : List ActorSpec) (plans : ℕ → List Step) (a c : ℕ) (p : At) (item : RunItem) → IsOpen specs plans p
     → refusal_of p.history (event.Run a c) ≡ None → next_item a c p.history ≡ Some item

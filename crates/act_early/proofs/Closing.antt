@@ -2,10 +2,11 @@
 use Rattle.act_early.proofs.Common.{◌≡◌, ℕ, zero, suc, ◌+◌, ◌-◌, Bool, true, false, cond, List, Option, Some, None, refl, ap, sym, ◌∙◌, subst, arith, ◌==◌}
 use Rattle.act_early.proofs.Common.{◌&&◌, nat_lt, AllByRecursion, eqb-true, eq-eqb, and_from, nat_tests, Step, Release, handle_refusal, ActorSpec, History}
 use Rattle.act_early.proofs.Common.{names, cast_of, is_caller, count_pairs, copies_of, refusal_of, add_event, times-push, At, next_step, with_event, Closes}
+use Rattle.act_early.proofs.Common.{named_among}
 use Rattle.act_rules.specs.declared.event.Event.TheVariants as event
 use Rattle.act_early.proofs.Worlds.{world}
 use Rattle.act_early.proofs.Quiesces.{Quiesces, quiesces_same, quiesces_trans, quiet_quiesces}
-use Rattle.act_early.proofs.Listed.{all_callers, all_actors, named_caller, IsOpen, IsWay, Comes, for_all}
+use Rattle.act_early.proofs.Listed.{all_callers, all_actors, IsOpen, IsWay, Comes, for_all}
 use Rattle.act_early.proofs.Stepping.{IsStuck, may_before}
 
 -- the caller, if its plan is done and the actor's cast names it, holds no copy of the actor's handle
@@ -75,7 +76,7 @@ close_out : (specs : List ActorSpec) (plans : ℕ → List Step) (c a n : ℕ) (
 close_out specs plans c a zero p begun done named copies = (p, (closing_on specs plans).stays p begun, λ _ _. copies)
 close_out specs plans c a (suc n) p begun done named copies =
     let h = p.history in
-    let caller : is_caller c h ≡ true = named_caller c a h.casts named in
+    let caller : is_caller c h ≡ true = named_among c a h.casts named in
     let some : nat_lt 0 (suc n) ≡ true = grind (arith, nat_tests) in
     let free : handle_refusal (copies_of c a h) ≡ None = ap handle_refusal copies ∙ rw some refl in
     let may : refusal_of h (event.Release c a) ≡ None = rw (caller, free) refl in

@@ -1,7 +1,7 @@
 -- How many steps a caller is done with, and which.
 use Rattle.act_early.proofs.Common.{◌≡◌, ℕ, zero, suc, ◌+◌, ◌≤◌, Bool, true, false, cond, List, [], ◌∷◌, ◌++◌, length, Some, None, refl, ap, sym, ◌∙◌, subst}
 use Rattle.act_early.proofs.Common.{arith, length-append, ◌==◌, slice_get, take, eqb-true, append-nil, filter-append, Step, occurrences, IsPrefix, At, steps_of}
-use Rattle.act_early.proofs.Common.{next_step}
+use Rattle.act_early.proofs.Common.{next_step, take_all}
 
 -- a pushed list has a number as often as before, and once more where that is the number pushed
 pub occurrences-push : (d c : ℕ) (xs : List ℕ) → occurrences d (xs ++ c ∷ []) ≡ occurrences d xs + cond (c == d) 1 0
@@ -55,7 +55,4 @@ past_none (x ∷ xs) (suc k) e = let n = past_none xs k e in omega (arith, n)
 
 -- the first n items of a list that has no more than n are all of it
 pub take-past : {A : Type 0} (xs : List A) (n : ℕ) → length xs ≤ n → take n xs ≡ xs
-take-past [] zero le = refl
-take-past [] (suc n) le = refl
-take-past (x ∷ xs) zero le = absurd (omega arith)
-take-past {A = A} (x ∷ xs) (suc n) le = ap (λ (l : List A). x ∷ l) (take-past xs n (omega arith))
+take-past xs n le = take_all n xs le

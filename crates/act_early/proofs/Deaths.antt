@@ -2,9 +2,8 @@
 use Rattle.act_early.proofs.Common.{◌≡◌, ℕ, zero, suc, true, List, [], ◌∷◌, Option, Some, None, refl, ap, sym, ◌∙◌, subst, arith, Contains, ◌==◌, find}
 use Rattle.act_early.proofs.Common.{slice_get, AllByRecursion, Post, RunItem, NoActor, NoCaller, Handle, NotDead, Step, needs, ActorSpec, History, names}
 use Rattle.act_early.proofs.Common.{cast_of, is_caller, is_dead, next_item, refusal_of, and_also, after_run, All_more, All_at, IsKept, needs-none, IsSoundPost}
-use Rattle.act_early.proofs.Common.{At, IsPlay}
+use Rattle.act_early.proofs.Common.{At, IsPlay, ReplyPost, DeathPost}
 use Rattle.act_rules.specs.declared.event.Event.TheVariants as event
-use Rattle.act_rules.specs.declared.history.Post.TheVariants.{Reply as ReplyPost, Death as DeathPost}
 use Rattle.act_early.proofs.Worlds.{play_keeps, world}
 
 abbrev IsNamedDeath : List ActorSpec → Post → Type 0

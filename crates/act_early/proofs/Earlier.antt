@@ -1,8 +1,8 @@
 -- What stays while a play goes on.
-use Rattle.act_early.proofs.Common.{◌≡◌, ℕ, true, List, None, refl, ◌∙◌, subst, Event, Step, Submit, Copy, Release, Kill, Await, History}
-use Rattle.act_early.proofs.Common.{contains, runs_of, kept_of, is_dead, is_retired, refusal_of, add_event, IsPrefix, whole_front, front_trans, added_grows}
-use Rattle.act_early.proofs.Common.{runs_grow, contains_more, ended_stays, dead_stays, Extends, kept_extends, IsSound, after_step, MayTake, or_left}
-use Rattle.act_rules.specs.declared.event.Event.TheVariants as event
+use Rattle.act_early.proofs.Common.{◌≡◌, ℕ, true, List, None, refl, ◌∙◌, subst, Event, Step, Submit, Await, History, contains, runs_of, kept_of, is_dead}
+use Rattle.act_early.proofs.Common.{is_retired, refusal_of, add_event, IsPrefix, whole_front, front_trans, added_grows, runs_grow, contains_more, ended_stays}
+use Rattle.act_early.proofs.Common.{dead_stays, Extends, kept_extends, IsSound, after_step, MayTake, or_left}
+use Rattle.act_early.proofs.Worlds.{event_of}
 
 pub record IsEarlier (h g : History) : Type 0 where
   pub runs : (a : ℕ) → IsPrefix (runs_of a h) (runs_of a g)
@@ -46,11 +46,8 @@ earlier_event h other sound accepted =
 
 -- a sound history is earlier than the one after a step that the caller may take
 pub earlier_step : (c : ℕ) (step : Step) (h : History) → IsSound h → MayTake c step h → IsEarlier h (after_step c step h)
-earlier_step c (Submit a method args) h sound may = earlier_event h (event.Submit c a method args) sound may
-earlier_step c (Copy a) h sound may = earlier_event h (event.Copy c a) sound may
-earlier_step c (Release a) h sound may = earlier_event h (event.Release c a) sound may
-earlier_step c (Kill a) h sound may = earlier_event h (event.AskKill c a) sound may
 earlier_step c (Await k) h sound may = earlier_same h
+earlier_step c step h sound may = earlier_event h (event_of c step) sound may
 
 -- a step runs nothing
 pub step_runs : (c : ℕ) (step : Step) (h : History) → (after_step c step h).ran ≡ h.ran

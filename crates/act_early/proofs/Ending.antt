@@ -1,11 +1,10 @@
 -- Where the late play is ended, the one that was seen ends alike.
 use Rattle.act_early.proofs.Common.{◌≡◌, ℕ, suc, ◌+◌, ◌≤◌, Bool, true, false, List, [], ◌∷◌, length, Option, Some, None, refl, ap, sym, ◌∙◌, subst, arith, ◌==◌}
-use Rattle.act_early.proofs.Common.{◌||◌, find, filter_map, slice_get, is_some, enumerate_from, length-map, slice_get_past, RunItem}
-use Rattle.act_early.proofs.Common.{Submission, Step, Answer, items_of, calls_to, kept_at, ActorSpec, History, contains, callers_in, cast_of, runs_of, calls_of}
-use Rattle.act_early.proofs.Common.{kept_of, is_retired, is_ended, has_letter, ran_count, is_done, is_drained, first_answer, refusal_of, kept_at_is, kept_by}
-use Rattle.act_early.proofs.Common.{ran_all, At, steps_of, next_step, IsPlay, IsWholeSearch, IsEnded, LosesOnly, EndsAlike, all_from_each}
+use Rattle.act_early.proofs.Common.{◌||◌, find, filter_map, slice_get, is_some, enumerate_from, length-map, slice_get_past, RunItem, Submission, Step, Answer}
+use Rattle.act_early.proofs.Common.{items_of, calls_to, kept_at, ActorSpec, History, contains, callers_in, cast_of, runs_of, calls_of, kept_of, is_retired}
+use Rattle.act_early.proofs.Common.{is_ended, has_letter, ran_count, is_done, is_drained, first_answer, refusal_of, kept_at_is, kept_by, ran_all, At, steps_of}
+use Rattle.act_early.proofs.Common.{next_step, IsPlay, IsWholeSearch, IsEnded, LosesOnly, EndsAlike, all_from_each, NoteLetter}
 use Rattle.act_rules.specs.declared.event.Event.TheVariants as event
-use Rattle.act_rules.specs.declared.history.Letter.TheVariants.{Note as NoteLetter}
 use Rattle.act_early.proofs.Counting.{past_none, take-past}
 use Rattle.act_early.proofs.Progress.{Follows, follows, submission_in}
 use Rattle.act_early.proofs.Earlier.{earlier_same}
@@ -49,14 +48,33 @@ all_calls plans c at f past = f.calls ∙ ap (filter_map submission_in) (take-pa
 
 pub ends_alike : (casts : List ActorSpec) (plans : ℕ → List Step) (early late : At) → AreBoth casts plans early late → ((a : ℕ) → IsReached a late early)
     → IsEnded plans late → ((c : ℕ) → Follows plans c late) → EndsAlike plans early late.history
-ends_alike casts plans early late both r ended f = record {
-  done = done;
-  calls = calls;
-  kept = λ c. same_kept (kept_of c early.history) (kept_of c late.history) (kept_long c early.history late.history (calls c)) (answers c);
-  runs = λ a. (r a).runs;
-  dead = λ a. (r a).dead;
-  retires = retires;
-}
+ends_alike casts plans early late both r ended f =
+    let same_cast : (a : ℕ) → cast_of a early.history ≡ cast_of a late.history =
+    λ a. ap (λ (l : List ActorSpec). find (λ (cast : ActorSpec). cast.actor == a) l) (r 0).casts in
+    let live : (a : ℕ) → is_retired a late.history ≡ true → is_ended a early.history ≡ false =
+    λ a retired. ap (λ (b : Bool). b || is_retired a early.history) ((r a).dead ∙ both.late.live a retired) ∙ ap (contains a) both.quiescent.live in
+    -- an actor that retired ran all calls
+    let count : (c a : ℕ) → is_retired a late.history ≡ true → ran_count c a early.history ≡ length (calls_to a (calls_of c early.history)) =
+    λ c a retired. ap (λ (items : List RunItem). length (items_of c items)) (r a).runs
+    ∙ sym (length-map (items_of c (runs_of a late.history)) (λ (i : RunItem). i.future))
+    ∙ ap (λ (l : List ℕ). length l) (ran_all late.history a c both.late.sound both.late.retires retired)
+    ∙ length-map (calls_to a (calls_of c late.history)) (λ (call : ℕ × Submission). call.0)
+    ∙ ap (λ (l : List Submission). length (calls_to a l)) (sym (calls c)) in
+    let drained : (a : ℕ) → is_retired a late.history ≡ true → is_drained a early.history ≡ true =
+    λ a retired. all_from_each (λ c. is_done c a early.history) (callers_in (cast_of a early.history)) (λ c named.
+    subst (λ (n : ℕ). has_letter (NoteLetter c a n) early.history.arrived ≡ true) (sym (count c a retired))
+    (both.quiescent.noted c a (both.quiescent.closed c a (done c) named) (live a retired))) in
+    let retires : (a : ℕ) → is_retired a late.history ≡ true → refusal_of early.history (event.Retire a) ≡ None =
+    λ a retired. let cast : is_some (cast_of a early.history) ≡ true = ap (λ (o : Option ActorSpec). is_some o) (same_cast a) ∙ both.late.cast a retired in
+    rw (cast, live a retired, drained a retired) refl in
+    record {
+      done = done;
+      calls = calls;
+      kept = λ c. same_kept (kept_of c early.history) (kept_of c late.history) (kept_long c early.history late.history (calls c)) (answers c);
+      runs = λ a. (r a).runs;
+      dead = λ a. (r a).dead;
+      retires = retires;
+    }
   where
     past : (c : ℕ) → length (plans c) ≤ steps_of c early
     past c = past_plan plans c late early (ended.done c) ((r 0).steps c)
@@ -80,31 +98,6 @@ ends_alike casts plans early late both r ended f = record {
         go None at =
             let there : slice_get (calls_of c early.history) k ≡ None = ap (λ (l : List Submission). slice_get l k) (calls c) ∙ at in
             kept_at_is early.history c k ∙ ap (kept_by early.history c k) there ∙ sym (kept_at_is late.history c k ∙ ap (kept_by late.history c k) at)
-
-    same_cast : (a : ℕ) → cast_of a early.history ≡ cast_of a late.history
-    same_cast a = ap (λ (l : List ActorSpec). find (λ (cast : ActorSpec). cast.actor == a) l) (r 0).casts
-
-    live : (a : ℕ) → is_retired a late.history ≡ true → is_ended a early.history ≡ false
-    live a retired = ap (λ (b : Bool). b || is_retired a early.history) ((r a).dead ∙ both.late.live a retired) ∙ ap (contains a) both.quiescent.live
-
-    -- an actor that retired ran all calls
-    count : (c a : ℕ) → is_retired a late.history ≡ true → ran_count c a early.history ≡ length (calls_to a (calls_of c early.history))
-    count c a retired =
-        ap (λ (items : List RunItem). length (items_of c items)) (r a).runs
-        ∙ sym (length-map (items_of c (runs_of a late.history)) (λ (i : RunItem). i.future))
-        ∙ ap (λ (l : List ℕ). length l) (ran_all late.history a c both.late.sound both.late.retires retired)
-        ∙ length-map (calls_to a (calls_of c late.history)) (λ (call : ℕ × Submission). call.0)
-        ∙ ap (λ (l : List Submission). length (calls_to a l)) (sym (calls c))
-
-    drained : (a : ℕ) → is_retired a late.history ≡ true → is_drained a early.history ≡ true
-    drained a retired = all_from_each (λ c. is_done c a early.history) (callers_in (cast_of a early.history)) (λ c named.
-        subst (λ (n : ℕ). has_letter (NoteLetter c a n) early.history.arrived ≡ true) (sym (count c a retired))
-        (both.quiescent.noted c a (both.quiescent.closed c a (done c) named) (live a retired)))
-
-    retires : (a : ℕ) → is_retired a late.history ≡ true → refusal_of early.history (event.Retire a) ≡ None
-    retires a retired =
-        let cast : is_some (cast_of a early.history) ≡ true = ap (λ (o : Option ActorSpec). is_some o) (same_cast a) ∙ both.late.cast a retired in
-        rw (cast, live a retired, drained a retired) refl
 
 -- for each ended play that loses replies only where it may, a whole search has seen a play that ends alike
 pub enough : (casts : List ActorSpec) (plans : ℕ → List Step) (may_lose : ℕ → Bool) (Seen : At → Type 0) (late : At)

@@ -35,19 +35,18 @@ pub made_early : (casts : List ActorSpec) (plans : ℕ → List Step) (events : 
     → (early : At) × (end : At) × IsEarly casts plans early × EndsAlike plans early end.history
     × IsPlay casts plans end × IsSameEnd end.history (history casts events)
 made_early casts plans events ok keeps over =
-    let late = listed casts plans events ok keeps over in
-    let early = early_ends casts plans late.0 late.1.play late.1.ended in
-    let is = early_play casts plans early.0 early.1 in
-    let end = retired_play casts plans early.0 late.0 is.0 is.1 late.1.play late.1.ended early.2 in
-    (early.0, end.0, early.1, ends early.0 end.0 late.0 early.2 end.3, end.1, subst (IsSameEnd end.0.history) late.1.is end.3)
-  where
     -- as the late one ended, so does the end
-    ends : (early end late : At) → EndsAlike plans early late.history → IsSameEnd end.history late.history → EndsAlike plans early end.history
-    ends early end late alike same = record {
+    let ends : (early end late : At) → EndsAlike plans early late.history → IsSameEnd end.history late.history → EndsAlike plans early end.history =
+    λ early end late alike same. record {
       done = alike.done;
       calls = λ c. alike.calls c ∙ sym (same.calls c);
       kept = λ c. alike.kept c ∙ sym (same.kept c);
       runs = λ a. alike.runs a ∙ sym (same.runs a);
       dead = λ a. alike.dead a ∙ sym (same.dead a);
       retires = λ a retired. alike.retires a (sym (same.retired a) ∙ retired);
-    }
+    } in
+    let late = listed casts plans events ok keeps over in
+    let early = early_ends casts plans late.0 late.1.play late.1.ended in
+    let is = early_play casts plans early.0 early.1 in
+    let end = retired_play casts plans early.0 late.0 is.0 is.1 late.1.play late.1.ended early.2 in
+    (early.0, end.0, early.1, ends early.0 end.0 late.0 early.2 end.3, end.1, subst (IsSameEnd end.0.history) late.1.is end.3)

@@ -3,8 +3,7 @@ use Rattle.act_early.proofs.Common.{◌≡◌, ℕ, ◌+◌, true, List, length,
 use Rattle.act_early.proofs.Common.{option_map, list_all, eq-eqb, slice_get-map, take-append_seam, RunItem, Submission, items_of, calls_to, is_known, settle}
 use Rattle.act_early.proofs.Common.{IsPrefix, IsAsSubmitted, History, runs_of, calls_of, kept_of, ran_count, run_item, next_item, slice_get_front}
 use Rattle.act_early.proofs.Common.{slice_get-filter, slice_get-enumerate_from, All_at, calls_to_grow, Extends, arguments_stay, IsSoundLetter, has_letter-sound}
-use Rattle.act_early.proofs.Common.{IsNext, next_item_is, numbered, numbers, calls_to-at, IsSound, consistent, same_Some}
-use Rattle.act_rules.specs.declared.history.Letter.TheVariants.{Call as CallLetter}
+use Rattle.act_early.proofs.Common.{IsNext, next_item_is, numbered, numbers, calls_to-at, IsSound, consistent, same_Some, CallLetter}
 
 -- the call that runs next, with arguments that are known
 pub record IsReady (a c : ℕ) (h : History) (item : RunItem) : Type 0 where
@@ -13,16 +12,12 @@ pub record IsReady (a c : ℕ) (h : History) (item : RunItem) : Type 0 where
 
 -- in a sound history the call that an actor runs next for a caller is ready: its arguments are known
 pub ready : (a c : ℕ) (h : History) (item : RunItem) → IsSound h → next_item a c h ≡ Some item → IsReady a c h item
-ready a c h item sound e = record { next = next; known = subst (λ (call : ℕ × Submission). list_all (is_known (kept_of c h)) call.1.args ≡ true) same letter.2 }
-  where
-    next : IsNext a c h item
-    next = next_item_is a c h item e
-
-    letter : IsSoundLetter h (CallLetter c a (ran_count c a h))
-    letter = has_letter-sound (IsSoundLetter h) (CallLetter c a (ran_count c a h)) h.arrived sound.letters.arrived next.arrived
-
-    same : letter.0 ≡ next.call
-    same = let e : Some letter.0 ≡ Some next.call = sym letter.1 ∙ next.at in cc
+ready a c h item sound e =
+    let next : IsNext a c h item = next_item_is a c h item e in
+    let letter : IsSoundLetter h (CallLetter c a (ran_count c a h)) =
+    has_letter-sound (IsSoundLetter h) (CallLetter c a (ran_count c a h)) h.arrived sound.letters.arrived next.arrived in
+    let same : letter.0 ≡ next.call = let e : Some letter.0 ≡ Some next.call = sym letter.1 ∙ next.at in cc in
+    record { next = next; known = subst (λ (call : ℕ × Submission). list_all (is_known (kept_of c h)) call.1.args ≡ true) same letter.2 }
 
 item_same : (x y : RunItem) → x.caller ≡ y.caller → x.number ≡ y.number → x.future ≡ y.future → x.method ≡ y.method → x.args ≡ y.args → x ≡ y
 item_same x y c n f m s = λ i. record { caller = c i; number = n i; future = f i; method = m i; args = s i }
@@ -63,44 +58,25 @@ pub same_item : (a c : ℕ) (play early : History) (item other : RunItem) → Is
     → IsPrefix (calls_of c play) (calls_of c early) → Extends (kept_of c play) (kept_of c early)
     → slice_get (runs_of a early) (length (runs_of a play)) ≡ Some other → other.caller ≡ c → other ≡ item
 same_item a c play early item other sound is runs calls extends at caller =
+    let n = ran_count c a play in
+    let call : ℕ × Submission = is.next.call in
+    let both : ◌≡◌ {A = Option (ℕ × ℕ)} (Some (numbered other)) (Some (n, call.0)) =
+    sym (stands_next a c play early other sound runs at caller) ∙ runs_next a c play early call calls is.next.at in
+    let pair : ◌≡◌ {A = ℕ × ℕ} (numbered other) (n, call.0) = same_Some (numbered other) (n, call.0) both in
+    let number : other.number ≡ n = ap (λ (p : ℕ × ℕ). p.0) pair in
+    let future : other.future ≡ call.0 = ap (λ (p : ℕ × ℕ). p.1) pair in
+    let submitted : IsAsSubmitted (λ d. calls_of d early) (λ d. kept_of d early) other =
+    All_at (IsAsSubmitted (λ d. calls_of d early) (λ d. kept_of d early)) (runs_of a early) (length (runs_of a play)) other
+    ((consistent early sound).as_submitted a) at in
+    let stands : slice_get (calls_of c early) call.0 ≡ Some call.1 =
+    slice_get_front (calls_of c play) (calls_of c early) call.0 call.1 calls (calls_to-at a (calls_of c play) n call is.next.at).at in
+    let there : slice_get (calls_of c early) call.0 ≡ Some submitted.call =
+    subst (λ (d : ℕ). slice_get (calls_of d early) call.0 ≡ Some submitted.call) caller
+    (subst (λ (k : ℕ). slice_get (calls_of other.caller early) k ≡ Some submitted.call) future submitted.at) in
+    let one : submitted.call ≡ call.1 = let e : Some submitted.call ≡ Some call.1 = sym there ∙ stands in cc in
+    let method : other.method ≡ call.1.method = submitted.method ∙ ap (λ (s : Submission). s.method) one in
+    let args : other.args ≡ map (settle (kept_of c play)) call.1.args =
+    submitted.args ∙ ap (λ (d : ℕ). map (settle (kept_of d early)) submitted.call.args) caller
+    ∙ ap (λ (s : Submission). map (settle (kept_of c early)) s.args) one
+    ∙ (arguments_stay (kept_of c play) (kept_of c early) extends call.1.args is.known).1 in
     item_same other (run_item c n (kept_of c play) call) caller number future method args ∙ is.next.is
-  where
-    n : ℕ
-    n = ran_count c a play
-
-    call : ℕ × Submission
-    call = is.next.call
-
-    both : ◌≡◌ {A = Option (ℕ × ℕ)} (Some (numbered other)) (Some (n, call.0))
-    both = sym (stands_next a c play early other sound runs at caller) ∙ runs_next a c play early call calls is.next.at
-
-    pair : ◌≡◌ {A = ℕ × ℕ} (numbered other) (n, call.0)
-    pair = same_Some (numbered other) (n, call.0) both
-
-    number : other.number ≡ n
-    number = ap (λ (p : ℕ × ℕ). p.0) pair
-
-    future : other.future ≡ call.0
-    future = ap (λ (p : ℕ × ℕ). p.1) pair
-
-    submitted : IsAsSubmitted (λ d. calls_of d early) (λ d. kept_of d early) other
-    submitted = All_at (IsAsSubmitted (λ d. calls_of d early) (λ d. kept_of d early)) (runs_of a early) (length (runs_of a play)) other
-        ((consistent early sound).as_submitted a) at
-
-    stands : slice_get (calls_of c early) call.0 ≡ Some call.1
-    stands = slice_get_front (calls_of c play) (calls_of c early) call.0 call.1 calls (calls_to-at a (calls_of c play) n call is.next.at).at
-
-    there : slice_get (calls_of c early) call.0 ≡ Some submitted.call
-    there = subst (λ (d : ℕ). slice_get (calls_of d early) call.0 ≡ Some submitted.call) caller
-        (subst (λ (k : ℕ). slice_get (calls_of other.caller early) k ≡ Some submitted.call) future submitted.at)
-
-    one : submitted.call ≡ call.1
-    one = let e : Some submitted.call ≡ Some call.1 = sym there ∙ stands in cc
-
-    method : other.method ≡ call.1.method
-    method = submitted.method ∙ ap (λ (s : Submission). s.method) one
-
-    args : other.args ≡ map (settle (kept_of c play)) call.1.args
-    args = submitted.args ∙ ap (λ (d : ℕ). map (settle (kept_of d early)) submitted.call.args) caller
-        ∙ ap (λ (s : Submission). map (settle (kept_of c early)) s.args) one
-        ∙ (arguments_stay (kept_of c play) (kept_of c early) extends call.1.args is.known).1

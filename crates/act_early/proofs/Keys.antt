@@ -1,7 +1,7 @@
 -- Quiescent plays with the same choices are alike.
 use Rattle.act_early.proofs.Common.{◌≡◌, ℕ, List, length, Option, Some, None, refl, sym, ◌∙◌, arith, length-map, RunItem, Step, Answer, kept_at, ActorSpec}
 use Rattle.act_early.proofs.Common.{History, runs_of, calls_of, kept_of, Extends, At, IsPlay, is_heard, choices_of, IsQuiescent, IsEnded, EndsAlike}
-use Rattle.act_early.proofs.Common.{HaveSameChoices, AreAlike}
+use Rattle.act_early.proofs.Common.{HaveSameChoices, AreAlike, front_whole}
 use Rattle.act_early.proofs.Worlds.{world}
 use Rattle.act_early.proofs.Counting.{take-past}
 use Rattle.act_early.proofs.Progress.{follows}
@@ -11,7 +11,6 @@ use Rattle.act_early.proofs.Ahead.{AreBoth}
 use Rattle.act_early.proofs.Possible.{IsReached}
 use Rattle.act_early.proofs.Searching.{Exactly, reached}
 use Rattle.act_early.proofs.Ending.{same_kept, kept_long, ends_alike}
-use Rattle.act_rules.proofs.Lists.{front_whole}
 
 pub both_quiescent : (casts : List ActorSpec) (plans : ℕ → List Step) (early late : At) → IsPlay casts plans early → IsQuiescent plans early
     → IsPlay casts plans late → AreBoth casts plans early late
@@ -56,22 +55,18 @@ both_keep xs ys one two k = go (kept_at xs k) (kept_at ys k) refl refl
 
 pub alike : (casts : List ActorSpec) (plans : ℕ → List Step) (one other : At) → IsPlay casts plans one → IsPlay casts plans other → IsQuiescent plans one
     → IsQuiescent plans other → HaveSameChoices one.history other.history → AreAlike one other
-alike casts plans one other is goes quiescent rests same = record {
-  steps = λ c. let le = (there 0).steps c in let ge = (back 0).steps c in omega (arith, le, ge);
-  calls = calls;
-  kept = λ c. same_kept (kept_of c one.history) (kept_of c other.history) (kept_long c one.history other.history (calls c))
-      (both_keep (kept_of c one.history) (kept_of c other.history) ((back 0).kept c) ((there 0).kept c));
-  runs = λ a. (there a).runs;
-  dead = λ a. (there a).dead;
-}
-  where
+alike casts plans one other is goes quiescent rests same =
     -- the first is ahead of the second, and the second of the first
-    there : (a : ℕ) → IsReached a other one
-    there = all_reached casts plans one other is quiescent goes same
-
-    back : (a : ℕ) → IsReached a one other
-    back = all_reached casts plans other one goes rests is (turned one.history other.history same)
-
-    calls : (c : ℕ) → calls_of c one.history ≡ calls_of c other.history
-    calls c = front_whole (calls_of c one.history) (calls_of c other.history) ((back 0).calls c)
-        (front_short (calls_of c other.history) (calls_of c one.history) ((there 0).calls c))
+    let there : (a : ℕ) → IsReached a other one = all_reached casts plans one other is quiescent goes same in
+    let back : (a : ℕ) → IsReached a one other = all_reached casts plans other one goes rests is (turned one.history other.history same) in
+    let calls : (c : ℕ) → calls_of c one.history ≡ calls_of c other.history =
+    λ c. front_whole (calls_of c one.history) (calls_of c other.history) ((back 0).calls c)
+    (front_short (calls_of c other.history) (calls_of c one.history) ((there 0).calls c)) in
+    record {
+      steps = λ c. let le = (there 0).steps c in let ge = (back 0).steps c in omega (arith, le, ge);
+      calls = calls;
+      kept = λ c. same_kept (kept_of c one.history) (kept_of c other.history) (kept_long c one.history other.history (calls c))
+          (both_keep (kept_of c one.history) (kept_of c other.history) ((back 0).kept c) ((there 0).kept c));
+      runs = λ a. (there a).runs;
+      dead = λ a. (there a).dead;
+    }

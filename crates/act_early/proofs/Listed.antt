@@ -1,7 +1,6 @@
 -- Lists of all callers and all actors, and going on for each of them.
 use Rattle.act_early.proofs.Common.{◌≡◌, ℕ, Bool, true, false, cond, List, [], ◌∷◌, ◌++◌, Some, refl, ◌∙◌, subst, ◌==◌, ◌||◌, map, find, AllByRecursion}
-use Rattle.act_early.proofs.Common.{list_any, eqb-true, list_any-append, Step, ActorSpec, contains, names, All_weaker, At, IsPlay, or_left}
-use Rattle.act_early.proofs.Worlds.{or_second}
+use Rattle.act_early.proofs.Common.{list_any, eqb-true, list_any-append, Step, ActorSpec, contains, names, All_weaker, At, IsPlay, some_cast, is_some}
 
 -- ---- all callers and all actors
 
@@ -27,31 +26,22 @@ caller_listed c (cast ∷ casts) e = list_any-append (λ m. m == c) cast.callers
     go true rest e = refl
     go false rest e = rest e
 
-pub named_caller : (c a : ℕ) (casts : List ActorSpec) → names c (find (λ (cast : ActorSpec). cast.actor == a) casts) ≡ true
-    → list_any (λ (cast : ActorSpec). contains c cast.callers) casts ≡ true
-named_caller c a [] e = cc
-named_caller c a (cast ∷ casts) e = go (cast.actor == a) (named_caller c a casts) e
+-- an actor with a cast is listed
+pub cast_listed : (a : ℕ) (casts : List ActorSpec) → is_some (find (λ (cast : ActorSpec). cast.actor == a) casts) ≡ true → contains a (all_actors casts) ≡ true
+cast_listed a [] e = cc
+cast_listed a (cast ∷ casts) e = go (cast.actor == a) (cast_listed a casts) e
   where
     Rest : Type 0
-    Rest = names c (find (λ (cast : ActorSpec). cast.actor == a) casts) ≡ true → list_any (λ (cast : ActorSpec). contains c cast.callers) casts ≡ true
+    Rest = is_some (find (λ (cast : ActorSpec). cast.actor == a) casts) ≡ true → contains a (all_actors casts) ≡ true
 
-    go : (x : Bool) → Rest → names c (cond x (Some cast) (find (λ (cast : ActorSpec). cast.actor == a) casts)) ≡ true
-        → (contains c cast.callers || list_any (λ (cast : ActorSpec). contains c cast.callers) casts) ≡ true
-    go true rest e = or_left (contains c cast.callers) (list_any (λ (cast : ActorSpec). contains c cast.callers) casts) e
-    go false rest e = or_second (contains c cast.callers) (list_any (λ (cast : ActorSpec). contains c cast.callers) casts) (rest e)
-
-pub actor_listed : (c a : ℕ) (casts : List ActorSpec) → names c (find (λ (cast : ActorSpec). cast.actor == a) casts) ≡ true
-    → contains a (all_actors casts) ≡ true
-actor_listed c a [] e = cc
-actor_listed c a (cast ∷ casts) e = go (cast.actor == a) (actor_listed c a casts) e
-  where
-    Rest : Type 0
-    Rest = names c (find (λ (cast : ActorSpec). cast.actor == a) casts) ≡ true → contains a (all_actors casts) ≡ true
-
-    go : (x : Bool) → Rest → names c (cond x (Some cast) (find (λ (cast : ActorSpec). cast.actor == a) casts)) ≡ true
+    go : (x : Bool) → Rest → is_some (cond x (Some cast) (find (λ (cast : ActorSpec). cast.actor == a) casts)) ≡ true
         → (x || contains a (all_actors casts)) ≡ true
     go true rest e = refl
     go false rest e = rest e
+
+pub actor_listed : (c a : ℕ) (casts : List ActorSpec) → names c (find (λ (cast : ActorSpec). cast.actor == a) casts) ≡ true
+    → contains a (all_actors casts) ≡ true
+actor_listed c a casts e = cast_listed a casts (some_cast c (find (λ (cast : ActorSpec). cast.actor == a) casts) e)
 
 -- what holds of each number of a list holds of any number that the list contains
 pub all_listed : (P : ℕ → Type 0) (xs : List ℕ) (x : ℕ) → AllByRecursion P xs → contains x xs ≡ true → P x

@@ -1,18 +1,16 @@
 -- A list of events that keeps to plans is a play of them.
 use Rattle.act_early.proofs.Common.{◌≡◌, ℕ, suc, Bool, true, false, List, [], ◌∷◌, ◌++◌, drop, Option, Some, None, inl, inr, refl, ap, sym, ◌∙◌, subst, arith}
 use Rattle.act_early.proofs.Common.{append_assoc, All, Contains, ◌==◌, slice_get, is_some, IsOk, AllByRecursion, eqb-true, eq-eqb, append-nil, Event}
-use Rattle.act_early.proofs.Common.{WorldRefusal, Step, Kill, Await, kept_at, ActorSpec, History, opening, contains, kept_of, history}
-use Rattle.act_early.proofs.Common.{refusal_of, outcome_by, outcome_of, outcomes, after, At, opened, steps_of, next_step, taken, skipped, with_event, is_free}
-use Rattle.act_early.proofs.Common.{IsPlay, Opens, Happens, is_step_by, DoesStepBy, DoesStepsBy, KeepsToPlans}
+use Rattle.act_early.proofs.Common.{WorldRefusal, Step, Kill, Await, kept_at, ActorSpec, History, opening, contains, kept_of, history, refusal_of, outcome_by}
+use Rattle.act_early.proofs.Common.{outcome_of, outcomes, after, At, opened, steps_of, next_step, taken, skipped, with_event, is_free, IsPlay, Opens, Happens}
+use Rattle.act_early.proofs.Common.{is_step_by, DoesStepBy, DoesStepsBy, KeepsToPlans, DeathPost, history_more}
 use Rattle.act_rules.specs.declared.event.Event.TheVariants as event
-use Rattle.act_rules.specs.declared.history.Post.TheVariants.{Death as DeathPost}
 use Rattle.act_early.proofs.Worlds.{world}
 use Rattle.act_early.proofs.Deaths.{collected_death}
 use Rattle.act_early.proofs.Listed.{all_callers, all_listed}
 use Rattle.act_early.proofs.Quiescent.{may_listed, named_as_listed}
 use Rattle.act_early.proofs.Shifting.{shift}
-use Rattle.act_early.proofs.Owning.{drop_none, closings, Left, next_is, rest_is, awaits, leaves_out, after_one, IsOwn, does_own}
-use Rattle.act_rules.proofs.Events.{history_more}
+use Rattle.act_early.proofs.Owning.{drop_none, closings, Left, next_is, rest_is, awaits, leaves_out, after_one, IsOwn, does_own, IsSilent}
 
 -- ---- after the last event
 
@@ -52,6 +50,15 @@ record IsFinished (specs : List ActorSpec) (plans : ℕ → List Step) (c : ℕ)
   done : next_step plans c q ≡ None
   others : (d : ℕ) → (c == d) ≡ false → steps_of d q ≡ steps_of d p
 
+-- so it is after a step that no event does
+later : (specs : List ActorSpec) (plans : ℕ → List Step) (c : ℕ) (before : List Event) (p q : At) → IsSilent specs plans c p q
+    → (r : At) × IsFinished specs plans c before q r → (r : At) × IsFinished specs plans c before p r
+later specs plans c before p q silent next =
+    let n = next.1 in (
+      next.0,
+      record { play = n.play; same = n.same ∙ silent.same; own = n.own; done = n.done; others = λ d differ. n.others d differ ∙ silent.one.others d differ },
+    )
+
 finish : (specs : List ActorSpec) (plans : ℕ → List Step) (c : ℕ) (before : List Event) (steps : List Step) (closing : List ℕ) (p : At)
     → IsPlay specs plans p → p.history ≡ history specs before → steps ≡ drop (steps_of c p) (plans c)
     → DoesStepsBy specs c (steps ++ closings closing) before [] → (q : At) × IsFinished specs plans c before p q
@@ -69,17 +76,8 @@ finish specs plans c before (Kill a ∷ steps) closing p play is left does =
     let s = silent_step specs c (Kill a) (steps ++ closings closing) before does in
     let silent = leaves_out specs plans c a before p play is (next_is plans c p (Kill a) steps left) (left_out s.does) in
     let q = skipped c p in
-    let next = finish specs plans c before steps closing q silent.play (silent.same ∙ is) (rest_is plans c p q (Kill a) steps silent.one left) s.rest in (
-      next.0,
-      record {
-        play = next.1.play;
-        same = next.1.same ∙ silent.same;
-        own = next.1.own;
-        done = next.1.done;
-        others =
-            λ d differ. next.1.others d differ ∙ silent.one.others d differ;
-      },
-    )
+    later specs plans c before p q silent
+    (finish specs plans c before steps closing q silent.play (silent.same ∙ is) (rest_is plans c p q (Kill a) steps silent.one left) s.rest)
   where
     left_out : DoesStepBy specs c (Kill a) before [] → Contains (history specs before).collected (DeathPost c a)
     left_out (inl asked) = absurd (no_event asked)
@@ -88,17 +86,8 @@ finish specs plans c before (Await k ∷ steps) closing p play is left does =
     let s = silent_step specs c (Await k) (steps ++ closings closing) before does in
     let silent = awaits specs plans c k before p play is (next_is plans c p (Await k) steps left) s.does.1 in
     let q = taken c (Await k) p in
-    let next = finish specs plans c before steps closing q silent.play (silent.same ∙ is) (rest_is plans c p q (Await k) steps silent.one left) s.rest in (
-      next.0,
-      record {
-        play = next.1.play;
-        same = next.1.same ∙ silent.same;
-        own = next.1.own;
-        done = next.1.done;
-        others =
-            λ d differ. next.1.others d differ ∙ silent.one.others d differ;
-      },
-    )
+    later specs plans c before p q silent
+    (finish specs plans c before steps closing q silent.play (silent.same ∙ is) (rest_is plans c p q (Await k) steps silent.one left) s.rest)
 finish specs plans c before (step ∷ steps) closing p play is left does = let s =
     silent_step specs c step (steps ++ closings closing) before does in absurd (no_event s.does)
 

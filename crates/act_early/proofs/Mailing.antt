@@ -1,20 +1,17 @@
 -- Each letter can be sent and delivered.
 use Rattle.act_early.proofs.Common.{◌≡◌, ℕ, zero, suc, ◌<◌, ◌≤◌, Bool, true, false, List, [], ◌∷◌, ◌++◌, length, Option, Some, None, inl, inr, ◌⊎◌, refl, ap}
 use Rattle.act_early.proofs.Common.{sym, ◌∙◌, subst, arith, ◌||◌, not, slice_get, option_map, is_some, AllByRecursion, list_all, cases_lt, slice_get_past}
-use Rattle.act_early.proofs.Common.{Letter, Submission, Step, Submit, Answer, NoCaller, Sending, calls_to, kept_at, is_known, needs}
-use Rattle.act_early.proofs.Common.{send_refusal, ActorSpec, History, under, is_caller, calls_of, copies_of, kept_of, is_ended, has_letter, refusal_of}
-use Rattle.act_early.proofs.Common.{add_event, and_also, letter_actor, call_letter, was_sent, deliver_refusal, slice_get_last, added_grows, At, MayTake}
-use Rattle.act_early.proofs.Common.{with_event, Happens}
+use Rattle.act_early.proofs.Common.{Letter, Submission, Step, Submit, Answer, NoCaller, Sending, calls_to, kept_at, is_known, needs, send_refusal, ActorSpec}
+use Rattle.act_early.proofs.Common.{History, under, is_caller, calls_of, copies_of, kept_of, is_ended, has_letter, refusal_of, add_event, and_also}
+use Rattle.act_early.proofs.Common.{letter_actor, call_letter, was_sent, deliver_refusal, slice_get_last, added_grows, At, MayTake, with_event, Happens}
+use Rattle.act_early.proofs.Common.{NoteLetter, named_among, has_front, has_last, letter_place, named_call}
 use Rattle.act_rules.specs.declared.event.Event.TheVariants as event
-use Rattle.act_rules.specs.declared.history.Letter.TheVariants.{Note as NoteLetter}
 use Rattle.act_early.proofs.Worlds.{world, or_second}
 use Rattle.act_early.proofs.Quiesces.{Quiesces, quiesces_same, quiesces_trans, quiet_quiesces}
-use Rattle.act_early.proofs.Listed.{all_callers, all_actors, named_caller, IsOpen, IsWay, Comes, for_each, for_all}
+use Rattle.act_early.proofs.Listed.{all_callers, all_actors, IsOpen, IsWay, Comes, for_each, for_all}
 use Rattle.act_early.proofs.Stepping.{IsStuck}
 use Rattle.act_early.proofs.Closing.{IsClosed}
 use Rattle.act_early.proofs.Notes.{notes_sent}
-use Rattle.act_rules.proofs.Letters.{has_front, has_last, letter_place}
-use Rattle.act_rules.proofs.RanAll.{named_call}
 
 abbrev pub IsSent : At → ℕ → ℕ → Type 0
 IsSent p c k = (call : Submission) → slice_get (calls_of c p.history) k ≡ Some call → kept_at (kept_of c p.history) k ≡ None
@@ -139,7 +136,13 @@ send_one specs plans p begun c k = go (slice_get (calls_of c h) k) refl
     sends : (call : Submission) → slice_get (calls_of c h) k ≡ Some call → kept_at (kept_of c h) k ≡ None
         → list_all (is_known (kept_of c h)) call.args ≡ true → is_ended call.actor h ≡ false → Goal
     sends call at none known live =
-        let caller : is_caller c h ≡ true = named_caller c call.actor h.casts (named_call h c k call (world specs plans p begun.play).retires.named at) in
+        let allowed : (b sent : Bool) (o : Option Submission) (call : Submission) → b ≡ true → o ≡ Some call
+        → list_all (is_known (kept_of c h)) call.args ≡ true
+        → kept_at (kept_of c h) k ≡ None → needs b NoCaller (option_map Sending (send_refusal (kept_of c h) k sent o)) ≡ None =
+        λ b sent o call caller at known none. let free : (sent || not (is_some (kept_at (kept_of c h) k))) ≡ true =
+        or_second sent (not (is_some (kept_at (kept_of c h) k))) (ap (λ (o : Option Answer). not (is_some o)) none) in
+        rw (caller, at, known, free) refl in
+        let caller : is_caller c h ≡ true = named_among c call.actor h.casts (named_call h c k call (world specs plans p begun.play).retires.named at) in
         let letter = call_letter c k call h in
         let may : refusal_of h (event.Send c k) ≡ None =
         allowed (is_caller c h) (was_sent c k (slice_get (calls_of c h) k) h) (slice_get (calls_of c h) k) call caller at known none in
@@ -155,13 +158,6 @@ send_one specs plans p begun c k = go (slice_get (calls_of c h) k) refl
           (mailing specs plans).joins p q r first second.0,
           λ other there _ _ _. subst (λ (s : Submission). has_letter (call_letter c k s h) r.history.arrived ≡ true) (sym (one call other at there)) second.1,
         )
-      where
-        allowed : (b sent : Bool) (o : Option Submission) (call : Submission) → b ≡ true → o ≡ Some call → list_all (is_known (kept_of c h)) call.args ≡ true
-            → kept_at (kept_of c h) k ≡ None → needs b NoCaller (option_map Sending (send_refusal (kept_of c h) k sent o)) ≡ None
-        allowed b sent o call caller at known none =
-            let free : (sent || not (is_some (kept_at (kept_of c h) k))) ≡ true =
-            or_second sent (not (is_some (kept_at (kept_of c h) k))) (ap (λ (o : Option Answer). not (is_some o)) none) in
-            rw (caller, at, known, free) refl
 
     known_or : (call : Submission) (x y : Bool) (o : Option Answer) → slice_get (calls_of c h) k ≡ Some call → kept_at (kept_of c h) k ≡ o
         → list_all (is_known (kept_of c h)) call.args ≡ x → is_ended call.actor h ≡ y → Goal

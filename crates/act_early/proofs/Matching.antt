@@ -1,16 +1,14 @@
 -- A quiescent play with the same choices keeps each answer that the late play keeps.
-use Rattle.act_early.proofs.Common.{◌≡◌, ℕ, ◌≤◌, Bool, true, false, List, length, Option, Some, None, refl, ap, sym, ◌∙◌, subst, ◌==◌, ◌||◌, filter_map}
+use Rattle.act_early.proofs.Common.{◌≡◌, ℕ, ◌≤◌, Bool, true, false, List, length, Option, Some, None, refl, ap, sym, ◌∙◌, subst, ◌==◌, filter_map, same_Some}
 use Rattle.act_early.proofs.Common.{slice_get, option_map, option_and_then, find, Err, filter_map-append, slice_get-map, KindState, ActorDied, RunItem}
 use Rattle.act_early.proofs.Common.{Submission, Step, Answer, answer_at, has_terminated, kept_at, ActorSpec, History, contains, runs_of, calls_of, kept_of}
-use Rattle.act_early.proofs.Common.{opening_of, is_dead, IsPrefix, IsCallToDead, slice_get_front, answer_at-front, Extends, answers_are, deaths_are}
-use Rattle.act_early.proofs.Common.{held_submission, At, steps_of, is_reply, is_heard, choices_of, IsQuiescent}
-use Rattle.act_early.proofs.Worlds.{IsWorld, either_of, or_second}
+use Rattle.act_early.proofs.Common.{opening_of, is_dead, IsPrefix, slice_get_front, answer_at-front, Extends, answers_are, deaths_are, or_left, held_submission}
+use Rattle.act_early.proofs.Common.{At, steps_of, is_reply, is_heard, choices_of, IsQuiescent, false_from_ne_true, front_whole, named_call}
+use Rattle.act_early.proofs.Worlds.{IsWorld, either_of, or_second, not_so}
 use Rattle.act_early.proofs.Counting.{take-prefix}
 use Rattle.act_early.proofs.Progress.{Follows, submission_in}
 use Rattle.act_early.proofs.Replies.{reply_some, reply_alive, reply_died, death_answers}
 use Rattle.act_early.proofs.Earlier.{IsEarlier}
-use Rattle.act_rules.proofs.Lists.{front_whole}
-use Rattle.act_rules.proofs.RanAll.{named_call}
 
 -- the play is a front of the late one, and the early one has made at least the same choices as it
 pub record Matches (play early late : History) : Type 0 where
@@ -46,13 +44,9 @@ pub dead_ahead : (a : ℕ) (play early late : At) → Matches play.history early
     → is_dead a early.history ≡ true
 dead_ahead a play early late m ahead dead =
     either_of (contains a play.history.killed) (has_terminated (runs_of a play.history)) (is_dead a early.history ≡ true) dead
-    (λ killed. first (contains a early.history.killed) (has_terminated (runs_of a early.history)) (m.killed a killed))
+    (λ killed. or_left (contains a early.history.killed) (has_terminated (runs_of a early.history)) (m.killed a killed))
     (λ ended. or_second (contains a early.history.killed) (has_terminated (runs_of a early.history))
     (ap has_terminated (sym (dead_runs a play early late m ahead dead)) ∙ ended))
-  where
-    first : (x y : Bool) → x ≡ true → (x || y) ≡ true
-    first true y e = refl
-    first false y e = cc
 
 -- ---- what was heard
 
@@ -135,50 +129,31 @@ reply_ahead specs plans play early late c k answer w m ahead e reply =
 death_ahead : (specs : List ActorSpec) (plans : ℕ → List Step) (play early late : At) (c k : ℕ) → AreWorlds specs plans play early late
     → Matches play.history early.history late.history → IsAhead play early
     → kept_at (kept_of c play.history) k ≡ Some (Err ActorDied) → kept_at (kept_of c early.history) k ≡ Some (Err ActorDied)
-death_ahead specs plans play early late c k w m ahead e = go (is_reply (Some some.0)) refl
-  where
-    from : IsCallToDead (λ x. calls_of x play.history) (λ x. is_dead x play.history) c k
-    from = deaths_are play.history c k w.play.sound e
-
-    call : Submission
-    call = from.call
-
-    b : ℕ
-    b = call.actor
-
-    there : slice_get (calls_of c early.history) k ≡ Some call
-    there = slice_get_front (calls_of c play.history) (calls_of c early.history) k call
-        (calls_ahead plans c play early (w.moves c) (w.goes c) (ahead.steps c)) from.at
-
-    some : (answer : Answer) × (kept_at (kept_of c early.history) k ≡ Some answer)
-    some = death_answers early.history c k call there
-        (w.quiescent.told c b (dead_ahead b play early late m ahead from.dead) (named_call early.history c k call w.early.retires.named there))
-
+death_ahead specs plans play early late c k w m ahead e =
+    let from = deaths_are play.history c k w.play.sound e in
+    let b = from.call.actor in
+    let there : slice_get (calls_of c early.history) k ≡ Some from.call =
+    slice_get_front (calls_of c play.history) (calls_of c early.history) k from.call
+    (calls_ahead plans c play early (w.moves c) (w.goes c) (ahead.steps c)) from.at in
+    let some = death_answers early.history c k from.call there
+    (w.quiescent.told c b (dead_ahead b play early late m ahead from.dead) (named_call early.history c k from.call w.early.retires.named there)) in
     -- no reply was heard of it in the late play, so none in the early one
-    none : is_reply (Some some.0) ≡ true → ⊥
-    none alive =
-        let own = answers_are early.history c k some.0 w.early.sound some.1 (reply_alive some.0 alive) in
-        let held = held_submission early.history own.actor c k own.place own.item w.early.sound.order own.at own.caller own.future in
-        let calls : Some held.0 ≡ Some call = sym held.1 ∙ there in
-        let same : held.0 ≡ call = cc in
-        let actor : own.actor ≡ b = sym held.2 ∙ ap (λ (s : Submission). s.actor) same in
-        let at : slice_get (runs_of b early.history) own.place ≡ Some own.item =
-        subst (λ (x : ℕ). slice_get (runs_of x early.history) own.place ≡ Some own.item) actor own.at in
-        let ran : slice_get (runs_of b play.history) own.place ≡ Some own.item =
-        ap (λ (items : List RunItem). slice_get items own.place) (dead_runs b play early late m ahead from.dead) ∙ at in
-        let later : slice_get (runs_of b late.history) own.place ≡ Some own.item =
-        slice_get_front (runs_of b play.history) (runs_of b late.history) own.place own.item (m.before.runs b) ran in
-        let heard : is_heard early.history own.item ≡ true = heard_is early.history c k own.item own.caller own.future ∙ ap is_reply some.1 ∙ alive in
-        let yes : is_heard late.history own.item ≡ true =
-        sym (same_choice early.history late.history b own.place own.item own.item (m.choices b) at later).1 ∙ heard in
-        let no : is_heard late.history own.item ≡ false =
-        heard_is late.history c k own.item own.caller own.future ∙ ap is_reply (m.before.kept c k (Err ActorDied) e) in
-        let bad : true ≡ false = sym yes ∙ no in
-        cc
-
-    go : (x : Bool) → is_reply (Some some.0) ≡ x → kept_at (kept_of c early.history) k ≡ Some (Err ActorDied)
-    go true alive = absurd (none alive)
-    go false died = some.1 ∙ ap (λ (x : Answer). Some x) (reply_died some.0 died)
+    let none : is_reply (Some some.0) ≡ true → ⊥ = λ alive.
+    let own = answers_are early.history c k some.0 w.early.sound some.1 (reply_alive some.0 alive) in
+    let held = held_submission early.history own.actor c k own.place own.item w.early.sound.order own.at own.caller own.future in
+    let actor : own.actor ≡ b = sym held.2 ∙ ap (λ (s : Submission). s.actor) (same_Some held.0 from.call (sym held.1 ∙ there)) in
+    let at : slice_get (runs_of b early.history) own.place ≡ Some own.item =
+    subst (λ (x : ℕ). slice_get (runs_of x early.history) own.place ≡ Some own.item) actor own.at in
+    let ran : slice_get (runs_of b play.history) own.place ≡ Some own.item =
+    ap (λ (items : List RunItem). slice_get items own.place) (dead_runs b play early late m ahead from.dead) ∙ at in
+    let later : slice_get (runs_of b late.history) own.place ≡ Some own.item =
+    slice_get_front (runs_of b play.history) (runs_of b late.history) own.place own.item (m.before.runs b) ran in
+    let heard : is_heard early.history own.item ≡ true = heard_is early.history c k own.item own.caller own.future ∙ ap is_reply some.1 ∙ alive in
+    let yes : is_heard late.history own.item ≡ true =
+    sym (same_choice early.history late.history b own.place own.item own.item (m.choices b) at later).1 ∙ heard in
+    not_so (is_heard late.history own.item) yes
+    (heard_is late.history c k own.item own.caller own.future ∙ ap is_reply (m.before.kept c k (Err ActorDied) e)) in
+    some.1 ∙ ap (λ (x : Answer). Some x) (reply_died some.0 (false_from_ne_true (is_reply (Some some.0)) none))
 
 -- where the play matches the early and the late one, and the early one is ahead, this keeps each answer of the play
 pub kept_ahead : (specs : List ActorSpec) (plans : ℕ → List Step) (play early late : At) (c : ℕ) → AreWorlds specs plans play early late

@@ -1,11 +1,9 @@
 -- A caller that holds no copy of a handle sent its note.
 use Rattle.act_early.proofs.Common.{◌≡◌, ℕ, zero, suc, ◌+◌, ◌-◌, Bool, true, false, cond, List, [], ◌∷◌, ◌++◌, length, Option, Some, None, refl, ap, sym, ◌∙◌}
-use Rattle.act_early.proofs.Common.{subst, arith, ◌==◌, ◌&&◌, find, eqb-true, eq-eqb, and_parts, Event, RunItem}
-use Rattle.act_early.proofs.Common.{Submission, Step, calls_to, copies_held, ActorSpec, History, opening, names, cast_of, count_pairs, calls_of}
-use Rattle.act_early.proofs.Common.{copies_of, has_letter, next_item, add_event, and_also, after_run, is_last, IsKept, added_grows}
-use Rattle.act_early.proofs.Common.{times-push, gone_step, At, IsPlay, has_front, has_last}
+use Rattle.act_early.proofs.Common.{subst, arith, ◌==◌, ◌&&◌, find, eqb-true, eq-eqb, and_parts, Event, RunItem, Submission, Step, calls_to, copies_held}
+use Rattle.act_early.proofs.Common.{ActorSpec, History, opening, names, cast_of, count_pairs, calls_of, copies_of, has_letter, next_item, add_event, and_also}
+use Rattle.act_early.proofs.Common.{after_run, is_last, IsKept, added_grows, times-push, gone_step, At, IsPlay, has_front, has_last, NoteLetter}
 use Rattle.act_rules.specs.declared.event.Event.TheVariants as event
-use Rattle.act_rules.specs.declared.history.Letter.TheVariants.{Note as NoteLetter}
 use Rattle.act_early.proofs.Worlds.{play_keeps}
 
 -- ---- each note is sent

@@ -1,14 +1,13 @@
 -- In a list that keeps to plans, a caller's own event is its next step.
 use Rattle.act_early.proofs.Common.{◌≡◌, ℕ, zero, suc, ◌+◌, Bool, true, false, cond, List, [], ◌∷◌, ◌++◌, drop, Some, None, inl, inr, refl, ap, sym, ◌∙◌, subst}
-use Rattle.act_early.proofs.Common.{arith, Contains, ◌==◌, map, slice_get, is_some, eq-eqb, append-nil, Event, Step, Submit, Copy, Release, Kill, Await}
-use Rattle.act_early.proofs.Common.{kept_at, occurrences, ActorSpec, History, kept_of, history, refusal_of, add_event, after_by, At, steps_of, next_step}
-use Rattle.act_early.proofs.Common.{after_step, MayTake, taken, skipped, with_event, IsPlay, Takes, Skips, Closes, is_step_by, AreOthers, DoesStepsBy}
+use Rattle.act_early.proofs.Common.{arith, Contains, ◌==◌, map, slice_get, is_some, eq-eqb, append-nil, Event, Step, Release, Kill, Await, kept_at, occurrences}
+use Rattle.act_early.proofs.Common.{ActorSpec, History, kept_of, history, refusal_of, add_event, after_by, At, steps_of, next_step, after_step, MayTake, taken}
+use Rattle.act_early.proofs.Common.{skipped, with_event, IsPlay, Takes, Skips, Closes, is_step_by, AreOthers, DoesStepsBy, DeathPost, history_more}
 use Rattle.act_rules.specs.declared.event.Event.TheVariants as event
-use Rattle.act_rules.specs.declared.history.Post.TheVariants.{Death as DeathPost}
 use Rattle.act_early.proofs.Counting.{occurrences-push}
 use Rattle.act_early.proofs.Deaths.{collected_death}
 use Rattle.act_early.proofs.Shifting.{head_same, tail_same, others_first}
-use Rattle.act_rules.proofs.Events.{history_more}
+use Rattle.act_early.proofs.Worlds.{event_of}
 
 -- ---- what is left of a plan
 
@@ -102,26 +101,32 @@ behind specs c steps before done later other events is one does =
     (subst (λ (l : List Event). DoesStepsBy specs c steps l later)
     (ap (λ (l : List Event). l ++ done) (append-nil before) ∙ ap (λ (l : List Event). before ++ l) one) does)
 
+-- by the event that does it the step is known
+own_of : (other own : Event) (events done later : List Event) → other ∷ events ≡ done ++ later → done ≡ own ∷ [] → other ≡ own
+own_of other own events done later is one = head_same other own events later (is ∙ ap (λ (l : List Event). l ++ later) one)
+
 -- a step by its event
 takes_one : (specs : List ActorSpec) (plans : ℕ → List Step) (c : ℕ) (step : Step) (steps : List Step) (closing : List ℕ) (before done later : List Event)
     (other : Event) (events : List Event) (p : At) → IsPlay specs plans p → p.history ≡ history specs before
-    → step ∷ steps ≡ drop (steps_of c p) (plans c) → MayTake c step p.history → add_event p.history other ≡ after_step c step p.history
-    → refusal_of (history specs before) other ≡ None
-    → other ∷ events ≡ done ++ later → done ≡ other ∷ [] → DoesStepsBy specs c (steps ++ closings closing) ((before ++ []) ++ done) later
+    → step ∷ steps ≡ drop (steps_of c p) (plans c) → ((h : History) → refusal_of h (event_of c step) ≡ None → MayTake c step h)
+    → ((h : History) → add_event h (event_of c step) ≡ after_step c step h) → refusal_of (history specs before) other ≡ None
+    → other ∷ events ≡ done ++ later → done ≡ event_of c step ∷ [] → DoesStepsBy specs c (steps ++ closings closing) ((before ++ []) ++ done) later
     → (q : At) × IsOwn specs plans c before other events p q
 takes_one specs plans c step steps closing before done later other events p play is left may adds accepted split one does =
     let q = taken c step p in
-    let more = further c p q refl in (
+    let more = further c p q refl in
+    let same = own_of other (event_of c step) events done later split one in
+    let taken_now : refusal_of p.history (event_of c step) ≡ None = rw (is, ← same) accepted in (
       q,
       record {
-        play = Takes p c step play (next_is plans c p step steps left) may;
-        left = sym adds ∙ after_one specs before other p.history is accepted;
+        play = Takes p c step play (next_is plans c p step steps left) (may p.history taken_now);
+        left = sym (ap (add_event p.history) same ∙ adds p.history) ∙ after_one specs before other p.history is accepted;
         own = record {
           steps = steps;
           closing = closing;
           is = rest_is plans c p q step steps more left;
           does =
-              behind specs c (steps ++ closings closing) before done later other events split one does;
+              behind specs c (steps ++ closings closing) before done later other events split (one ∙ ap (λ (x : Event). x ∷ []) (sym same)) does;
         };
         others = more.others;
       },
@@ -151,10 +156,6 @@ none_first specs plans c before p x other first done later events is others own 
     let bad : true ≡ false = sym own ∙ ap (is_step_by c) same ∙ others_first c x first others in
     cc
 
--- by the event that does it the step is known
-own_of : (other own : Event) (events done later : List Event) → other ∷ events ≡ done ++ later → done ≡ own ∷ [] → other ≡ own
-own_of other own events done later is one = head_same other own events later (is ∙ ap (λ (l : List Event). l ++ later) one)
-
 -- what stands behind a step that no event does
 quiet_rest : (specs : List ActorSpec) (c : ℕ) (steps : List Step) (before done later : List Event) (other : Event) (events : List Event)
     → other ∷ events ≡ done ++ later → done ≡ [] → DoesStepsBy specs c steps ((before ++ []) ++ done) later → DoesStepsBy specs c steps before (other ∷ events)
@@ -176,39 +177,21 @@ does_own specs plans c before other events own accepted [] (a ∷ closing) p pla
     closes_one specs plans c a closing before done later other events p play is left same accepted split (does ∙ ap (λ (x : Event). x ∷ []) (sym same)) rest
 does_own specs plans c before other events own accepted (step ∷ steps) closing p play is left (x ∷ first, done, later, split, others, does, rest) =
     none_first specs plans c before p x other first done later events split others own
-does_own specs plans c before other events own accepted (Submit a method args ∷ steps) closing p play is left ([], done, later, split, others, does, rest) =
-    let same = own_of other (event.Submit c a method args) events done later split does in
-    takes_one specs plans c (Submit a method args) steps closing before done later other events p play is left
-    (ap (λ (h : History). refusal_of h (event.Submit c a method args)) is ∙ ap (refusal_of (history specs before)) (sym same) ∙ accepted)
-    (ap (add_event p.history) same) accepted split (does ∙ ap (λ (x : Event). x ∷ []) (sym same)) rest
-does_own specs plans c before other events own accepted (Copy a ∷ steps) closing p play is left ([], done, later, split, others, does, rest) =
-    let same = own_of other (event.Copy c a) events done later split does in
-    takes_one specs plans c (Copy a) steps closing before done later other events p play is left
-    (ap (λ (h : History). refusal_of h (event.Copy c a)) is ∙ ap (refusal_of (history specs before)) (sym same) ∙ accepted)
-    (ap (add_event p.history) same) accepted split (does ∙ ap (λ (x : Event). x ∷ []) (sym same)) rest
-does_own specs plans c before other events own accepted (Release a ∷ steps) closing p play is left ([], done, later, split, others, does, rest) =
-    let same = own_of other (event.Release c a) events done later split does in
-    takes_one specs plans c (Release a) steps closing before done later other events p play is left
-    (ap (λ (h : History). refusal_of h (event.Release c a)) is ∙ ap (refusal_of (history specs before)) (sym same) ∙ accepted)
-    (ap (add_event p.history) same) accepted split (does ∙ ap (λ (x : Event). x ∷ []) (sym same)) rest
 does_own specs plans c before other events own accepted (Kill a ∷ steps) closing p play is left ([], done, later, split, others, inl asked, rest) =
-    let same = own_of other (event.AskKill c a) events done later split asked in
-    takes_one specs plans c (Kill a) steps closing before done later other events p play is left
-    (ap (λ (h : History). refusal_of h (event.AskKill c a)) is ∙ ap (refusal_of (history specs before)) (sym same) ∙ accepted)
-    (ap (add_event p.history) same) accepted split (asked ∙ ap (λ (x : Event). x ∷ []) (sym same)) rest
+    takes_one specs plans c (Kill a) steps closing before done later other events p play is left (λ h may. may) (λ h. refl) accepted split asked rest
 does_own specs plans c before other events own accepted (Kill a ∷ steps) closing p play is left ([], done, later, split, others, inr dead, rest) =
     let silent = leaves_out specs plans c a before p play is (next_is plans c p (Kill a) steps left)
     (subst (λ (l : List Event). Contains (history specs l).collected (DeathPost c a)) (append-nil before) dead.1) in
-    let q = skipped c p in
-    let next = does_own specs plans c before other events own accepted steps closing q silent.play (silent.same ∙ is)
-    (rest_is plans c p q (Kill a) steps silent.one left)
+    let next = does_own specs plans c before other events own accepted steps closing (skipped c p) silent.play (silent.same ∙ is)
+    (rest_is plans c p (skipped c p) (Kill a) steps silent.one left)
     (quiet_rest specs c (steps ++ closings closing) before done later other events split dead.0 rest) in
     (next.0, record { play = next.1.play; left = next.1.left; own = next.1.own; others = λ d differ. next.1.others d differ ∙ silent.one.others d differ })
 does_own specs plans c before other events own accepted (Await k ∷ steps) closing p play is left ([], done, later, split, others, does, rest) =
     let silent = awaits specs plans c k before p play is (next_is plans c p (Await k) steps left)
     (ap (λ (l : List Event). is_some (kept_at (kept_of c (history specs l)) k)) (sym (append-nil before)) ∙ does.1) in
-    let q = taken c (Await k) p in
-    let next = does_own specs plans c before other events own accepted steps closing q silent.play (silent.same ∙ is)
-    (rest_is plans c p q (Await k) steps silent.one left)
+    let next = does_own specs plans c before other events own accepted steps closing (taken c (Await k) p) silent.play (silent.same ∙ is)
+    (rest_is plans c p (taken c (Await k) p) (Await k) steps silent.one left)
     (quiet_rest specs c (steps ++ closings closing) before done later other events split does.0 rest) in
     (next.0, record { play = next.1.play; left = next.1.left; own = next.1.own; others = λ d differ. next.1.others d differ ∙ silent.one.others d differ })
+does_own specs plans c before other events own accepted (step ∷ steps) closing p play is left ([], done, later, split, others, does, rest) =
+    takes_one specs plans c step steps closing before done later other events p play is left (λ h may. may) (λ h. refl) accepted split does rest

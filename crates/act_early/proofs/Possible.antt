@@ -1,12 +1,12 @@
 -- What the late play may choose, a quiescent play with the same choices so far may choose.
-use Rattle.act_early.proofs.Common.{◌≡◌, ℕ, ◌≤◌, Bool, true, false, List, length, Option, Some, None, refl, ap, sym, ◌∙◌, subst, ◌==◌, ◌||◌, find, map}
-use Rattle.act_early.proofs.Common.{slice_get, is_some, list_all, list_any, list_any-append, Settled, RunItem, Submission, Letter, Step, is_kill_of, calls_to}
-use Rattle.act_early.proofs.Common.{number_of, kept_at, is_known, settle, ActorSpec, History, contains, names, is_caller, cast_of, runs_of, calls_of, kept_of}
-use Rattle.act_early.proofs.Common.{is_dead, is_retired, is_ended, has_letter, ran_count, next_item, refusal_of, call_letter, items_of, IsPrefix}
-use Rattle.act_early.proofs.Common.{slice_get_front, calls_to_grow, run_needs, Extends, arguments_stay, calls_to-at, At, steps_of, IsPlay, IsQuiescent, IsSound}
+use Rattle.act_early.proofs.Common.{◌≡◌, ℕ, ◌≤◌, Bool, true, false, List, length, Option, Some, None, refl, ap, sym, ◌∙◌, subst, ◌==◌, find, map, slice_get}
+use Rattle.act_early.proofs.Common.{is_some, list_all, list_any, list_any-append, Settled, RunItem, Submission, Letter, Step, is_kill_of, calls_to, number_of}
+use Rattle.act_early.proofs.Common.{kept_at, is_known, settle, ActorSpec, contains, names, is_caller, cast_of, runs_of, calls_of, kept_of, is_dead, is_retired}
+use Rattle.act_early.proofs.Common.{is_ended, has_letter, ran_count, next_item, refusal_of, call_letter, items_of, IsPrefix, or_from, slice_get_front}
+use Rattle.act_early.proofs.Common.{calls_to_grow, run_needs, Extends, arguments_stay, calls_to-at, At, steps_of, IsPlay, IsQuiescent, IsSound, or_left}
+use Rattle.act_early.proofs.Common.{CallLetter}
 use Rattle.act_rules.specs.declared.event.Event.TheVariants as event
-use Rattle.act_rules.specs.declared.history.Letter.TheVariants.{Call as CallLetter}
-use Rattle.act_early.proofs.Worlds.{take_needs}
+use Rattle.act_early.proofs.Worlds.{take_needs, either_of, not_so, not_dead}
 use Rattle.act_early.proofs.Counting.{done_steps, take-prefix}
 use Rattle.act_early.proofs.Asking.{asks_all, asked_by}
 use Rattle.act_early.proofs.Items.{IsReady}
@@ -26,12 +26,7 @@ pub record IsReached (a : ℕ) (play early : At) : Type 0 where
 pub lives : (plans : ℕ → List Step) (a : ℕ) (play early : At) → IsReached a play early → IsQuiescent plans early → is_ended a play.history ≡ false
     → is_ended a early.history ≡ false
 lives plans a play early r quiescent live =
-    ap (λ (b : Bool). b || is_retired a early.history) r.dead ∙ ap (λ (xs : List ℕ). is_dead a play.history || contains a xs) quiescent.live
-    ∙ go (is_dead a play.history) (is_retired a play.history) live
-  where
-    go : (x y : Bool) → (x || y) ≡ false → (x || false) ≡ false
-    go false y e = refl
-    go true y e = cc
+    or_from (is_dead a early.history) (is_retired a early.history) (r.dead ∙ not_dead a play.history live) (ap (contains a) quiescent.live)
 
 same_cast : (a : ℕ) (play early : At) → IsReached a play early → cast_of a early.history ≡ cast_of a play.history
 same_cast a play early r = ap (λ (l : List ActorSpec). find (λ (cast : ActorSpec). cast.actor == a) l) r.casts
@@ -50,54 +45,32 @@ may_run plans a c play early r quiescent e =
 pub runs_alike : (plans : ℕ → List Step) (a c : ℕ) (item : RunItem) (play early : At) → IsSound early.history → IsReached a play early
     → IsQuiescent plans early → is_ended a play.history ≡ false → IsReady a c play.history item → next_item a c early.history ≡ Some item
 runs_alike plans a c item play early sound r quiescent live is =
+    let g = early.history in
+    let n = ran_count c a play.history in
+    let call : ℕ × Submission = is.next.call in
+    let with_args : List Settled → RunItem = λ args. record { caller = c; number = n; future = call.0; method = call.1.method; args = args } in
+    let same_count : ran_count c a g ≡ n = ap (λ (items : List RunItem). length (items_of c items)) r.runs in
+    let at : slice_get (calls_to a (calls_of c g)) n ≡ Some call =
+    slice_get_front (calls_to a (calls_of c play.history)) (calls_to a (calls_of c g)) n call
+    (calls_to_grow a (calls_of c play.history) (calls_of c g) (r.calls c)) is.next.at in
+    let stands : (slice_get (calls_of c g) call.0 ≡ Some call.1) × (call.1.actor ≡ a) = let s = calls_to-at a (calls_of c g) n call at in (s.at, s.actor) in
+    let settled_args : (list_all (is_known (kept_of c g)) call.1.args ≡ true)
+    × (map (settle (kept_of c g)) call.1.args ≡ map (settle (kept_of c play.history)) call.1.args) =
+    arguments_stay (kept_of c play.history) (kept_of c g) (r.kept c) call.1.args is.known in
+    let unanswered : kept_at (kept_of c g) call.0 ≡ None =
+    next_unanswered g a c call sound (ap (λ (m : ℕ). slice_get (calls_to a (calls_of c g)) m) same_count ∙ at) (lives plans a play early r quiescent live) in
+    let letter : call_letter c call.0 call.1 g ≡ CallLetter c a n =
+    ap (λ (b : ℕ). CallLetter c b (number_of b call.0 (calls_of c g))) stands.1 ∙ ap (CallLetter c a) (number_is a n (calls_of c g) call at) in
+    let arrived : has_letter (CallLetter c a n) g.arrived ≡ true =
+    subst (λ (l : Letter). has_letter l g.arrived ≡ true) letter
+    (quiescent.sent c call.0 call.1 stands.0 unanswered settled_args.0
+    (subst (λ (b : ℕ). is_ended b g ≡ false) (sym stands.1) (lives plans a play early r quiescent live))) in
     rw (same_count, arrived, at) (ap (λ (i : RunItem). Some i) (ap with_args (settled_args.1)) ∙ ap (λ (i : RunItem). Some i) is.next.is)
-  where
-    g : History
-    g = early.history
-
-    n : ℕ
-    n = ran_count c a play.history
-
-    call : ℕ × Submission
-    call = is.next.call
-
-    with_args : List Settled → RunItem
-    with_args args = record { caller = c; number = n; future = call.0; method = call.1.method; args = args }
-
-    same_count : ran_count c a g ≡ n
-    same_count = ap (λ (items : List RunItem). length (items_of c items)) r.runs
-
-    at : slice_get (calls_to a (calls_of c g)) n ≡ Some call
-    at = slice_get_front (calls_to a (calls_of c play.history)) (calls_to a (calls_of c g)) n call
-        (calls_to_grow a (calls_of c play.history) (calls_of c g) (r.calls c)) is.next.at
-
-    stands : (slice_get (calls_of c g) call.0 ≡ Some call.1) × (call.1.actor ≡ a)
-    stands = let s = calls_to-at a (calls_of c g) n call at in (s.at, s.actor)
-
-    settled_args : (list_all (is_known (kept_of c g)) call.1.args ≡ true)
-        × (map (settle (kept_of c g)) call.1.args ≡ map (settle (kept_of c play.history)) call.1.args)
-    settled_args = arguments_stay (kept_of c play.history) (kept_of c g) (r.kept c) call.1.args is.known
-
-    unanswered : kept_at (kept_of c g) call.0 ≡ None
-    unanswered = next_unanswered g a c call sound (ap (λ (m : ℕ). slice_get (calls_to a (calls_of c g)) m) same_count ∙ at)
-        (lives plans a play early r quiescent live)
-
-    letter : call_letter c call.0 call.1 g ≡ CallLetter c a n
-    letter = ap (λ (b : ℕ). CallLetter c b (number_of b call.0 (calls_of c g))) stands.1 ∙ ap (CallLetter c a) (number_is a n (calls_of c g) call at)
-
-    arrived : has_letter (CallLetter c a n) g.arrived ≡ true
-    arrived = subst (λ (l : Letter). has_letter l g.arrived ≡ true) letter
-        (quiescent.sent c call.0 call.1 stands.0 unanswered settled_args.0
-        (subst (λ (b : ℕ). is_ended b g ≡ false) (sym stands.1) (lives plans a play early r quiescent live)))
 
 -- ---- a kill
 
 any_front : (p : Step → Bool) (xs ys : List Step) → IsPrefix xs ys → list_any p xs ≡ true → list_any p ys ≡ true
-any_front p xs ys f e = subst (λ (l : List Step). list_any p l ≡ true) f.1 (list_any-append p xs f.0 ∙ first (list_any p xs) (list_any p f.0) e)
-  where
-    first : (x y : Bool) → x ≡ true → (x || y) ≡ true
-    first true y e = refl
-    first false y e = cc
+any_front p xs ys f e = subst (λ (l : List Step). list_any p l ≡ true) f.1 (list_any-append p xs f.0 ∙ or_left (list_any p xs) (list_any p f.0) e)
 
 -- an actor whose kill isn't refused in the play isn't refused it in a quiescent play that has reached it there
 pub may_kill : (specs : List ActorSpec) (plans : ℕ → List Step) (a : ℕ) (play early : At) → IsPlay specs plans play → IsPlay specs plans early
@@ -111,10 +84,6 @@ may_kill specs plans a play early is goes r quiescent e =
     let front : IsPrefix (done_steps plans by.0 play) (done_steps plans by.0 early) =
     take-prefix (plans by.0) (steps_of by.0 play) (steps_of by.0 early) (r.steps by.0) in
     let there = asks_all specs plans a early goes by.0 (any_front (is_kill_of a) (done_steps plans by.0 play) (done_steps plans by.0 early) front by.1) in
-    let asked : contains a early.history.asked ≡ true = go (contains a early.history.asked) (is_dead a early.history) (is_retired a early.history) there live in
+    let asked = either_of (contains a early.history.asked) (is_dead a early.history) (contains a early.history.asked ≡ true) there (λ e. e)
+    (λ dead. absurd (not_so (is_dead a early.history) dead (not_dead a early.history live))) in
     rw (cast, live, asked) refl
-  where
-    go : (x y z : Bool) → (x || y) ≡ true → (y || z) ≡ false → x ≡ true
-    go true y z e f = refl
-    go false true z e f = cc
-    go false false z e f = cc

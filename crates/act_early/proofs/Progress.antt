@@ -1,9 +1,9 @@
 -- What a caller submitted, copied and released is what the steps say that it is done with.
 use Rattle.act_early.proofs.Common.{◌≡◌, ℕ, ◌+◌, Bool, true, false, cond, List, [], ◌∷◌, ◌++◌, length, Some, None, refl, ap, sym, ◌∙◌, subst, arith}
 use Rattle.act_early.proofs.Common.{length-append, Option, ◌==◌, ◌&&◌, filter, filter_map, eqb-true, append-nil, filter-append, filter_map-append, Event}
-use Rattle.act_early.proofs.Common.{RunItem, Submission, Step, Submit, Copy, Release, Kill, ActorSpec, History, count_pairs, calls_of, next_item}
-use Rattle.act_early.proofs.Common.{add_event, after_run, under-push, times-push, At, next_step, after_step, taken, skipped, with_event, is_free, IsPlay, Opens}
-use Rattle.act_early.proofs.Common.{Takes, Skips, Closes, Happens}
+use Rattle.act_early.proofs.Common.{RunItem, Submission, Step, Submit, Copy, Release, Kill, ActorSpec, History, count_pairs, calls_of, next_item, add_event}
+use Rattle.act_early.proofs.Common.{after_run, under-push, times-push, At, next_step, after_step, taken, skipped, with_event, is_free, IsPlay, Opens, Takes}
+use Rattle.act_early.proofs.Common.{Skips, Closes, Happens}
 use Rattle.act_rules.specs.declared.event.Event.TheVariants as event
 use Rattle.act_early.proofs.Counting.{done_steps, done-push, other_next}
 
@@ -104,22 +104,19 @@ counted p before more all n e is = rw (is, filter-append p before more, length-a
 
 taken_follows : (plans : ℕ → List Step) (c d : ℕ) (step : Step) (at : At) → next_step plans c at ≡ Some step → Follows plans d at
     → Follows plans d (taken c step at)
-taken_follows plans c d step at is f = record {
-  calls = submitted_one c d step at.history ∙ ap (λ (l : List Submission). l ++ filter_map submission_in more) f.calls
-      ∙ sym (filter_map-append submission_in (done_steps plans d at) more) ∙ ap (filter_map submission_in) (sym all);
-  copied = λ a. copied_one c d a step at.history
-      ∙ counted (is_copy_of a) (done_steps plans d at) more (done_steps plans d (taken c step at)) (count_pairs d a at.history.copied) (f.copied a) all;
-  released = λ a later next. released_one c d a step at.history
-      ∙ counted (is_release_of a) (done_steps plans d at) more (done_steps plans d (taken c step at)) (count_pairs d a at.history.released)
-      (old a later next) all;
-}
+taken_follows plans c d step at is f =
+    let more : List Step = cond (c == d) (step ∷ []) [] in
+    let all : done_steps plans d (taken c step at) ≡ done_steps plans d at ++ more = done-push plans c d at step is in
+    record {
+      calls = submitted_one c d step at.history ∙ ap (λ (l : List Submission). l ++ filter_map submission_in more) f.calls
+          ∙ sym (filter_map-append submission_in (done_steps plans d at) more) ∙ ap (filter_map submission_in) (sym all);
+      copied = λ a. copied_one c d a step at.history
+          ∙ counted (is_copy_of a) (done_steps plans d at) more (done_steps plans d (taken c step at)) (count_pairs d a at.history.copied) (f.copied a) all;
+      released = λ a later next. released_one c d a step at.history
+          ∙ counted (is_release_of a) (done_steps plans d at) more (done_steps plans d (taken c step at)) (count_pairs d a at.history.released)
+          (old a later next) all;
+    }
   where
-    more : List Step
-    more = cond (c == d) (step ∷ []) []
-
-    all : done_steps plans d (taken c step at) ≡ done_steps plans d at ++ more
-    all = done-push plans c d at step is
-
     old : (a : ℕ) (later : Step) → next_step plans d (taken c step at) ≡ Some later
         → count_pairs d a at.history.released ≡ length (filter (is_release_of a) (done_steps plans d at))
     old a later next = go (c == d) refl
@@ -129,10 +126,8 @@ taken_follows plans c d step at is f = record {
         go false e = f.released a later (sym (other_next plans c d at e) ∙ next)
 
 skipped_follows : (plans : ℕ → List Step) (c d a : ℕ) (at : At) → next_step plans c at ≡ Some (Kill a) → Follows plans d at → Follows plans d (skipped c at)
-skipped_follows plans c d a at is f = go (taken_follows plans c d (Kill a) at is f)
-  where
-    go : Follows plans d (taken c (Kill a) at) → Follows plans d (skipped c at)
-    go g = record { calls = g.calls; copied = g.copied; released = g.released }
+skipped_follows plans c d a at is f =
+    let g = taken_follows plans c d (Kill a) at is f in record { calls = g.calls; copied = g.copied; released = g.released }
 
 closed_follows : (plans : ℕ → List Step) (c d a : ℕ) (at : At) → next_step plans c at ≡ None → Follows plans d at
     → Follows plans d (with_event (event.Release c a) at)

@@ -1,16 +1,14 @@
 -- A play can be quiescent: deaths told, steps taken, handles let go, letters sent and delivered.
-use Rattle.act_early.proofs.Common.{◌≡◌, ℕ, true, List, Option, Some, None, refl, ap, sym, ◌∙◌, subst, ◌==◌, find, is_some, option_map, AllByRecursion, Step}
-use Rattle.act_early.proofs.Common.{Submit, Copy, Release, Kill, Await, Answer, kept_at, copy_refusal, handle_refusal, ActorSpec, History, contains, names}
-use Rattle.act_early.proofs.Common.{cast_of, is_caller, copies_of, kept_of, submission_refusal, needs-none, copies_named, kept_from, At, MayTake, IsQuiescent}
-use Rattle.act_rules.specs.declared.outcome.WorldRefusal.TheVariants.{Submit as SubmitRefused, Handle, NoCaller}
+use Rattle.act_early.proofs.Common.{◌≡◌, ℕ, true, List, Option, Some, None, refl, ap, sym, ◌∙◌, subst, ◌==◌, find, is_some, AllByRecursion, Step, Await, Answer}
+use Rattle.act_early.proofs.Common.{kept_at, ActorSpec, History, contains, names, cast_of, is_caller, kept_of, needs-none, copies_named, kept_from, At, MayTake}
+use Rattle.act_early.proofs.Common.{IsQuiescent, NoCaller, named_among, named_call}
 use Rattle.act_early.proofs.Worlds.{IsWorld, world}
 use Rattle.act_early.proofs.Quiesces.{Quiesces, quiesces_trans}
-use Rattle.act_early.proofs.Listed.{all_callers, all_actors, caller_listed, named_caller, actor_listed, all_listed, IsOpen}
+use Rattle.act_early.proofs.Listed.{all_callers, all_actors, caller_listed, actor_listed, all_listed, IsOpen}
 use Rattle.act_early.proofs.Telling.{IsTold, told_stays, quiescence, tell_all}
 use Rattle.act_early.proofs.Stepping.{IsStuck, going_on, step_all}
 use Rattle.act_early.proofs.Closing.{IsClosed, closing_on, close_all}
 use Rattle.act_early.proofs.Mailing.{IsSent, IsNoted, mailing, send_all, note_all}
-use Rattle.act_rules.proofs.RanAll.{named_call}
 
 -- ---- who does anything is listed
 
@@ -19,20 +17,12 @@ pub named_as_listed : (specs : List ActorSpec) (h : History) (c a : ℕ) → h.c
 named_as_listed specs h c a casts named =
     let there : names c (find (λ (cast : ActorSpec). cast.actor == a) specs) ≡ true =
     ap (λ (l : List ActorSpec). names c (find (λ (cast : ActorSpec). cast.actor == a) l)) (sym casts) ∙ named in
-    (caller_listed c specs (named_caller c a specs there), actor_listed c a specs there)
+    (caller_listed c specs (named_among c a specs there), actor_listed c a specs there)
 
 caller_as_listed : (specs : List ActorSpec) (h : History) (c : ℕ) → h.casts ≡ specs → is_caller c h ≡ true → contains c (all_callers specs) ≡ true
 caller_as_listed specs h c casts is = subst (λ (l : List ActorSpec). contains c (all_callers l) ≡ true) casts (caller_listed c h.casts is)
 
 pub may_listed : (specs : List ActorSpec) (h : History) (c : ℕ) (step : Step) → IsWorld specs h → MayTake c step h → contains c (all_callers specs) ≡ true
-may_listed specs h c (Submit a method args) w may =
-    caller_as_listed specs h c w.casts (needs-none (is_caller c h) NoCaller (option_map SubmitRefused (submission_refusal c a args h)) may).0
-may_listed specs h c (Copy a) w may = caller_as_listed specs h c w.casts
-    (needs-none (is_caller c h) NoCaller (option_map Handle (copy_refusal (copies_of c a h))) may).0
-may_listed specs h c (Release a) w may =
-    caller_as_listed specs h c w.casts (needs-none (is_caller c h) NoCaller (option_map Handle (handle_refusal (copies_of c a h))) may).0
-may_listed specs h c (Kill a) w may = caller_as_listed specs h c w.casts
-    (needs-none (is_caller c h) NoCaller (option_map Handle (handle_refusal (copies_of c a h))) may).0
 may_listed specs h c (Await k) w may = go (kept_at (kept_of c h) k) refl may
   where
     go : (o : Option Answer) → kept_at (kept_of c h) k ≡ o → is_some o ≡ true → contains c (all_callers specs) ≡ true
@@ -40,6 +30,7 @@ may_listed specs h c (Await k) w may = go (kept_at (kept_of c h) k) refl may
     go (Some answer) e some =
         let from = kept_from h c k answer w.sound.posts e in
         (named_as_listed specs h c from.call.actor w.casts (named_call h c k from.call w.retires.named from.at)).0
+may_listed specs h c step w may = caller_as_listed specs h c w.casts (needs-none (is_caller c h) NoCaller _ may).0
 
 -- ---- what holds for all that are listed holds for all
 

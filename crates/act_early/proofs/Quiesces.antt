@@ -1,11 +1,10 @@
 -- Going on without a choice.
 use Rattle.act_early.proofs.Common.{◌≡◌, ℕ, Bool, true, false, List, [], ◌∷◌, ◌++◌, Option, Some, None, refl, ap, sym, ◌∙◌, subst, ◌==◌, ◌||◌, find, slice_get}
-use Rattle.act_early.proofs.Common.{is_some, Event, RunItem, Post, Step, Submit, Copy, Release, Kill, Await, ActorSpec, History, under, contains, cast_of}
-use Rattle.act_early.proofs.Common.{names, runs_of, is_dead, refusal_of, add_event, and_also, IsPrefix, has_terminated, whole_front, front_trans, added_grows}
-use Rattle.act_early.proofs.Common.{At, next_step, MayTake, taken, skipped, with_event, IsPlay, Takes, Skips, Happens, choices_of}
+use Rattle.act_early.proofs.Common.{is_some, Event, RunItem, Post, Step, Kill, Await, ActorSpec, History, under, contains, cast_of, names, runs_of, is_dead}
+use Rattle.act_early.proofs.Common.{refusal_of, add_event, and_also, IsPrefix, has_terminated, whole_front, front_trans, added_grows, At, next_step, MayTake}
+use Rattle.act_early.proofs.Common.{taken, skipped, with_event, IsPlay, Takes, Skips, Happens, choices_of, DeathPost}
 use Rattle.act_rules.specs.declared.event.Event.TheVariants as event
-use Rattle.act_rules.specs.declared.history.Post.TheVariants.{Death as DeathPost}
-use Rattle.act_early.proofs.Worlds.{world}
+use Rattle.act_early.proofs.Worlds.{world, event_of}
 use Rattle.act_early.proofs.Choices.{choices_quiet, choices_same, heard_more, death_no_reply}
 
 -- the second play goes on from the first, and made no choice more
@@ -89,15 +88,6 @@ quiet_quiesces specs plans other p q play live e is goes =
 -- while no actor retired, to take a plan's next step, where it may be taken, is to go on without a choice
 pub step_quiesces : (specs : List ActorSpec) (plans : ℕ → List Step) (c : ℕ) (step : Step) (p : At) → IsPlay specs plans p → p.history.retired ≡ []
     → next_step plans c p ≡ Some step → MayTake c step p.history → Quiesces specs plans p (taken c step p)
-step_quiesces specs plans c (Submit a method args) p play live next may =
-    quiet_quiesces specs plans (event.Submit c a method args) p (taken c (Submit a method args) p) play live refl refl
-    (Takes p c (Submit a method args) play next may)
-step_quiesces specs plans c (Copy a) p play live next may =
-    quiet_quiesces specs plans (event.Copy c a) p (taken c (Copy a) p) play live refl refl (Takes p c (Copy a) play next may)
-step_quiesces specs plans c (Release a) p play live next may =
-    quiet_quiesces specs plans (event.Release c a) p (taken c (Release a) p) play live refl refl (Takes p c (Release a) play next may)
-step_quiesces specs plans c (Kill a) p play live next may =
-    quiet_quiesces specs plans (event.AskKill c a) p (taken c (Kill a) p) play live refl refl (Takes p c (Kill a) play next may)
 step_quiesces specs plans c (Await k) p play live next may = record {
   play = Takes p c (Await k) play next may;
   live = live;
@@ -108,6 +98,8 @@ step_quiesces specs plans c (Await k) p play live next may = record {
   collected = whole_front p.history.collected;
   arrived = whole_front p.history.arrived;
 }
+step_quiesces specs plans c step p play live next may =
+    quiet_quiesces specs plans (event_of c step) p (taken c step p) play live refl refl (Takes p c step play next may)
 
 -- while no actor retired, to leave out a next step that kills one's dead actor is to go on without a choice
 pub skip_quiesces : (specs : List ActorSpec) (plans : ℕ → List Step) (c a : ℕ) (p : At) → IsPlay specs plans p → p.history.retired ≡ []
@@ -126,27 +118,24 @@ skip_quiesces specs plans c a p play live next named dead = record {
 -- a collected death
 pub death_quiesces : (specs : List ActorSpec) (plans : ℕ → List Step) (j c a : ℕ) (p : At) → IsPlay specs plans p → p.history.retired ≡ []
     → slice_get p.history.posts j ≡ Some (DeathPost c a) → Quiesces specs plans p (with_event (event.Collect j) p)
-death_quiesces specs plans j c a p play live at = record {
-  play = Happens p (event.Collect j) play refl may;
-  live = live;
-  choices = λ b. choices_same h (add_event h (event.Collect j)) b refl (λ place item there.
-      heard_more h (add_event h (event.Collect j)) b place item (DeathPost c a) (added_grows h (event.Collect j)) (world specs plans p play).sound more there
-      (λ d. death_no_reply (add_event h (event.Collect j)) item.caller item.future d c a));
-  killed = refl;
-  ran = refl;
-  casts = refl;
-  collected = (added_grows h (event.Collect j)).collected;
-  arrived = whole_front h.arrived;
-}
-  where
-    h : History
-    h = p.history
-
-    may : refusal_of h (event.Collect j) ≡ None
-    may = let some : is_some (slice_get h.posts j) ≡ true = ap (λ (o : Option Post). is_some o) at in rw some refl
-
-    more : and_also h.collected (slice_get h.posts j) ≡ h.collected ++ DeathPost c a ∷ []
-    more = ap (and_also h.collected) at
+death_quiesces specs plans j c a p play live at =
+    let h = p.history in
+    let may : refusal_of h (event.Collect j) ≡ None =
+    let some : is_some (slice_get h.posts j) ≡ true = ap (λ (o : Option Post). is_some o) at in rw some refl in
+    let more : and_also h.collected (slice_get h.posts j) ≡ h.collected ++ DeathPost c a ∷ [] = ap (and_also h.collected) at in
+    record {
+      play = Happens p (event.Collect j) play refl may;
+      live = live;
+      choices = λ b. choices_same h (add_event h (event.Collect j)) b refl (λ place item there.
+          heard_more h (add_event h (event.Collect j)) b place item (DeathPost c a) (added_grows h (event.Collect j))
+          (world specs plans p play).sound more there
+          (λ d. death_no_reply (add_event h (event.Collect j)) item.caller item.future d c a));
+      killed = refl;
+      ran = refl;
+      casts = refl;
+      collected = (added_grows h (event.Collect j)).collected;
+      arrived = whole_front h.arrived;
+    }
 
 -- ---- what stays
 

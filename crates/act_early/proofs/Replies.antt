@@ -1,10 +1,7 @@
 -- Replies and deaths, and what is collected.
-use Rattle.act_early.proofs.Common.{◌≡◌, ◌≢◌, ℕ, zero, suc, ◌+◌, ◌≤◌, true, false, List, [], ◌∷◌, ◌++◌, length, Option, Some, None, refl, ap, ◌∙◌, subst}
-use Rattle.act_early.proofs.Common.{arith, Contains, length-append, ◌==◌, ◌&&◌, filter_map, slice_get, Ok, Err, cons_option, eq-eqb, and_from}
-use Rattle.act_early.proofs.Common.{Fault}
-use Rattle.act_early.proofs.Common.{ActorDied, Submission, Answer, kept_at, History, calls_of, kept_of, answer_in, IsPrefix}
-use Rattle.act_early.proofs.Common.{kept_at_is, kept_by, is_reply}
-use Rattle.act_rules.specs.declared.history.Post.TheVariants.{Death as DeathPost}
+use Rattle.act_early.proofs.Common.{◌≡◌, ◌≢◌, ℕ, zero, suc, ◌≤◌, true, false, List, [], ◌∷◌, length, Option, Some, None, refl, ap, ◌∙◌, subst, arith, Contains}
+use Rattle.act_early.proofs.Common.{length-append, ◌==◌, ◌&&◌, filter_map, slice_get, Ok, Err, cons_option, eq-eqb, and_from, Fault, ActorDied, Submission}
+use Rattle.act_early.proofs.Common.{Answer, kept_at, History, calls_of, kept_of, answer_in, IsPrefix, kept_at_is, kept_by, is_reply, DeathPost}
 
 -- ---- replies
 
@@ -29,7 +26,8 @@ reply_died (Err fault) e = ap (λ (f : Fault). Err f) (fault_died fault e)
 -- ---- a death that is collected
 
 -- what stands in a list and gives something: then some first gives something
-some_first : {A B : Type 0} (f : A → Option B) (xs : List A) (x : A) (y : B) → Contains xs x → f x ≡ Some y → (z : B) × (slice_get (filter_map f xs) 0 ≡ Some z)
+pub some_first : {A B : Type 0} (f : A → Option B) (xs : List A) (x : A) (y : B) → Contains xs x → f x ≡ Some y
+    → (z : B) × (slice_get (filter_map f xs) 0 ≡ Some z)
 some_first f [] x y has gives = absurd (let below = has.1 in omega arith)
 some_first {A = A} {B = B} f (w ∷ xs) x y (zero, below, is) gives = go (f w) (ap f is ∙ gives)
   where
@@ -56,5 +54,4 @@ death_answers h c k call at has =
 
 -- a prefix is no longer than the whole list
 pub front_short : {A : Type 0} (xs ys : List A) → IsPrefix xs ys → length xs ≤ length ys
-front_short {A = A} xs ys f = let sum : length (xs ++ f.0) ≡ length xs + length f.0 =
-    length-append xs f.0 in subst (λ (l : List A). length xs ≤ length l) f.1 (omega arith)
+front_short xs ys f = rw (← f.1, length-append) (omega arith)

@@ -1,11 +1,10 @@
 -- Where a quiescent play ends as an ended one did, its actors can retire.
-use Rattle.act_early.proofs.Common.{◌≡◌, ℕ, Bool, true, false, cond, List, [], ◌∷◌, ◌++◌, Option, Some, None, refl, ap, sym, ◌∙◌, subst, ◌==◌, ◌||◌, find}
-use Rattle.act_early.proofs.Common.{slice_get, is_some, AllByRecursion, eqb-true, eq-eqb, Submission, Step, Answer, kept_at, ActorSpec, contains, cast_of}
-use Rattle.act_early.proofs.Common.{is_dead, is_retired, is_ended, refusal_of, At, IsPlay, Happens, IsQuiescent, IsEnded, EndsAlike, IsSameEnd, or_left}
-use Rattle.act_early.proofs.Common.{both_ways}
+use Rattle.act_early.proofs.Common.{◌≡◌, ℕ, Bool, true, false, List, [], ◌∷◌, ◌++◌, Option, None, refl, ap, sym, ◌∙◌, subst, ◌==◌, ◌||◌, find, slice_get}
+use Rattle.act_early.proofs.Common.{is_some, AllByRecursion, eqb-true, eq-eqb, Submission, Step, Answer, kept_at, ActorSpec, contains, cast_of, is_dead}
+use Rattle.act_early.proofs.Common.{is_retired, is_ended, refusal_of, At, IsPlay, Happens, IsQuiescent, IsEnded, EndsAlike, IsSameEnd, or_left, both_ways}
 use Rattle.act_rules.specs.declared.event.Event.TheVariants as event
 use Rattle.act_early.proofs.Worlds.{IsWorld, world, contains_push, either_of, or_second, not_dead, retire_needs}
-use Rattle.act_early.proofs.Listed.{all_actors, all_listed}
+use Rattle.act_early.proofs.Listed.{all_actors, all_listed, cast_listed}
 
 -- the play, with these actors retired
 abbrev pub with_retired : At → List ℕ → At
@@ -57,56 +56,29 @@ retire_all specs plans early late (x ∷ xs) before ends play only =
       all = ((λ yes. rest.stay x (one.all.0 yes)), rest.all);
     }
 
--- an actor with a cast is listed
-pub cast_listed : (a : ℕ) (casts : List ActorSpec) → is_some (find (λ (cast : ActorSpec). cast.actor == a) casts) ≡ true → contains a (all_actors casts) ≡ true
-cast_listed a [] e = cc
-cast_listed a (cast ∷ casts) e = go (cast.actor == a) (cast_listed a casts) e
-  where
-    Rest : Type 0
-    Rest = is_some (find (λ (cast : ActorSpec). cast.actor == a) casts) ≡ true → contains a (all_actors casts) ≡ true
-
-    go : (x : Bool) → Rest → is_some (cond x (Some cast) (find (λ (cast : ActorSpec). cast.actor == a) casts)) ≡ true
-        → (x || contains a (all_actors casts)) ≡ true
-    go true rest e = refl
-    go false rest e = rest e
-
 -- where a quiescent play ends as an ended one did, there is an ended play with just that end, who retired included
 pub retired_play : (casts : List ActorSpec) (plans : ℕ → List Step) (early late : At) → IsPlay casts plans early → IsQuiescent plans early
     → IsPlay casts plans late → IsEnded plans late → EndsAlike plans early late.history
     → (end : At) × IsPlay casts plans end × IsEnded plans end × IsSameEnd end.history late.history
-retired_play casts plans early late play quiescent goes ended ends = (end, done.play, is_ended_there, same)
-  where
-    begun : IsPlay casts plans (with_retired early [])
-    begun = subst (λ (xs : List ℕ). IsPlay casts plans (with_retired early xs)) quiescent.live play
-
-    done : HasRetired casts plans early late (all_actors casts) []
-    done = retire_all casts plans early late (all_actors casts) [] ends begun (λ a e. cc)
-
-    end : At
-    end = with_retired early done.now
-
-    w : IsWorld casts late.history
-    w = world casts plans late goes
-
-    listed : (a : ℕ) → is_retired a late.history ≡ true → contains a (all_actors casts) ≡ true
-    listed a retired = cast_listed a casts (ap (λ (l : List ActorSpec). is_some (find (λ (cast : ActorSpec). cast.actor == a) l)) (sym w.casts)
-        ∙ w.cast a retired)
-
-    same : IsSameEnd end.history late.history
-    same = record {
+retired_play casts plans early late play quiescent goes ended ends =
+    let begun : IsPlay casts plans (with_retired early []) = subst (λ (xs : List ℕ). IsPlay casts plans (with_retired early xs)) quiescent.live play in
+    let done : HasRetired casts plans early late (all_actors casts) [] = retire_all casts plans early late (all_actors casts) [] ends begun (λ a e. cc) in
+    let end = with_retired early done.now in
+    let w : IsWorld casts late.history = world casts plans late goes in
+    let listed : (a : ℕ) → is_retired a late.history ≡ true → contains a (all_actors casts) ≡ true =
+    λ a retired. cast_listed a casts (ap (λ (l : List ActorSpec). is_some (find (λ (cast : ActorSpec). cast.actor == a) l)) (sym w.casts) ∙ w.cast a retired) in
+    let same : IsSameEnd end.history late.history =
+    record {
       calls = ends.calls;
       kept = ends.kept;
       runs = ends.runs;
       dead = ends.dead;
       retired = λ a. both_ways (contains a done.now) (is_retired a late.history) (done.only a)
           (λ yes. all_listed (λ a. is_retired a late.history ≡ true → contains a done.now ≡ true) (all_actors casts) a done.all (listed a yes) yes);
-    }
-
-    alike_casts : end.history.casts ≡ late.history.casts
-    alike_casts = (world casts plans early play).casts ∙ sym w.casts
-
-    is_ended_there : IsEnded plans end
-    is_ended_there = record {
+    } in
+    let alike_casts : end.history.casts ≡ late.history.casts = (world casts plans early play).casts ∙ sym w.casts in
+    let is_ended_there : IsEnded plans end =
+    record {
       done = ends.done;
       over = record {
         answered = λ c k call at.
@@ -119,4 +91,5 @@ retired_play casts plans early late play quiescent goes ended ends = (end, done.
             ∙ ap (λ (x : Bool). is_dead a late.history || x) (same.retired a)
             ∙ ended.over.ended a there;
       };
-    }
+    } in
+    (end, done.play, is_ended_there, same)

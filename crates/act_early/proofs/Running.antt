@@ -2,13 +2,12 @@
 use Rattle.act_early.proofs.Common.{◌≡◌, ℕ, Bool, true, false, cond, List, [], ◌∷◌, ◌++◌, length, Option, Some, None, refl, ap, sym, ◌∙◌, subst, ◌==◌, map}
 use Rattle.act_early.proofs.Common.{slice_get, map-append, RunItem, Submission, Step, kept_at, ActorSpec, History, under, runs_of, calls_of, kept_of, ran_count}
 use Rattle.act_early.proofs.Common.{next_item, refusal_of, add_event, after_run, slice_get_front, Grows, added_grows, calls_grow, under-push, run_needs}
-use Rattle.act_early.proofs.Common.{calls_to-at, IsNext, next_item_is, IsSound, At, with_event, IsPlay, Happens, is_reply, is_heard, choices_of}
+use Rattle.act_early.proofs.Common.{calls_to-at, IsNext, next_item_is, IsSound, At, with_event, IsPlay, Happens, is_reply, is_heard, choices_of, ReplyPost}
+use Rattle.act_early.proofs.Common.{first_answer-same}
 use Rattle.act_rules.specs.declared.event.Event.TheVariants as event
-use Rattle.act_rules.specs.declared.history.Post.TheVariants.{Reply as ReplyPost}
 use Rattle.act_early.proofs.Worlds.{world}
 use Rattle.act_early.proofs.Unanswered.{next_unanswered}
 use Rattle.act_early.proofs.Choices.{map-same_at, kept_first, heard_quiet}
-use Rattle.act_rules.proofs.Table.{first_answer-same}
 
 -- ---- one choice more
 
@@ -55,29 +54,24 @@ item_future a c h item next = ap (λ (i : RunItem). i.future) (sym next.is)
 
 pub run_is : (specs : List ActorSpec) (plans : ℕ → List Step) (a c : ℕ) (p : At) (item : RunItem) → IsPlay specs plans p
     → refusal_of p.history (event.Run a c) ≡ None → next_item a c p.history ≡ Some item → IsRun a c p.history (add_event p.history (event.Run a c)) item
-run_is specs plans a c p item play may e = subst (λ (o : Option RunItem). IsRun a c h (after_run a c h o) item) (sym e) (record {
-  sound = sound;
-  after = subst (λ (o : Option RunItem). IsSound (after_run a c h o)) e
-      (world specs plans (with_event (event.Run a c) p) (Happens p (event.Run a c) play refl may)).sound;
-  next = next;
-  grows = subst (λ (o : Option RunItem). Grows h (after_run a c h o)) e (added_grows h (event.Run a c));
-  ran = refl;
-  posts = refl;
-  collected = refl;
-  killed = refl;
-  retired = refl;
-  casts = refl;
-  none = ap (kept_at (kept_of c h)) (item_future a c h item next) ∙ next_unanswered h a c next.call sound next.at (run_needs h a c may).2;
-})
-  where
-    h : History
-    h = p.history
-
-    sound : IsSound h
-    sound = (world specs plans p play).sound
-
-    next : IsNext a c h item
-    next = next_item_is a c h item e
+run_is specs plans a c p item play may e =
+    let h = p.history in
+    let sound : IsSound h = (world specs plans p play).sound in
+    let next : IsNext a c h item = next_item_is a c h item e in
+    subst (λ (o : Option RunItem). IsRun a c h (after_run a c h o) item) (sym e) (record {
+      sound = sound;
+      after = subst (λ (o : Option RunItem). IsSound (after_run a c h o)) e
+          (world specs plans (with_event (event.Run a c) p) (Happens p (event.Run a c) play refl may)).sound;
+      next = next;
+      grows = subst (λ (o : Option RunItem). Grows h (after_run a c h o)) e (added_grows h (event.Run a c));
+      ran = refl;
+      posts = refl;
+      collected = refl;
+      killed = refl;
+      retired = refl;
+      casts = refl;
+      none = ap (kept_at (kept_of c h)) (item_future a c h item next) ∙ next_unanswered h a c next.call sound next.at (run_needs h a c may).2;
+    })
 
 -- the call of the item, before and after
 pub run_call : (a c : ℕ) (h g : History) (item : RunItem) → IsRun a c h g item → (call : Submission) × (slice_get (calls_of c h) item.future ≡ Some call)

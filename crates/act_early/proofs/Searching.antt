@@ -4,7 +4,7 @@ use Rattle.act_early.proofs.Common.{arith, ◌==◌, ◌||◌, map, drop, slice_
 use Rattle.act_early.proofs.Common.{take-append-drop, Event, RunItem, Step, has_terminated, ActorSpec, History, under, contains, runs_of, next_item, refusal_of}
 use Rattle.act_early.proofs.Common.{add_event, after_run, IsPrefix, slice_get_front, under-push, run_needs, run_stands, next_item_caller, At, after_step, taken}
 use Rattle.act_early.proofs.Common.{skipped, with_event, IsPlay, Opens, Takes, Skips, Closes, Happens, is_heard, choices_of, HasRunMore, IsWholeSearch}
-use Rattle.act_early.proofs.Common.{LosesOnly}
+use Rattle.act_early.proofs.Common.{LosesOnly, front_whole}
 use Rattle.act_rules.specs.declared.event.Event.TheVariants as event
 use Rattle.act_early.proofs.Worlds.{world, contains_push}
 use Rattle.act_early.proofs.Counting.{take-at}
@@ -15,7 +15,6 @@ use Rattle.act_early.proofs.Matching.{Matches, IsAhead, AreWorlds, calls_ahead, 
 use Rattle.act_early.proofs.Ahead.{AreBoth, with_play, ahead}
 use Rattle.act_early.proofs.Items.{ready}
 use Rattle.act_early.proofs.Possible.{IsReached, may_run, runs_alike, may_kill}
-use Rattle.act_rules.proofs.Lists.{front_whole}
 
 -- the early play made the choices of this front of the late one, and no other
 pub record Exactly (play early : At) (late : History) : Type 0 where
@@ -48,25 +47,20 @@ is_ahead specs plans play early late is both before x = ahead specs plans early 
 -- a quiescent play with exactly the choices of a front of the late one has reached that front at each actor
 pub reached : (specs : List ActorSpec) (plans : ℕ → List Step) (play early late : At) → IsPlay specs plans play → AreBoth specs plans early late
     → IsEarlier play.history late.history → Exactly play early late.history → (a : ℕ) → IsReached a play early
-reached specs plans play early late is both before x a = record {
-  runs = sym runs;
-  dead = ap (λ (b : Bool). b || has_terminated (runs_of a early.history)) (x.killed a)
-      ∙ ap (λ (items : List RunItem). contains a play.history.killed || has_terminated items) (sym runs);
-  steps = front.steps;
-  calls = λ c. calls_ahead plans c play early (w.moves c) (w.goes c) (front.steps c);
-  kept = λ c. kept_ahead specs plans play early late c w (matches play early late.history before x) front;
-  casts = both.early.casts ∙ sym w.play.casts;
-}
-  where
-    w : AreWorlds specs plans play early late
-    w = with_play specs plans play early late both is
-
-    front : IsAhead play early
-    front = is_ahead specs plans play early late is both before x
-
-    runs : runs_of a play.history ≡ runs_of a early.history
-    runs = let e = as_long a play early late.history before x in front_whole (runs_of a play.history) (runs_of a early.history) (front.runs a)
-        (omega (arith, e))
+reached specs plans play early late is both before x a =
+    let w : AreWorlds specs plans play early late = with_play specs plans play early late both is in
+    let front : IsAhead play early = is_ahead specs plans play early late is both before x in
+    let runs : runs_of a play.history ≡ runs_of a early.history =
+    let e = as_long a play early late.history before x in front_whole (runs_of a play.history) (runs_of a early.history) (front.runs a) (omega (arith, e)) in
+    record {
+      runs = sym runs;
+      dead = ap (λ (b : Bool). b || has_terminated (runs_of a early.history)) (x.killed a)
+          ∙ ap (λ (items : List RunItem). contains a play.history.killed || has_terminated items) (sym runs);
+      steps = front.steps;
+      calls = λ c. calls_ahead plans c play early (w.moves c) (w.goes c) (front.steps c);
+      kept = λ c. kept_ahead specs plans play early late c w (matches play early late.history before x) front;
+      casts = both.early.casts ∙ sym w.play.casts;
+    }
 
 -- ---- a play that was seen
 
@@ -117,15 +111,22 @@ run_seen casts plans may_lose Seen b c before late search is ends losing may was
 
     go : (o : Option RunItem) → next_item b c h ≡ o → IsEarlier (after_run b c h o) late.history → IsSeen Seen (at_run o) late.history
     go None e later = same_seen Seen before (at_run None) late.history refl refl s
-    go (Some item) e later = record {
-      early = next.0;
-      has = next.1;
-      exactly = record {
-        choices = λ a. next.2.0 a ∙ ap (λ (l : List (ℕ × Bool)). l ++ cond (b == a) ((c, heard) ∷ []) []) (s.exactly.choices a) ∙ grown a (b == a) refl
-            ∙ ap (λ (items : List RunItem). take (length items) (choices_of a late.history)) (sym (under-push a b h.ran item));
-        killed = λ a. next.2.1 a ∙ s.exactly.killed a;
-      };
-    }
+    go (Some item) e later =
+        let possible : next_item b c s.early.history ≡ Some item =
+        runs_alike plans b c item before s.early both.early.sound r both.quiescent (run_needs h b c may).2
+        (ready b c h item (world casts plans before is).sound e) in
+        let next : (g : At) × Seen g × HasRunMore b c heard s.early.history g.history =
+        search.runs s.early b c heard s.has (may_run plans b c before s.early r both.quiescent may) (ap (λ (o : Option RunItem). is_some o) possible)
+        (losing b n item there) in
+        record {
+          early = next.0;
+          has = next.1;
+          exactly = record {
+            choices = λ a. next.2.0 a ∙ ap (λ (l : List (ℕ × Bool)). l ++ cond (b == a) ((c, heard) ∷ []) []) (s.exactly.choices a) ∙ grown a (b == a) refl
+                ∙ ap (λ (items : List RunItem). take (length items) (choices_of a late.history)) (sym (under-push a b h.ran item));
+            killed = λ a. next.2.1 a ∙ s.exactly.killed a;
+          };
+        }
       where
         heard : Bool
         heard = is_heard late.history item
@@ -135,14 +136,6 @@ run_seen casts plans may_lose Seen b c before late search is ends losing may was
 
         there : slice_get (runs_of b late.history) n ≡ Some item
         there = slice_get_front (runs_of b (after_run b c h (Some item))) (runs_of b late.history) n item (later.runs b) (run_stands b h.ran item)
-
-        possible : next_item b c s.early.history ≡ Some item
-        possible = runs_alike plans b c item before s.early both.early.sound r both.quiescent (run_needs h b c may).2
-            (ready b c h item (world casts plans before is).sound e)
-
-        next : (g : At) × Seen g × HasRunMore b c heard s.early.history g.history
-        next = search.runs s.early b c heard s.has (may_run plans b c before s.early r both.quiescent may) (ap (λ (o : Option RunItem). is_some o) possible)
-            (losing b n item there)
 
         choice : slice_get (choices_of b late.history) n ≡ Some (c, heard)
         choice = choice_at late.history b n item there ∙ ap (λ (d : ℕ). Some (d, heard)) (next_item_caller b c h item e)

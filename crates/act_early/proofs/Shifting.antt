@@ -1,11 +1,10 @@
 -- An event that is none of a caller's steps passes it by.
 use Rattle.act_early.proofs.Common.{◌≡◌, ℕ, suc, true, false, List, [], ◌∷◌, ◌++◌, Option, Some, None, inl, inr, refl, ap, sym, ◌∙◌, subst, arith, append_assoc}
-use Rattle.act_early.proofs.Common.{Contains, is_some, eq-eqb, append-nil, Contains-append_left, Event, Post, Step, Submit, Copy, Release, Kill, Await, Answer}
-use Rattle.act_early.proofs.Common.{kept_at, ActorSpec, History, kept_of, history, after, IsPrefix, whole_front, after_keeps}
-use Rattle.act_early.proofs.Common.{after_all_keeps, added_grows, KeepsAnswer, kept_step, world_sound, is_step_by, AreOthers, DoesStepBy, DoesStepsBy}
-use Rattle.act_early.proofs.Common.{history_more}
+use Rattle.act_early.proofs.Common.{Contains, is_some, eq-eqb, append-nil, Contains-append_left, Event, Post, Step, Kill, Await, Answer, kept_at, ActorSpec}
+use Rattle.act_early.proofs.Common.{History, kept_of, history, after, IsPrefix, whole_front, after_keeps, after_all_keeps, added_grows, KeepsAnswer, kept_step}
+use Rattle.act_early.proofs.Common.{world_sound, is_step_by, AreOthers, DoesStepBy, DoesStepsBy, history_more, DeathPost}
 use Rattle.act_rules.specs.declared.event.Event.TheVariants as event
-use Rattle.act_rules.specs.declared.history.Post.TheVariants.{Death as DeathPost}
+use Rattle.act_early.proofs.Worlds.{event_of}
 
 -- ---- what stays after one event more
 
@@ -67,12 +66,6 @@ pub record IsPassed (casts : List ActorSpec) (c : ℕ) (step : Step) (before : L
 passes : (casts : List ActorSpec) (c : ℕ) (step : Step) (before : List Event) (other : Event) (events done later : List Event) → is_step_by c other ≡ false
     → other ∷ events ≡ done ++ later → DoesStepBy casts c step before done
     → IsPassed casts c step before other events done later
-passes casts c (Submit a method args) before other events done later none is does =
-    absurd (own_step c other (event.Submit c a method args) (eq-eqb c c refl) (head_same _ _ _ _ (is ∙ ap (λ (l : List Event). l ++ later) does)) none)
-passes casts c (Copy a) before other events done later none is does =
-    absurd (own_step c other (event.Copy c a) (eq-eqb c c refl) (head_same _ _ _ _ (is ∙ ap (λ (l : List Event). l ++ later) does)) none)
-passes casts c (Release a) before other events done later none is does =
-    absurd (own_step c other (event.Release c a) (eq-eqb c c refl) (head_same _ _ _ _ (is ∙ ap (λ (l : List Event). l ++ later) does)) none)
 passes casts c (Kill a) before other events done later none is (inl asked) =
     absurd (own_step c other (event.AskKill c a) (eq-eqb c c refl) (head_same _ _ _ _ (is ∙ ap (λ (l : List Event). l ++ later) asked)) none)
 passes casts c (Kill a) before other events done later none is (inr dead) = record {
@@ -85,6 +78,8 @@ passes casts c (Await k) before other events done later none is does = record {
   none = does.0;
   rest = sym (is ∙ ap (λ (l : List Event). l ++ later) does.0);
 }
+passes casts c step before other events done later none is does =
+    absurd (own_step c other (event_of c step) (eq-eqb c c refl) (head_same _ _ _ _ (is ∙ ap (λ (l : List Event). l ++ later) does)) none)
 
 pub shift : (casts : List ActorSpec) (c : ℕ) (steps : List Step) (before : List Event) (other : Event) (events : List Event) → is_step_by c other ≡ false
     → DoesStepsBy casts c steps before (other ∷ events) → DoesStepsBy casts c steps (before ++ other ∷ []) events

@@ -1,18 +1,16 @@
 -- Each caller can take its steps until it waits.
 use Rattle.act_early.proofs.Common.{◌≡◌, ℕ, zero, suc, ◌+◌, ◌≤◌, Bool, true, false, cond, List, [], ◌∷◌, ◌++◌, length, Option, Some, None, inl, inr, ◌⊎◌, refl}
 use Rattle.act_early.proofs.Common.{ap, sym, ◌∙◌, subst, arith, ◌==◌, map, find, filter, filter_map, is_some, AllByRecursion, enumerate_from, eqb-true, eq-eqb}
-use Rattle.act_early.proofs.Common.{append-nil, slice_get_within, Submission, Step, Submit, Copy, Release, Kill, Await, WorldRefusal, Answer, kept_at}
-use Rattle.act_early.proofs.Common.{occurrences, ActorSpec, History, count_pairs, is_caller, names, cast_of, calls_of, kept_of, is_dead, first_answer}
-use Rattle.act_early.proofs.Common.{refusal_of, Grows, added_grows, limit_of-same, IsSound, At, steps_of, next_step, after_step, MayTake, taken, skipped}
-use Rattle.act_rules.specs.declared.event.Event.TheVariants as event
-use Rattle.act_early.proofs.Worlds.{world}
+use Rattle.act_early.proofs.Common.{append-nil, slice_get_within, Submission, Step, Submit, Kill, Await, WorldRefusal, Answer, kept_at, occurrences, ActorSpec}
+use Rattle.act_early.proofs.Common.{History, count_pairs, is_caller, names, cast_of, calls_of, kept_of, is_dead, first_answer, refusal_of, Grows, added_grows}
+use Rattle.act_early.proofs.Common.{limit_of-same, IsSound, At, steps_of, next_step, after_step, MayTake, taken, skipped, first_answer-same}
+use Rattle.act_early.proofs.Worlds.{world, event_of}
 use Rattle.act_early.proofs.Counting.{occurrences-push, other_next}
 use Rattle.act_early.proofs.Progress.{submission_in, is_copy_of, is_release_of, submitted_one, copied_one, released_one}
 use Rattle.act_early.proofs.Waiting.{IsAlike, copies_from, may_take}
 use Rattle.act_early.proofs.Choices.{map-same_at}
 use Rattle.act_early.proofs.Quiesces.{Quiesces, quiesces_same, quiesces_trans, step_quiesces, skip_quiesces}
 use Rattle.act_early.proofs.Listed.{all_callers, IsOpen, IsWay, Comes, for_each}
-use Rattle.act_rules.proofs.Table.{first_answer-same}
 
 -- ---- what a step leaves of another caller
 
@@ -35,12 +33,8 @@ kept_by_calls d h g grows sound same calls =
     ∙ map-same_at (first_answer g d) (first_answer h d) (enumerate_from 0 (calls_of d h)) (λ place call at. first_answer-same h g d call grows sound.posts same)
 
 kept_other : (c d : ℕ) (step : Step) (h : History) → IsSound h → (c == d) ≡ false → kept_of d (after_step c step h) ≡ kept_of d h
-kept_other c d (Submit a method args) h sound e =
-    kept_by_calls d h _ (added_grows h (event.Submit c a method args)) sound refl (calls_other c d (Submit a method args) h e)
-kept_other c d (Copy a) h sound e = kept_by_calls d h _ (added_grows h (event.Copy c a)) sound refl refl
-kept_other c d (Release a) h sound e = kept_by_calls d h _ (added_grows h (event.Release c a)) sound refl refl
-kept_other c d (Kill a) h sound e = kept_by_calls d h _ (added_grows h (event.AskKill c a)) sound refl refl
 kept_other c d (Await k) h sound e = refl
+kept_other c d step h sound e = kept_by_calls d h _ (added_grows h (event_of c step)) sound refl (calls_other c d step h e)
 
 alike_other : (c d : ℕ) (step : Step) (h : History) → (c == d) ≡ false → IsAlike d (after_step c step h) h
 alike_other c d step h e = record {
@@ -95,11 +89,8 @@ true_or true = inl refl
 true_or false = inr (λ e. cc)
 
 may_or_not : (c : ℕ) (step : Step) (h : History) → MayTake c step h ⊎ (MayTake c step h → ⊥)
-may_or_not c (Submit a method args) h = is_none_or (refusal_of h (event.Submit c a method args))
-may_or_not c (Copy a) h = is_none_or (refusal_of h (event.Copy c a))
-may_or_not c (Release a) h = is_none_or (refusal_of h (event.Release c a))
-may_or_not c (Kill a) h = is_none_or (refusal_of h (event.AskKill c a))
 may_or_not c (Await k) h = true_or (is_some (kept_at (kept_of c h) k))
+may_or_not c step h = is_none_or (refusal_of h (event_of c step))
 
 -- another caller that waits goes on waiting
 others_wait : (plans : ℕ → List Step) (c d : ℕ) (step : Step) (p : At) → IsSound p.history → (c == d) ≡ false → IsStuck plans d p
@@ -185,26 +176,9 @@ moves_or_waits specs plans c p begun = go (next_step plans c p) refl
           where
             same_kill : {b : ℕ} → Kill b ≡ Kill a → b ≡ a
             same_kill e = cc
-    or_skips (Submit a method args) next not =
-        inr (record {
-          waits = λ later is may. not (subst (λ (s : Step). MayTake c s p.history) (one later (Submit a method args) is next) may);
-          needs =
-              λ b other named. let bad : Kill b ≡ Submit a method args = one (Kill b) (Submit a method args) other next in cc;
-        })
-    or_skips (Copy a) next not = inr (record {
-      waits = λ later is may. not (subst (λ (s : Step). MayTake c s p.history) (one later (Copy a) is next) may);
-      needs =
-          λ b other named. let bad : Kill b ≡ Copy a = one (Kill b) (Copy a) other next in cc;
-    })
-    or_skips (Release a) next not = inr (record {
-      waits = λ later is may. not (subst (λ (s : Step). MayTake c s p.history) (one later (Release a) is next) may);
-      needs =
-          λ b other named. let bad : Kill b ≡ Release a = one (Kill b) (Release a) other next in cc;
-    })
-    or_skips (Await k) next not = inr (record {
-      waits = λ later is may. not (subst (λ (s : Step). MayTake c s p.history) (one later (Await k) is next) may);
-      needs =
-          λ b other named. let bad : Kill b ≡ Await k = one (Kill b) (Await k) other next in cc;
+    or_skips step next not = inr (record {
+      waits = λ later is may. not (subst (λ (s : Step). MayTake c s p.history) (one later step is next) may);
+      needs = λ b other named. let bad : Kill b ≡ step = one (Kill b) step other next in cc;
     })
 
     takes : (step : Step) → next_step plans c p ≡ Some step → MayTake c step p.history ⊎ (MayTake c step p.history → ⊥)

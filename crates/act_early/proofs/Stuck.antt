@@ -4,6 +4,7 @@ use Rattle.act_early.proofs.Common.{◌∙◌, subst, arith, ◌==◌, ◌||◌,
 use Rattle.act_early.proofs.Common.{length_push, Event, RunItem, Step, has_terminated, ActorSpec, History, under, contains, runs_of, is_dead, next_item}
 use Rattle.act_early.proofs.Common.{refusal_of, add_event, after_run, slice_get_front, under-push, run_needs, run_stands, next_item_caller, At, after_step}
 use Rattle.act_early.proofs.Common.{IsPlay, Opens, Takes, Skips, Closes, Happens, is_heard, choices_of, IsQuiescent, IsFrontOf, Nearer, Whole, MayRun, MayKill}
+use Rattle.act_early.proofs.Common.{front_whole}
 use Rattle.act_rules.specs.declared.event.Event.TheVariants as event
 use Rattle.act_early.proofs.Worlds.{world, contains_push, either_of, not_dead, take_needs, or_second}
 use Rattle.act_early.proofs.Replies.{front_short}
@@ -13,7 +14,6 @@ use Rattle.act_early.proofs.Ahead.{AreBoth, with_play, ahead}
 use Rattle.act_early.proofs.Items.{ready}
 use Rattle.act_early.proofs.Possible.{IsReached, may_run, runs_alike, may_kill}
 use Rattle.act_early.proofs.Keys.{both_quiescent}
-use Rattle.act_rules.proofs.Lists.{front_whole}
 
 -- the early play made each choice of this front of the late one
 record IsCovered (play early : History) : Type 0 where
@@ -44,19 +44,18 @@ at_actor : (casts : List ActorSpec) (plans : ℕ → List Step) (a : ℕ) (play 
     → Matches play.history early.history late.history
     → length (runs_of a early.history) ≤ length (runs_of a play.history) → contains a early.history.killed ≡ false → is_dead a play.history ≡ false
     → IsReached a play early
-at_actor casts plans a play early late w front m short alive live = record {
-  runs = sym runs;
-  dead = ap (λ (b : Bool). b || has_terminated (runs_of a early.history)) alive ∙ ap has_terminated (sym runs)
-      ∙ neither (contains a play.history.killed) (has_terminated (runs_of a play.history)) live ∙ sym live;
-  steps = front.steps;
-  calls = λ c. calls_ahead plans c play early (w.moves c) (w.goes c) (front.steps c);
-  kept = λ c. kept_ahead casts plans play early late c w m front;
-  casts = w.early.casts ∙ sym w.play.casts;
-}
+at_actor casts plans a play early late w front m short alive live =
+    let runs : runs_of a play.history ≡ runs_of a early.history = front_whole (runs_of a play.history) (runs_of a early.history) (front.runs a) short in
+    record {
+      runs = sym runs;
+      dead = ap (λ (b : Bool). b || has_terminated (runs_of a early.history)) alive ∙ ap has_terminated (sym runs)
+          ∙ neither (contains a play.history.killed) (has_terminated (runs_of a play.history)) live ∙ sym live;
+      steps = front.steps;
+      calls = λ c. calls_ahead plans c play early (w.moves c) (w.goes c) (front.steps c);
+      kept = λ c. kept_ahead casts plans play early late c w m front;
+      casts = w.early.casts ∙ sym w.play.casts;
+    }
   where
-    runs : runs_of a play.history ≡ runs_of a early.history
-    runs = front_whole (runs_of a play.history) (runs_of a early.history) (front.runs a) short
-
     neither : (x y : Bool) → (x || y) ≡ false → y ≡ false
     neither false y e = e
     neither true y e = cc

@@ -1,11 +1,10 @@
 -- Each death can be told and collected.
 use Rattle.act_early.proofs.Common.{◌≡◌, ℕ, Bool, true, false, List, [], ◌∷◌, length, Option, Some, None, refl, ap, sym, ◌∙◌, subst, Contains, arith, slice_get}
 use Rattle.act_early.proofs.Common.{AllByRecursion, Post, Step, ActorSpec, History, names, cast_of, is_caller, is_dead, refusal_of, and_also, slice_get_last}
-use Rattle.act_early.proofs.Common.{At, with_event, Happens, Contains-append_left, Contains-append_right}
+use Rattle.act_early.proofs.Common.{At, with_event, Happens, Contains-append_left, Contains-append_right, DeathPost, named_among}
 use Rattle.act_rules.specs.declared.event.Event.TheVariants as event
-use Rattle.act_rules.specs.declared.history.Post.TheVariants.{Death as DeathPost}
 use Rattle.act_early.proofs.Quiesces.{Quiesces, quiesces_same, quiesces_trans, quiet_quiesces, death_quiesces, dead_same, cast_same}
-use Rattle.act_early.proofs.Listed.{all_callers, all_actors, named_caller, IsOpen, IsWay, Comes, for_all}
+use Rattle.act_early.proofs.Listed.{all_callers, all_actors, IsOpen, IsWay, Comes, for_all}
 
 abbrev pub IsTold : At → ℕ → ℕ → Type 0
 IsTold p c a = is_dead a p.history ≡ true → names c (cast_of a p.history) ≡ true → Contains p.history.collected (DeathPost c a)
@@ -38,7 +37,7 @@ tell_one specs plans p begun c a = go (is_dead a h) (names c (cast_of a h)) refl
     go false y dead named = (p, quiesces_same specs plans p begun.play begun.live, λ is _. let bad : true ≡ false = sym is ∙ dead in cc)
     go true false dead named = (p, quiesces_same specs plans p begun.play begun.live, λ _ is. let bad : true ≡ false = sym is ∙ named in cc)
     go true true dead named =
-        let caller : is_caller c h ≡ true = named_caller c a h.casts named in
+        let caller : is_caller c h ≡ true = named_among c a h.casts named in
         let may : refusal_of h (event.Tell a c) ≡ None = rw (caller, named, dead) refl in
         let first = quiet_quiesces specs plans (event.Tell a c) p told begun.play begun.live refl refl (Happens p (event.Tell a c) begun.play refl may) in
         let second = death_quiesces specs plans (length h.posts) c a told first.play first.live place in (

@@ -1,9 +1,10 @@
 -- What is told of ends, part by part.
-use Rattle.act_early.proofs.Common.{◌≡◌, ℕ, ◌≤◌, Bool, true, false, List, [], ◌∷◌, ◌++◌, Option, Some, None, refl, ap, sym, ◌∙◌, ◌==◌, ◌||◌}
-use Rattle.act_early.proofs.Common.{if◌then◌else◌, find, map, is_some, option_map, RunItem, Submission, Step, Answer, state_after, ActorSpec, History, contains}
-use Rattle.act_early.proofs.Common.{cast_of, calls_of, kept_of, runs_of, is_dead, is_retired, is_ended, flat_map, summary, one_to}
-use Rattle.act_early.proofs.Common.{future_lines, actor_lines, stage_of, stage_text, At, IsPlay, IsEnded, EndsAlike, IsSameEnd, told_at_rest, numbers_alike}
+use Rattle.act_early.proofs.Common.{◌≡◌, ℕ, ◌≤◌, Bool, true, false, List, ◌++◌, Option, Some, None, refl, ap, sym, ◌∙◌, ◌==◌, ◌||◌, find, map, is_some}
+use Rattle.act_early.proofs.Common.{option_map, RunItem, Submission, Step, Answer, state_after, ActorSpec, History, contains, cast_of, calls_of, kept_of}
+use Rattle.act_early.proofs.Common.{runs_of, is_dead, is_retired, is_ended, flat_map, summary, one_to, future_lines, actor_lines, stage_of, stage_text, At}
+use Rattle.act_early.proofs.Common.{IsPlay, IsEnded, EndsAlike, IsSameEnd, told_at_rest, numbers_alike}
 use Rattle.act_early.proofs.Worlds.{world, or_second}
+use Rattle.act_early.proofs.Listed.{cast_listed}
 
 -- how an actor with this cast stands
 abbrev pub stage_from : Option ActorSpec → Bool → Bool → List RunItem → Option (List ℕ)
@@ -51,29 +52,18 @@ AllEnded h = (a : ℕ) → 1 ≤ a → a ≤ 8 → is_some (cast_of a h) ≡ tru
 -- where each actor ended, calls, answers, run lists and deaths tell all
 pub ended_told : (one other : History) → one.casts ≡ other.casts → ((c : ℕ) → calls_of c one ≡ calls_of c other) → ((c : ℕ) → kept_of c one ≡ kept_of c other)
     → ((a : ℕ) → runs_of a one ≡ runs_of a other) → ((a : ℕ) → is_dead a one ≡ is_dead a other) → AllEnded one → AllEnded other → summary one ≡ summary other
-ended_told one other casts calls kept runs dead first second = told_alike one other calls kept stages runs
-  where
-    stages : (a : ℕ) → 1 ≤ a → a ≤ 8 → stage_of a one ≡ stage_of a other
-    stages a low high =
-        ap (λ (cast : Option ActorSpec). stage_from cast (is_dead a one) (is_retired a one) (runs_of a one)) (cast_alike a one other casts)
-        ∙ ap (λ (b : Bool). stage_from (cast_of a other) b (is_retired a one) (runs_of a one)) (dead a)
-        ∙ ap (λ (items : List RunItem). stage_from (cast_of a other) (is_dead a other) (is_retired a one) items) (runs a)
-        ∙ ended_stage (cast_of a other) (is_dead a other) (is_retired a one) (is_retired a other) (runs_of a other)
-        (λ there. ap (λ (b : Bool). b || is_retired a one) (sym (dead a)) ∙ first a low high (ap (λ (cast : Option ActorSpec). is_some cast) (cast_alike a one other casts) ∙ there))
-        (λ there. second a low high there)
-
--- an actor with a cast stands among the actors
-named_actor : (a : ℕ) (casts : List ActorSpec) → is_some (find (λ (cast : ActorSpec). cast.actor == a) casts) ≡ true → contains a (map (λ cast. cast.actor) casts) ≡ true
-named_actor a [] e = cc
-named_actor a (cast ∷ casts) e = go (cast.actor == a) (named_actor a casts) e
-  where
-    go : (b : Bool) → (is_some (find (λ (cast : ActorSpec). cast.actor == a) casts) ≡ true → contains a (map (λ cast. cast.actor) casts) ≡ true)
-        → is_some (if b then Some cast else find (λ (cast : ActorSpec). cast.actor == a) casts) ≡ true → (b || contains a (map (λ cast. cast.actor) casts)) ≡ true
-    go true rest e = refl
-    go false rest e = rest e
+ended_told one other casts calls kept runs dead first second =
+    let stages : (a : ℕ) → 1 ≤ a → a ≤ 8 → stage_of a one ≡ stage_of a other =
+    λ a low high. ap (λ (cast : Option ActorSpec). stage_from cast (is_dead a one) (is_retired a one) (runs_of a one)) (cast_alike a one other casts)
+    ∙ ap (λ (b : Bool). stage_from (cast_of a other) b (is_retired a one) (runs_of a one)) (dead a)
+    ∙ ap (λ (items : List RunItem). stage_from (cast_of a other) (is_dead a other) (is_retired a one) items) (runs a)
+    ∙ ended_stage (cast_of a other) (is_dead a other) (is_retired a one) (is_retired a other) (runs_of a other)
+    (λ there. ap (λ (b : Bool). b || is_retired a one) (sym (dead a)) ∙ first a low high (ap (λ (cast : Option ActorSpec). is_some cast) (cast_alike a one other casts) ∙ there))
+    (λ there. second a low high there) in
+    told_alike one other calls kept stages runs
 
 pub at_rest : (h : History) → AllEnded (record h { retired = map (λ cast. cast.actor) h.casts })
-at_rest h a low high there = or_second (is_dead a h) (contains a (map (λ cast. cast.actor) h.casts)) (named_actor a h.casts there)
+at_rest h a low high there = or_second (is_dead a h) (contains a (map (λ cast. cast.actor) h.casts)) (cast_listed a h.casts there)
 
 -- where a play ends as an ended one did, the same is told of it, once its actors retired, as of that one
 pub alike_told : (casts : List ActorSpec) (plans : ℕ → List Step) (early late : At) → IsPlay casts plans early → IsPlay casts plans late → IsEnded plans late

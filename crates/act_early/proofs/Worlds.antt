@@ -4,18 +4,23 @@ use Rattle.act_early.proofs.Common.{eqb-true, not-true, list_any-append, RunItem
 use Rattle.act_early.proofs.Common.{Kill, Await, has_terminated, needs, ActorSpec, History, opening, contains, runs_of, cast_of, is_dead, is_retired, is_ended}
 use Rattle.act_early.proofs.Common.{is_drained, next_item, refusal_of, add_event, after_run, IsKept, added_grows, needs-none, ended_stays, NothingFollows}
 use Rattle.act_early.proofs.Common.{nothing_follows_step, IsSound, sound_step, world_sound, Retires, retires_step, world_retires, At, after_step, MayTake}
-use Rattle.act_early.proofs.Common.{IsPlay, Opens, Takes, Skips, Closes, Happens}
+use Rattle.act_early.proofs.Common.{IsPlay, Opens, Takes, Skips, Closes, Happens, or_parts, Event}
 use Rattle.act_rules.specs.declared.event.Event.TheVariants as event
 
 -- ---- what each event keeps holds of every play
 
+-- the event of a caller's step; an await has none of its own
+abbrev pub event_of : ℕ → Step → Event
+event_of c (Submit a method args) = event.Submit c a method args
+event_of c (Copy a) = event.Copy c a
+event_of c (Release a) = event.Release c a
+event_of c (Kill a) = event.AskKill c a
+event_of c (Await k) = event.Deliver k
+
 -- what each accepted event keeps is kept by a step that the caller may take
 pub step_keeps : (P : History → Type 0) → IsKept P → (c : ℕ) (step : Step) (h : History) → P h → MayTake c step h → P (after_step c step h)
-step_keeps P kept c (Submit a method args) h held may = kept h (event.Submit c a method args) held may
-step_keeps P kept c (Copy a) h held may = kept h (event.Copy c a) held may
-step_keeps P kept c (Release a) h held may = kept h (event.Release c a) held may
-step_keeps P kept c (Kill a) h held may = kept h (event.AskKill c a) held may
 step_keeps P kept c (Await k) h held may = held
+step_keeps P kept c step h held may = kept h (event_of c step) held may
 
 -- what holds of the world as it is opened, and each accepted event keeps, holds after each play of plans
 pub play_keeps : (P : History → Type 0) → IsKept P → (casts : List ActorSpec) (plans : ℕ → List Step) (at : At) → P (opening casts) → IsPlay casts plans at
@@ -30,14 +35,15 @@ play_keeps P kept casts plans at first (Happens before other play free may) = ke
 
 -- ---- a retired actor isn't dead
 
+-- no test more changes nothing
+pub or_last : (x y : Bool) → (x || (y || false)) ≡ (x || y)
+or_last true y = refl
+or_last false true = refl
+or_last false false = refl
+
 -- a pushed list contains what it contained before and the number pushed, and no other
 pub contains_push : (a b : ℕ) (xs : List ℕ) → contains a (xs ++ b ∷ []) ≡ (contains a xs || (b == a))
-contains_push a b xs = list_any-append (λ m. m == a) xs (b ∷ []) ∙ go (contains a xs) (b == a)
-  where
-    go : (x y : Bool) → (x || (y || false)) ≡ (x || y)
-    go true y = refl
-    go false true = refl
-    go false false = refl
+contains_push a b xs = list_any-append (λ m. m == a) xs (b ∷ []) ∙ or_last (contains a xs) (b == a)
 
 -- what follows of each of two tests holds where one of them passes
 pub either_of : (x y : Bool) (P : Type 0) → (x || y) ≡ true → (x ≡ true → P) → (y ≡ true → P) → P
@@ -71,11 +77,7 @@ retire_needs h a e =
 
 -- an actor that hasn't ended isn't dead
 pub not_dead : (a : ℕ) (h : History) → is_ended a h ≡ false → is_dead a h ≡ false
-not_dead a h e = go (is_dead a h) (is_retired a h) e
-  where
-    go : (x y : Bool) → (x || y) ≡ false → x ≡ false
-    go false y e = refl
-    go true y e = cc
+not_dead a h e = (or_parts (is_dead a h) (is_retired a h) e).0
 
 abbrev pub RetiredLive : History → Type 0
 RetiredLive h = (a : ℕ) → is_retired a h ≡ true → is_dead a h ≡ false
@@ -102,11 +104,8 @@ retired_live_step h (event.TakeKill b) live accepted a retired = go (b == a) ref
         let ended : is_ended a h ≡ true = or_second (is_dead a h) (is_retired a h) retired in
         let lives : is_ended a h ≡ false = subst (λ (x : ℕ). is_ended x h ≡ false) is (take_needs h b accepted).1 in
         let bad : true ≡ false = sym ended ∙ lives in cc
-    go false e = rw (contains_push a b h.killed, e) (let l = live a retired in more (contains a h.killed) (has_terminated (runs_of a h)) l)
-      where
-        more : (x y : Bool) → (x || y) ≡ false → ((x || false) || y) ≡ false
-        more false y e = e
-        more true y e = cc
+    go false e = let lives = or_parts (contains a h.killed) (has_terminated (runs_of a h)) (live a retired) in
+        rw (contains_push a b h.killed, e, lives.0) lives.1
 retired_live_step h (event.Retire b) live accepted a retired =
     either_of (contains a h.retired) (b == a) (is_dead a h ≡ false) (sym (contains_push a b h.retired) ∙ retired) (live a)
     (λ e. not_dead a h (subst (λ (x : ℕ). is_ended x h ≡ false) (eqb-true b a e) (retire_needs h b accepted).1))

@@ -1,8 +1,8 @@
 -- A history on the way to another: it grows, and what ran at an actor that has ended stays.
 use Rattle.act_order_plays.proofs.Common.{◌≡◌, ℕ, ◌+◌, ◌≤◌, ◌⊎◌, inl, inr, true, List, [], ◌∷◌, ◌++◌, length, Some, refl, sym, ap, subst, ◌∙◌, arith}
 use Rattle.act_order_plays.proofs.Common.{length-append, Event, Answer, kept_at, IsPrefix, ActorSpec, History, opening, calls_of, runs_of, kept_of, is_ended}
-use Rattle.act_order_plays.proofs.Common.{after_all, history, whole_front, front_trans, Grows, added_grows, calls_grow, after_all_keeps}
-use Rattle.act_order_plays.proofs.Common.{after_all-append, HasEnded, ended_stays, kept_stays, IsSound, world_sound}
+use Rattle.act_order_plays.proofs.Common.{after_all, history, whole_front, front_trans, Grows, added_grows, calls_grow, after_all_keeps, after_all-append}
+use Rattle.act_order_plays.proofs.Common.{HasEnded, ended_stays, kept_stays, IsSound, world_sound}
 
 -- a history grows into itself
 pub grows_not : (h : History) → Grows h h

@@ -3,8 +3,7 @@ use Rattle.act_order_plays.proofs.Common.{◌≡◌, ◌≢◌, ℕ, zero, suc, 
 use Rattle.act_order_plays.proofs.Common.{subst, ◌∙◌, Result, Value, Fault, BadArgs, Dependency, ActorDied, Method, Get, Put, KindState, OwnAt, Ask, Behaviour}
 use Rattle.act_order_plays.proofs.Common.{after_ask, RunItem, told_reply, Answer, values_of, step_of_reply, step_of_call, call_reply, after_item, answer_at}
 use Rattle.act_order_plays.proofs.Common.{ends_actor, has_terminated, Outcome, Failed, Died, Open, Told, call_of, answer_to, answers, future_of, item_key}
-use Rattle.act_order_plays.proofs.Common.{run_key}
-use Rattle.act_types.specs.declared.call.Value.TheVariants.{Unit as Nothing}
+use Rattle.act_order_plays.proofs.Common.{run_key, Nothing}
 use Rattle.act_orders.specs.declared.told.Outcome.TheVariants.{Answered}
 
 -- the method of a call that ends so
@@ -41,9 +40,8 @@ AreItems told (item ∷ items) (n ∷ ns) = IsItem told n item × AreItems told 
 
 pub item_keys : (told : Told) (items : List RunItem) (ns : List ℕ) → AreItems told items ns → map item_key items ≡ map (run_key told) ns
 item_keys told [] [] are = refl
-item_keys told [] (n ∷ ns) are = absurd are
-item_keys told (item ∷ items) [] are = absurd are
 item_keys told (item ∷ items) (n ∷ ns) are = let rest = item_keys told items ns are.1 in let one = are.0.caller in let two = are.0.future in cc
+item_keys told items ns are = absurd are
 
 -- where a run list is of these calls, the item of a call stands at the call's place
 pub item_of_call : (told : Told) (items : List RunItem) (ns : List ℕ) (place n : ℕ) → AreItems told items ns → slice_get ns place ≡ Some n →

@@ -2,7 +2,7 @@
 use Rattle.act_order_plays.proofs.Common.{◌≡◌, ℕ, zero, suc, ◌+◌, ◌<◌, ◌==◌, ◌||◌, inl, inr, Bool, true, false, List, [], ◌∷◌, length, find, Some, None}
 use Rattle.act_order_plays.proofs.Common.{slice_get, refl, ap, subst, ◌∙◌, arith, option_map, Contains, enumerate_from, list_any, eqb-true, eq-eqb, ne_eqb}
 use Rattle.act_order_plays.proofs.Common.{get_or_past, slice_get-map, slice_get-get_or, OwnAt, ActorSpec, History, contains, cast_of, names, is_caller}
-use Rattle.act_order_plays.proofs.Common.{find-map, slice_get-enumerate_from, Actor, Told, actor_of, answers, cast_of_actor, casts_of}
+use Rattle.act_order_plays.proofs.Common.{find-map, slice_get-enumerate_from, Actor, Told, actor_of, answers, cast_of_actor, casts_of, or_right}
 use Rattle.act_order_plays.proofs.Lists.{Has, cases_le}
 
 -- what holds of one item holds of some
@@ -12,11 +12,7 @@ list_any_has {A = A} p xs x has is = go xs has.0 has.1
     go : (xs : List A) (i : ℕ) → slice_get xs i ≡ Some x → list_any p xs ≡ true
     go [] i e = absurd (cc)
     go (y ∷ ys) zero e = let same : y ≡ x = cc in let there : p y ≡ true = ap p same ∙ is in rw there refl
-    go (y ∷ ys) (suc i) e = later (p y) (go ys i e)
-      where
-        later : (b : Bool) → list_any p ys ≡ true → (b || list_any p ys) ≡ true
-        later true h = refl
-        later false h = h
+    go (y ∷ ys) (suc i) e = or_right (p y) (list_any p ys) (go ys i e)
 
 pub any_has : {A : Type 0} (p : A → Bool) (xs : List A) → list_any p xs ≡ true → (x : A) × Has xs x × (p x ≡ true)
 any_has p [] e = absurd (cc)

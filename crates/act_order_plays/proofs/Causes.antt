@@ -5,7 +5,8 @@ use Rattle.act_order_plays.proofs.Common.{filter_map-append, slice_get_within, I
 use Rattle.act_order_plays.proofs.Common.{call_of, SameCaller, RunsInTurn, Happened, RunsBefore, IsCause, calls_by, future_of, runs_by}
 use Rattle.act_order_plays.proofs.Premises.{Premises}
 use Rattle.act_order_plays.proofs.Lists.{Has, has_more, has_pushed, cases_le, front_grows}
-use Rattle.act_order_plays.proofs.Fronts.{submits, rans, is_by, is_to, subs_of, rans_of, has_subs_of, subs_of_has, rans_of_has, has_rans_of, call_at, call_before, calls_differ, IsRunAt, run_at, rank, run_ranks, run_before, runs_differ}
+use Rattle.act_order_plays.proofs.Fronts.{submits, rans, is_by, is_to, subs_of, rans_of, has_subs_of, subs_of_has, rans_of_has, has_rans_of, call_at}
+use Rattle.act_order_plays.proofs.Fronts.{call_before, calls_differ, IsRunAt, run_at, rank, run_ranks, run_before, runs_differ}
 
 -- each cause of what happened did
 abbrev pub Closed : Told → List Happening → Type 0

@@ -2,9 +2,8 @@
 use Rattle.act_order_plays.proofs.Common.{◌≡◌, ℕ, ◌<◌, ◌==◌, ◌&&◌, Bool, true, cond, List, [], ◌∷◌, ◌++◌, length, Option, Some, None, Err, slice_get, refl, sym}
 use Rattle.act_order_plays.proofs.Common.{ap, subst, ◌∙◌, arith, filter_map, option_and_then, AllByRecursion, eq-eqb, and_from, slice_get_within, ActorDied}
 use Rattle.act_order_plays.proofs.Common.{KindState, OwnAt, Collect, Post, RunItem, Answer, answer_at, answers_from, History, runs_of, is_item_of, answer_of}
-use Rattle.act_order_plays.proofs.Common.{add_event, and_also, element, All_more, length-answers_from, sound_step, Happening, Submitted, Told}
-use Rattle.act_order_plays.proofs.Common.{call_of, kept_for, answers, future_of, collect_unrefused}
-use Rattle.act_rules.specs.declared.history.Post.TheVariants.{Reply as ReplyPost, Death as DeathPost}
+use Rattle.act_order_plays.proofs.Common.{add_event, and_also, element, All_more, length-answers_from, sound_step, Happening, Submitted, Told, call_of}
+use Rattle.act_order_plays.proofs.Common.{kept_for, answers, future_of, collect_unrefused, ReplyPost, DeathPost}
 use Rattle.act_order_plays.proofs.Lists.{Has}
 use Rattle.act_order_plays.proofs.Fronts.{rans_of}
 use Rattle.act_order_plays.proofs.Causes.{Good}

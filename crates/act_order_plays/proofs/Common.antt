@@ -11,27 +11,26 @@ pub use Rattle.act_orders.specs.declared.told.Actor.{Actor}
 pub use Rattle.act_orders.specs.declared.told.End.{End}
 pub use Rattle.act_orders.specs.declared.told.End.TheVariants.{Dead, Live, Retired}
 pub use Rattle.act_orders.specs.declared.told.Happening.{Happening}
-pub use Rattle.act_orders.specs.declared.told.Happening.TheVariants.{Answered, Ran, Submitted}
+pub use Rattle.act_orders.specs.declared.told.Happening.TheVariants.{Answered, Answered as HasBeenTold, Answered as Told_answer, Ran, Submitted}
 pub use Rattle.act_orders.specs.declared.told.Outcome.{Outcome}
 pub use Rattle.act_orders.specs.declared.told.Outcome.TheVariants.{Died, Failed, Open}
 pub use Rattle.act_orders.specs.declared.told.Run.{Run}
 pub use Rattle.act_orders.specs.declared.told.Told.{Told}
 pub use Rattle.act_rules.proofs.AsSubmitted.{calls_to-at, filter-slice_get}
 pub use Rattle.act_rules.proofs.Ended.{HasEnded, contains_more, ended_stays, needs-none, under-push}
-pub use Rattle.act_rules.proofs.Events.{calls_to-length, collect_unrefused, few_more, telling_unrefused}
+pub use Rattle.act_rules.proofs.Events.{calls_to-length, collect_unrefused, few_more, history_more, telling_unrefused}
 pub use Rattle.act_rules.proofs.Growth.{Grows, added_grows, after_run_grows, calls_grow, calls_to_grow, runs_grow}
 pub use Rattle.act_rules.proofs.Kept.{kept_at_is, kept_by, kept_stays, length-answers_from}
 pub use Rattle.act_rules.proofs.Letters.{IsSoundLetter, calls_to-number, has_letter-sound}
-pub use Rattle.act_rules.proofs.Lists.{All_at, All_more, All_weaker, IsPrefix-filter, IsPrefix-map, find-map, front_next, front_trans, option_map-none}
-pub use Rattle.act_rules.proofs.Lists.{option_or-none, range_push, slice_get-enumerate_from, slice_get-filter, slice_get_front}
-pub use Rattle.act_rules.proofs.Lists.{front_whole, whole_front}
+pub use Rattle.act_rules.proofs.Lists.{All_at, All_more, All_weaker, IsPrefix-filter, IsPrefix-map, find-map, front_next, front_trans, front_whole}
+pub use Rattle.act_rules.proofs.Lists.{option_map-none, option_or-none, range_push, slice_get-enumerate_from, slice_get-filter, slice_get_front, whole_front}
 pub use Rattle.act_rules.proofs.Order.{InOrder, IsNext, next_item_is, numbered, numbers}
 pub use Rattle.act_rules.proofs.Posts.{PostsAreSound}
-pub use Rattle.act_rules.proofs.RanAll.{IsNamed, Retires, map-numbered, ran_all, world_retires}
+pub use Rattle.act_rules.proofs.RanAll.{Retires, map-numbered, named_call, ran_all, world_retires}
 pub use Rattle.act_rules.proofs.Retired.{times-push}
 pub use Rattle.act_rules.proofs.Sound.{IsSound, answers_are, consistent, deaths_are, kept_from, sound_step, world_sound}
 pub use Rattle.act_rules.proofs.Steps.{IsKept, after_all-append, after_all_keeps, after_keeps}
-pub use Rattle.act_rules.proofs.Unique.{held_submission, map-slice_get, one_place}
+pub use Rattle.act_rules.proofs.Unique.{held_call, held_submission, map-slice_get, one_place, places_differ, rank as rank_in, same_place}
 pub use Rattle.act_rules.specs.Consistent.{IsAsSubmitted, IsPrefix}
 pub use Rattle.act_rules.specs.History.{ActorSpec, History, answer_in, answer_of, callers_in, calls_of, cast_of, contains, copies_of, count_pairs, has_letter}
 pub use Rattle.act_rules.specs.History.{is_caller, is_dead, is_done, is_drained, is_ended, is_item_of, is_letter, is_retired, kept_of, limit_of, names}
@@ -45,9 +44,11 @@ pub use Rattle.act_rules.specs.RunList.{step_of_reply, values_of, with_value}
 pub use Rattle.act_rules.specs.Submissions.{calls_to, copies_held, is_earlier, is_known, kept_at, limit_refusal, needs, number_of, send_refusal, settle}
 pub use Rattle.act_rules.specs.Submissions.{settled_future, submit_refusal}
 pub use Rattle.act_rules.specs.declared.event.Event.{Event}
-pub use Rattle.act_rules.specs.declared.event.Event.TheVariants.{AskKill, Collect, Deliver, Release, Retire, Send, Submit, TakeKill, Tell}
+pub use Rattle.act_rules.specs.declared.event.Event.TheVariants.{AskKill, Collect, Deliver, Release, Retire, Run as RunNext, Send, Submit, TakeKill, Tell}
 pub use Rattle.act_rules.specs.declared.history.Letter.{Letter}
+pub use Rattle.act_rules.specs.declared.history.Letter.TheVariants.{Call as CallLetter, Note as NoteLetter}
 pub use Rattle.act_rules.specs.declared.history.Post.{Post}
+pub use Rattle.act_rules.specs.declared.history.Post.TheVariants.{Death as DeathPost, Reply as ReplyPost}
 pub use Rattle.act_rules.specs.declared.history.RunItem.{RunItem}
 pub use Rattle.act_rules.specs.declared.history.Submission.{Submission}
 pub use Rattle.act_rules.specs.declared.outcome.WorldRefusal.{WorldRefusal}
@@ -60,14 +61,15 @@ pub use Rattle.act_types.specs.declared.call.Fault.TheVariants.{ActorDied, BadAr
 pub use Rattle.act_types.specs.declared.call.Method.{Method}
 pub use Rattle.act_types.specs.declared.call.Method.TheVariants.{Get, Put}
 pub use Rattle.act_types.specs.declared.call.Settled.{Settled}
-pub use Rattle.act_types.specs.declared.call.Settled.TheVariants.{Bad, Good}
+pub use Rattle.act_types.specs.declared.call.Settled.TheVariants.{Good, Good as GoodArg}
 pub use Rattle.act_types.specs.declared.call.Value.{Value}
+pub use Rattle.act_types.specs.declared.call.Value.TheVariants.{Unit as Nothing}
 pub use Rattle.std.proofs.Common.{Bool, Err, List, None, Ok, Option, Result, Some, [], ap, append_assoc, arith, cond, false, filter, filter_map, find, inl, inr}
 pub use Rattle.std.proofs.Common.{is_some, length, length-append, map, nat_le, nat_lt, not, option_and_then, option_map, refl, slice_get, subst, suc, sym, take}
 pub use Rattle.std.proofs.Common.{true, zero, ℕ, ◌&&◌, ◌++◌, ◌+◌, ◌-◌, ◌<◌, ◌==◌, ◌||◌, ◌∙◌, ◌∷◌, ◌≡◌, ◌≢◌, ◌≤◌, ◌⊎◌}
 pub use Rattle.std.proofs.Math.Seq.{take-length}
-pub use Rattle.std.proofs.lemmas.Bool.{and_from, and_parts, cases_lt, eq-eqb, eqb-true, false_from_ne_true, le-leb, leb-true, lt-ltb, ltb-true, ne_eqb}
-pub use Rattle.std.proofs.lemmas.Bool.{not-true, or_left}
+pub use Rattle.std.proofs.lemmas.Bool.{and_from, and_parts, cases_lt, eq-eqb, eqb-true, false_from_ne_true, le-leb, le-ltb, leb-true, lt-ltb, ltb-true, ne_eqb}
+pub use Rattle.std.proofs.lemmas.Bool.{not-true, or_cases, or_left, or_right}
 pub use Rattle.std.proofs.lemmas.Bool.Decides.{eqb_tells}
 pub use Rattle.std.proofs.lemmas.List.{append-nil, get_or_past, length-map, map-append}
 pub use Rattle.std.proofs.lemmas.List.Elements.{filter-append, filter_map-append}

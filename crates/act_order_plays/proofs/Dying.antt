@@ -3,7 +3,7 @@ use Rattle.act_order_plays.proofs.Common.{◌≡◌, ◌≢◌, ℕ, ◌<◌, �
 use Rattle.act_order_plays.proofs.Common.{sym, ap, subst, ◌∙◌, is_some, ActorDied, Collect, AskKill, TakeKill, Tell, Answer, has_terminated, History, contains}
 use Rattle.act_order_plays.proofs.Common.{cast_of, is_caller, copies_of, runs_of, is_dead, is_ended, refusal_of, add_event, slice_get_last, added_grows}
 use Rattle.act_order_plays.proofs.Common.{sound_step, Happening, Submitted, Answered, Outcome, Told, call_of, actor_of, RunsInTurn, kept_for, telling_unrefused}
-use Rattle.act_rules.specs.declared.history.Post.TheVariants.{Death as DeathPost}
+use Rattle.act_order_plays.proofs.Common.{DeathPost, collect_unrefused}
 use Rattle.act_orders.specs.declared.told.Outcome.TheVariants as out
 use Rattle.act_order_plays.proofs.Premises.{Premises}
 use Rattle.act_order_plays.proofs.Lists.{Has, has_more, has_last, has_pushed}
@@ -16,7 +16,6 @@ use Rattle.act_order_plays.proofs.Keeping.{kept_gives}
 use Rattle.act_order_plays.proofs.More.{keeps_more, shape_answered}
 use Rattle.act_order_plays.proofs.Submitting.{one_copy}
 use Rattle.act_order_plays.proofs.Collecting.{shape_collect, collect_answers, death_answers}
-use Rattle.act_rules.proofs.Events.{collect_unrefused}
 
 -- ---- a kill
 

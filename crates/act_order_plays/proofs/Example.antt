@@ -1,10 +1,9 @@
 -- A history with calls of each sort, and events that leave it: the definitions compute to what it tells.
 use Rattle.act_order_plays.proofs.Common.{◌≡◌, true, false, List, [], ◌∷◌, map, None, Some, Ok, Err, refl, Fut, BadArgs, ActorDied, Event, History, calls_of}
 use Rattle.act_order_plays.proofs.Common.{runs_of, is_dead, is_retired, history, Told, submission_key, call_key, item_key, run_key, kept_for, calls_by, runs_by}
-use Rattle.act_order_plays.proofs.Common.{casts_of}
+use Rattle.act_order_plays.proofs.Common.{casts_of, Submit, Release, Send, Deliver, RunNext, Collect, AskKill, TakeKill, Tell, Retire}
 use Rattle.act_types.specs.declared.call.Method.TheVariants as method
 use Rattle.act_types.specs.declared.call.Value.TheVariants as value
-use Rattle.act_rules.specs.declared.event.Event.TheVariants.{Submit, Release, Send, Deliver, Run as RunNext, Collect, AskKill, TakeKill, Tell, Retire}
 use Rattle.act_orders.specs.declared.told.End.TheVariants as end
 use Rattle.act_orders.specs.declared.told.Outcome.TheVariants as out
 

@@ -1,16 +1,14 @@
 -- What a play leaves fits the limits, and what it answers took no answer that failed.
-use Rattle.act_order_plays.proofs.Common.{◌≡◌, ℕ, zero, suc, ◌<◌, ◌≤◌, ◌==◌, inl, inr, List, [], ◌∷◌, length, map, nat_lt}
-use Rattle.act_order_plays.proofs.Common.{nat_le, Option, Some, None, Ok, Err, slice_get, refl, sym, ap, subst, ◌∙◌, arith, Result, filter}
-use Rattle.act_order_plays.proofs.Common.{is_some, option_map, option_and_then, AllByRecursion, list_all, Contains, ltb-true, leb-true}
-use Rattle.act_order_plays.proofs.Common.{length-map, slice_get-map, slice_get_within, Arg, Fut, Method, Settled, Good, Bad, Value, KindState, Event, RunItem}
-use Rattle.act_order_plays.proofs.Common.{Submission, Answer, with_value, values_of, step_of_call, after_item, answer_at, needs, kept_at, settled_future}
-use Rattle.act_order_plays.proofs.Common.{settle, copies_held, is_earlier, submit_refusal, limit_refusal, IsAsSubmitted, ActorSpec, History, opening}
-use Rattle.act_order_plays.proofs.Common.{opening_of, is_caller, calls_of, copies_of, limit_of, runs_of, kept_of, next_item, unanswered}
-use Rattle.act_order_plays.proofs.Common.{submission_refusal, refusal_of, after_run, after_all, All_more, All_at, option_map-none, option_or-none, IsKept}
-use Rattle.act_order_plays.proofs.Common.{after_all_keeps, needs-none, filter-slice_get, map-slice_get, IsSound, answers_are, consistent, Outcome}
+use Rattle.act_order_plays.proofs.Common.{◌≡◌, ℕ, zero, suc, ◌<◌, ◌≤◌, ◌==◌, inl, inr, List, [], ◌∷◌, length, map, nat_lt, nat_le, Option, Some, None, Ok, Err}
+use Rattle.act_order_plays.proofs.Common.{slice_get, refl, sym, ap, subst, ◌∙◌, arith, Result, filter, is_some, option_map, option_and_then, AllByRecursion}
+use Rattle.act_order_plays.proofs.Common.{list_all, Contains, ltb-true, leb-true, length-map, slice_get-map, slice_get_within, Arg, Fut, Method, Settled, Good}
+use Rattle.act_order_plays.proofs.Common.{Value, KindState, Event, RunItem, Submission, Answer, with_value, values_of, step_of_call, after_item, answer_at}
+use Rattle.act_order_plays.proofs.Common.{needs, kept_at, settled_future, settle, copies_held, is_earlier, submit_refusal, limit_refusal, IsAsSubmitted}
+use Rattle.act_order_plays.proofs.Common.{ActorSpec, History, opening, opening_of, is_caller, calls_of, copies_of, limit_of, runs_of, kept_of, next_item}
+use Rattle.act_order_plays.proofs.Common.{unanswered, submission_refusal, refusal_of, after_run, after_all, All_more, All_at, option_map-none, option_or-none}
+use Rattle.act_order_plays.proofs.Common.{IsKept, after_all_keeps, needs-none, filter-slice_get, map-slice_get, IsSound, answers_are, consistent, Outcome}
 use Rattle.act_order_plays.proofs.Common.{Failed, Died, Open, Told, call_of, IsWhole, kept_for, IsKeptFor, LeavesTold, Fits, args_of, future_of, few_more}
-use Rattle.act_types.specs.declared.call.Value.TheVariants.{Unit as Nothing}
-use Rattle.act_rules.specs.declared.event.Event.TheVariants.{Submit, Run as RunNext}
+use Rattle.act_order_plays.proofs.Common.{Nothing, Submit, RunNext}
 use Rattle.act_rules.specs.declared.outcome.SubmitRefusal.TheVariants.{NoActor as NoSuchActor, NoHandle as NoCopy, TooManyArgs, BadFuture, TooManyCalls}
 use Rattle.act_rules.specs.declared.outcome.WorldRefusal.TheVariants.{Submit as SubmitRefused, NoCaller}
 use Rattle.act_orders.specs.declared.told.Outcome.TheVariants.{Answered}
@@ -82,8 +80,6 @@ good_args state (first ∷ items) (suc place) item value at e = good_args (after
 
 good_at : (args : List Settled) (values : List Value) (i : ℕ) (x : Settled) → values_of args ≡ Ok values → slice_get args i ≡ Some x →
     (value : Value) × (x ≡ Good value)
-good_at [] values i x e at = absurd (cc)
-good_at (Bad k ∷ args) values i x e at = absurd (cc)
 good_at (Good value ∷ args) values zero x e at = (value, cc)
 good_at (Good value ∷ args) values (suc i) x e at =
     go (values_of args) refl e (λ (rest : List Value) (is : values_of args ≡ Ok rest). good_at args rest i x is at)
@@ -92,11 +88,11 @@ good_at (Good value ∷ args) values (suc i) x e at =
         ((rest : List Value) → values_of args ≡ Ok rest → (value : Value) × (x ≡ Good value)) → (value : Value) × (x ≡ Good value)
     go (Ok rest) is e next = next rest is
     go (Err k) is e next = absurd (cc)
+good_at more values i x e at = absurd (cc)
 
 good_kept : (j : ℕ) (kept : Option Answer) (value : Value) → settled_future j kept ≡ Good value → kept ≡ Some (Ok value)
-good_kept j None value e = absurd (cc)
 good_kept j (Some (Ok other)) value e = let same : other ≡ value = cc in ap (λ (v : Value). Some (Ok v)) same
-good_kept j (Some (Err fault)) value e = absurd (cc)
+good_kept j more value e = absurd (cc)
 
 -- a value is kept for no call but an answered one
 value_answered : (o : Outcome) (kept : Option Answer) (value : Value) → IsKeptFor o kept → kept ≡ Some (Ok value) → o ≡ Answered

@@ -2,9 +2,9 @@
 use Rattle.act_order_plays.proofs.Common.{◌≡◌, ℕ, zero, suc, ◌<◌, ◌==◌, inl, inr, Bool, true, false, cond, List, [], ◌∷◌, length, filter, take, Option, Some}
 use Rattle.act_order_plays.proofs.Common.{None, slice_get, refl, sym, ap, subst, ◌∙◌, arith, filter_map, option_map, Contains, eqb-true, eq-eqb, slice_get-map}
 use Rattle.act_order_plays.proofs.Common.{IsPrefix, element, slice_get_front, slice_get-filter, IsPrefix-filter, filter-slice_get, map-slice_get, Happening}
-use Rattle.act_order_plays.proofs.Common.{Submitted, Ran, Run, Told, call_of, calls_run, SameCaller, RunsInTurn, calls_by, future_of, runs_by}
-use Rattle.act_order_plays.proofs.Common.{get_taken}
-use Rattle.act_order_plays.proofs.Lists.{Has, has_of, contains_of, has_filter, filter_has, has_filter_map, filter_map_has, Differ, below, below_at, below_has, below_differ, cases_le}
+use Rattle.act_order_plays.proofs.Common.{Submitted, Ran, Run, Told, call_of, calls_run, SameCaller, RunsInTurn, calls_by, future_of, runs_by, get_taken}
+use Rattle.act_order_plays.proofs.Lists.{Has, has_of, contains_of, has_filter, filter_has, has_filter_map, filter_map_has, Differ, below, below_at, below_has}
+use Rattle.act_order_plays.proofs.Lists.{below_differ, cases_le}
 
 abbrev pub submitted_in : Happening → Option ℕ
 submitted_in (Submitted n) = Some n

@@ -3,7 +3,7 @@ use Rattle.act_order_plays.proofs.Common.{◌≡◌, ◌≢◌, ℕ, ◌==◌, �
 use Rattle.act_order_plays.proofs.Common.{ap, subst, ◌∙◌, arith, append_assoc, Option, is_some, option_map, list_any, ltb-true, lt-ltb, list_any-append}
 use Rattle.act_order_plays.proofs.Common.{slice_get-map, Event, RunItem, Answer, IsPrefix, ActorSpec, History, contains, calls_of, runs_of, after, after_all}
 use Rattle.act_order_plays.proofs.Common.{history, runs_grow, after_keeps, IsSound, sound_step, map-slice_get, Happening, Submitted, Ran, Answered, Outcome}
-use Rattle.act_order_plays.proofs.Common.{Told, call_of, calls_run, Happened, IsWhole, kept_for, future_of}
+use Rattle.act_order_plays.proofs.Common.{Told, call_of, calls_run, Happened, IsWhole, kept_for, future_of, history_more}
 use Rattle.act_orders.specs.declared.told.Outcome.TheVariants as out
 use Rattle.act_order_plays.proofs.Lists.{Has, has_of, contains_of, has_more, below, below_at, below_has, below_differ}
 use Rattle.act_order_plays.proofs.Fronts.{run_at}
@@ -11,7 +11,6 @@ use Rattle.act_order_plays.proofs.Casts.{contains_has, has_contains}
 use Rattle.act_order_plays.proofs.Left.{run_call}
 use Rattle.act_order_plays.proofs.Along.{Within, within_all, kept_along, calls_along}
 use Rattle.act_order_plays.proofs.Orders.{Once, once_map, once_append, has_later, has_either, last_of, Lasts, Before}
-use Rattle.act_rules.proofs.Events.{history_more}
 
 -- ---- what has happened
 

@@ -1,18 +1,17 @@
 -- What a play leaves is in order.
-use Rattle.act_order_plays.proofs.Common.{◌≡◌, ℕ, ◌<◌, ◌≤◌, inl, inr, Bool, true, false, List, [], ◌∷◌, ◌++◌, length, take, nat_lt, Some, slice_get, refl, sym}
-use Rattle.act_order_plays.proofs.Common.{subst, ◌∙◌, arith, append_assoc, Contains, ltb-true, Event, ActorSpec, History, opening, calls_of, after, history}
-use Rattle.act_order_plays.proofs.Common.{IsSound, world_sound, world_retires, Happening, Submitted, Ran, Answered, Told, call_of, Happened, IsCause, IsOrder}
-use Rattle.act_order_plays.proofs.Common.{IsInOrder, IsWhole, casts_of, future_of, IsPlayOf}
+use Rattle.act_order_plays.proofs.Common.{◌≡◌, ℕ, ◌<◌, ◌≤◌, inl, inr, true, false, List, [], ◌∷◌, ◌++◌, length, take, nat_lt, Some, slice_get, refl, sym, subst}
+use Rattle.act_order_plays.proofs.Common.{◌∙◌, arith, append_assoc, Contains, ltb-true, Event, ActorSpec, History, opening, calls_of, after, history, IsSound}
+use Rattle.act_order_plays.proofs.Common.{world_sound, world_retires, Happening, Submitted, Ran, Answered, Told, call_of, Happened, IsCause, IsOrder, IsInOrder}
+use Rattle.act_order_plays.proofs.Common.{IsWhole, casts_of, future_of, IsPlayOf, history_more, le-ltb}
 use Rattle.act_order_plays.proofs.Lists.{has_of, contains_of}
 use Rattle.act_order_plays.proofs.Fronts.{run_at}
 use Rattle.act_order_plays.proofs.Left.{run_happened, run_call}
 use Rattle.act_order_plays.proofs.Turns.{runs_in_turn, ends_right}
 use Rattle.act_order_plays.proofs.Along.{Within, within_at, within_all, parted, calls_along}
-use Rattle.act_order_plays.proofs.Orders.{Lasts, order_from, order_has, order_only, order_fresh, order_after, last_of}
-use Rattle.act_order_plays.proofs.Happenings.{Seen, has_call, has_answer, has_in, states, every, every_once, every_has, every_happened, answer_lasts, all_lasts, last_is, IsCausedAt, all_before}
-use Rattle.act_order_plays.proofs.Moments.{not_both}
+use Rattle.act_order_plays.proofs.Orders.{Lasts, order_from, order_has, order_only, order_fresh, order_after, last_of, not_both}
+use Rattle.act_order_plays.proofs.Happenings.{Seen, has_call, has_answer, has_in, states, every, every_once, every_has, every_happened, answer_lasts, all_lasts}
+use Rattle.act_order_plays.proofs.Happenings.{last_is, IsCausedAt, all_before}
 use Rattle.act_order_plays.proofs.Leading.{at_the_end, ran_before, submitted_caused, ran_caused, answered_caused}
-use Rattle.act_rules.proofs.Events.{history_more}
 
 module _ (told : Told) (events : List Event) (whole : IsWhole told) (play : IsPlayOf told events) where
   abbrev casts : List ActorSpec
@@ -28,7 +27,6 @@ module _ (told : Told) (events : List Event) (whole : IsWhole told) (play : IsPl
 
   cause_happened : (y x : Happening) → IsCause told y x → Happened told x → Happened told y
   cause_happened (Submitted m) (Submitted n) cause lt = let next = cause.0 in omega arith
-  cause_happened (Ran m) (Submitted n) cause lt = absurd cause
   cause_happened (Answered m) (Submitted n) cause lt =
       let less = ((whole.waits n lt).each m cause).before in
       (omega arith, (play.waits n m lt cause).is_told)
@@ -44,35 +42,30 @@ module _ (told : Told) (events : List Event) (whole : IsWhole told) (play : IsPl
   cause_happened (Submitted m) (Answered n) cause answered = subst (λ (k : ℕ). k < length told.calls) (sym cause) answered.0
   cause_happened (Ran m) (Answered n) cause answered =
       ran_before told last whole sound play.leaves n m (within_all last [] sound) answered.0 answered.1 cause
-  cause_happened (Answered m) (Answered n) cause answered = absurd cause
+  cause_happened more other cause lt = absurd cause
 
   -- ---- and they come before
 
   -- the answers for which a caller waited are kept before it submits the call
   waited_caused : (m n : ℕ) → n < length told.calls → Contains (call_of told n).waits m → IsCausedAt told (Answered m) (Submitted n) casts events
-  waited_caused m n lt waits first event later joined = record { acts = acts; answers = λ f t. not_both (has_call told g n) f t }
-    where
-      h : History
-      h = history casts first
-
-      g : History
-      g = after (history casts first) event
-
-      acts : has_call told h n ≡ false → has_call told g n ≡ true → has_answer told h m ≡ true
-      acts f t =
-          let w = play.waits n m lt waits in
-          elim (parted first event later w.first w.later (joined ∙ sym w.joined)) [
-            | inl p ↦ answer_lasts told (history casts w.first) h m (within_at casts w.first p.0 first p.1) w.kept
-            | inr p ↦
-                let c = (call_of told n).caller in
-                let way : Within (history casts (first ++ event ∷ [])) (history casts w.first) = within_at casts (first ++ event ∷ []) p.0 w.first p.1 in
-                let long : length (calls_of c g) ≤ length (calls_of c (history casts w.first)) =
-                subst (λ (k : History). length (calls_of c k) ≤ length (calls_of c (history casts w.first))) (history_more casts first event)
-                (calls_along (history casts (first ++ event ∷ [])) (history casts w.first) c way.grows) in
-                let short = w.not_yet in
-                let there = ltb-true (future_of told n) (length (calls_of c g)) t in
-                absurd (omega arith)
-          ]
+  waited_caused m n lt waits first event later joined =
+      let h = history casts first in
+      let g = after (history casts first) event in
+      let acts : has_call told h n ≡ false → has_call told g n ≡ true → has_answer told h m ≡ true =
+      λ f t. let w = play.waits n m lt waits in
+      elim (parted first event later w.first w.later (joined ∙ sym w.joined)) [
+        | inl p ↦ answer_lasts told (history casts w.first) h m (within_at casts w.first p.0 first p.1) w.kept
+        | inr p ↦
+            let c = (call_of told n).caller in
+            let way : Within (history casts (first ++ event ∷ [])) (history casts w.first) = within_at casts (first ++ event ∷ []) p.0 w.first p.1 in
+            let long : length (calls_of c g) ≤ length (calls_of c (history casts w.first)) =
+            subst (λ (k : History). length (calls_of c k) ≤ length (calls_of c (history casts w.first))) (history_more casts first event)
+            (calls_along (history casts (first ++ event ∷ [])) (history casts w.first) c way.grows) in
+            let short = w.not_yet in
+            let there = ltb-true (future_of told n) (length (calls_of c g)) t in
+            absurd (omega arith)
+      ] in
+      record { acts = acts; answers = λ f t. not_both (has_call told g n) f t }
 
   caused : (y x : Happening) → IsCause told y x → Happened told x → IsCausedAt told y x casts events
   caused (Submitted m) (Submitted n) cause lt first event later joined =
@@ -105,11 +98,7 @@ module _ (told : Told) (events : List Event) (whole : IsWhole told) (play : IsPl
   order = order_from (has_in told) (every told) start all
 
   none_less : (k : ℕ) → nat_lt k 0 ≡ false
-  none_less k = go (nat_lt k 0) refl
-    where
-      go : (b : Bool) → nat_lt k 0 ≡ b → b ≡ false
-      go true e = let less = ltb-true k 0 e in absurd (omega arith)
-      go false e = refl
+  none_less k = le-ltb k 0 (omega arith)
 
   nothing_yet : (x : Happening) → has_in told start x ≡ false
   nothing_yet (Submitted n) = none_less (future_of told n)

@@ -1,11 +1,11 @@
 -- Which collected posts answer a call.
-use Rattle.act_order_plays.proofs.Common.{◌≡◌, ℕ, ◌<◌, ◌==◌, ◌&&◌, ◌⊎◌, inl, inr, true, List, [], ◌∷◌, ◌++◌, length, Option, Some, None, Err}
-use Rattle.act_order_plays.proofs.Common.{slice_get, refl, sym, ap, subst, ◌∙◌, filter_map, option_map, option_and_then, AllByRecursion, cons_option, eqb-true}
-use Rattle.act_order_plays.proofs.Common.{and_parts, slice_get-map, ActorDied, KindState, OwnAt, Post, RunItem, Submission, Answer, answer_at, ActorSpec}
-use Rattle.act_order_plays.proofs.Common.{History, opening_of, calls_of, runs_of, is_item_of, answer_of, answer_in, slice_get_front, kept_by, kept_at_is}
-use Rattle.act_order_plays.proofs.Common.{Happening, Submitted, Ran, Told, call_of, kept_for, answers, calls_by, future_of, cond_gives}
-use Rattle.act_rules.specs.declared.history.Post.TheVariants.{Reply as ReplyPost, Death as DeathPost}
-use Rattle.act_order_plays.proofs.Lists.{Has}
+use Rattle.act_order_plays.proofs.Common.{◌≡◌, ℕ, ◌<◌, ◌==◌, ◌&&◌, ◌⊎◌, inl, inr, true, List, [], ◌∷◌, ◌++◌, length, Option, Some, Err, zero, All_at, slice_get}
+use Rattle.act_order_plays.proofs.Common.{refl, sym, ap, subst, ◌∙◌, filter_map, option_map, option_and_then, AllByRecursion, eqb-true, and_parts}
+use Rattle.act_order_plays.proofs.Common.{slice_get-map, ActorDied, KindState, OwnAt, Post, RunItem, Submission, Answer, answer_at, ActorSpec, History}
+use Rattle.act_order_plays.proofs.Common.{opening_of, calls_of, runs_of, is_item_of, answer_of, answer_in, slice_get_front, kept_by, kept_at_is, Happening}
+use Rattle.act_order_plays.proofs.Common.{Submitted, Ran, Told, call_of, kept_for, answers, calls_by, future_of, cond_gives, slice_get_within, element, arith}
+use Rattle.act_order_plays.proofs.Common.{ReplyPost, DeathPost}
+use Rattle.act_order_plays.proofs.Lists.{Has, has_filter_map, filter_map_has, has_last}
 use Rattle.act_order_plays.proofs.Fronts.{subs_of, rans_of, subs_of_has, has_rans_of, call_at, calls_differ}
 use Rattle.act_order_plays.proofs.Causes.{Good}
 use Rattle.act_order_plays.proofs.Casts.{cast_of_is}
@@ -17,24 +17,16 @@ use Rattle.act_order_plays.proofs.Stands.{sub_of, Shape, IsDeath, IsRight, runs_
 -- it comes from a post
 pub first_from : {P : Post → Type 0} (f : Post → Option Answer) (posts : List Post) (answer : Answer) → AllByRecursion P posts →
     slice_get (filter_map f posts) 0 ≡ Some answer → (post : Post) × P post × (f post ≡ Some answer)
-first_from f [] answer all e = absurd (cc)
-first_from {P = P} f (post ∷ posts) answer all e = go (f post) refl (first_from f posts answer all.1) e
-  where
-    go : (o : Option Answer) → f post ≡ o → (slice_get (filter_map f posts) 0 ≡ Some answer → (post : Post) × P post × (f post ≡ Some answer)) →
-        slice_get (cons_option o (filter_map f posts)) 0 ≡ Some answer → (post : Post) × P post × (f post ≡ Some answer)
-    go None is rest e = rest e
-    go (Some first) is rest e = (post, all.0, is ∙ e)
+first_from {P = P} f posts answer all e =
+    let from = filter_map_has f posts answer (zero, e) in (from.0, All_at P posts from.1.0 from.0 all from.1.1, from.2)
 
 -- where a post answers, there is one
 pub first_some : (f : Post → Option Answer) (posts : List Post) (post : Post) (answer : Answer) → f post ≡ Some answer →
     (first : Answer) × (slice_get (filter_map f (posts ++ post ∷ [])) 0 ≡ Some first)
-first_some f [] post answer is = (answer, ap (λ (o : Option Answer). slice_get (cons_option o []) 0) is)
-first_some f (one ∷ posts) post answer is = go (f one) (first_some f posts post answer is)
-  where
-    go : (o : Option Answer) → ((first : Answer) × (slice_get (filter_map f (posts ++ post ∷ [])) 0 ≡ Some first)) →
-        (first : Answer) × (slice_get (cons_option o (filter_map f (posts ++ post ∷ []))) 0 ≡ Some first)
-    go None rest = rest
-    go (Some first) rest = (first, refl)
+first_some f posts post answer is =
+    let has = has_filter_map f (posts ++ post ∷ []) post answer (has_last posts post) is in
+    let within = slice_get_within (filter_map f (posts ++ post ∷ [])) has.0 answer has.1 in
+    element (filter_map f (posts ++ post ∷ [])) 0 (omega (arith, within))
 
 -- ---- a call that was submitted
 

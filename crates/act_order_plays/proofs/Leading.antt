@@ -1,7 +1,7 @@
 -- What leads to what in a play: what happened before each call, each run and each answer.
-use Rattle.act_order_plays.proofs.Common.{◌≡◌, ◌≢◌, ℕ, ◌+◌, ◌<◌, true, false, List, length, nat_lt, Some, None, Ok, Err, slice_get, refl, sym, ap}
-use Rattle.act_order_plays.proofs.Common.{subst, ◌∙◌, arith, Option, is_some, list_any, Contains, ltb-true, lt-ltb, slice_get_within, Arg, ActorDied, Event}
-use Rattle.act_order_plays.proofs.Common.{RunItem, Answer, History, calls_of, runs_of, is_dead, is_retired, after, IsSound, kept_from, answers_are, deaths_are}
+use Rattle.act_order_plays.proofs.Common.{◌≡◌, ◌≢◌, ℕ, ◌+◌, ◌<◌, true, false, List, length, nat_lt, Some, None, Ok, Err, slice_get, refl, sym, ap, subst, ◌∙◌}
+use Rattle.act_order_plays.proofs.Common.{arith, Option, is_some, list_any, Contains, ltb-true, lt-ltb, slice_get_within, Arg, ActorDied, Event, RunItem}
+use Rattle.act_order_plays.proofs.Common.{Answer, History, calls_of, runs_of, is_dead, is_retired, after, IsSound, kept_from, answers_are, deaths_are}
 use Rattle.act_order_plays.proofs.Common.{Happening, Submitted, Ran, Answered, Outcome, Run, Told, call_of, calls_run, Happened, IsLastRun, RunsBefore, IsCause}
 use Rattle.act_order_plays.proofs.Common.{IsWhole, kept_for, IsKeptFor, LeavesTold, future_of, or_left}
 use Rattle.act_orders.specs.declared.told.Outcome.TheVariants as out
@@ -11,7 +11,8 @@ use Rattle.act_order_plays.proofs.Left.{IsOf, ran_by, run_happened, stands, call
 use Rattle.act_order_plays.proofs.Turns.{here, future_less}
 use Rattle.act_order_plays.proofs.Along.{Within, kept_along}
 use Rattle.act_order_plays.proofs.Happenings.{is_item, has_call, has_run, has_answer, has_in, IsCaused}
-use Rattle.act_order_plays.proofs.Moments.{one_call_more, not_both, is_of_item, item_is, RanCall, ran_call, run_submitted, run_takes, run_follows}
+use Rattle.act_order_plays.proofs.Moments.{one_call_more, is_of_item, item_is, RanCall, ran_call, run_submitted, run_takes, run_follows}
+use Rattle.act_order_plays.proofs.Orders.{not_both}
 
 module _ (told : Told) (last : History) (whole : IsWhole told) (sound : IsSound last) (leaves : LeavesTold told last) where
   -- ---- answers

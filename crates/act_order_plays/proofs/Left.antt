@@ -1,9 +1,8 @@
 -- What is left, call by call: where a call stands, and which calls ran.
-use Rattle.act_order_plays.proofs.Common.{◌≡◌, ℕ, zero, suc, ◌<◌, List, [], ◌∷◌, length, map, filter, Some, slice_get, refl, sym, ap, subst, ◌∙◌, option_map}
-use Rattle.act_order_plays.proofs.Common.{Contains, eqb-true, slice_get-map, slice_get_within, get_or_from_slice_get, Arg, RunItem, Submission, History}
-use Rattle.act_order_plays.proofs.Common.{calls_of, runs_of, slice_get_front, Grows, calls_grow, IsSound, filter-slice_get, map-slice_get, held_submission, Run}
-use Rattle.act_order_plays.proofs.Common.{Told, call_of, calls_run, IsWhole, submission_key, call_key, item_key, run_key, LeavesTold, calls_by, runs_by}
-use Rattle.act_order_plays.proofs.Common.{future_of}
+use Rattle.act_order_plays.proofs.Common.{◌≡◌, ℕ, ◌<◌, List, length, map, filter, Some, slice_get, sym, ap, subst, ◌∙◌, option_map, Contains, eqb-true}
+use Rattle.act_order_plays.proofs.Common.{slice_get-map, slice_get_within, get_or_from_slice_get, Arg, RunItem, Submission, History, calls_of, runs_of}
+use Rattle.act_order_plays.proofs.Common.{slice_get_front, Grows, calls_grow, IsSound, filter-slice_get, map-slice_get, held_submission, Run, Told, call_of}
+use Rattle.act_order_plays.proofs.Common.{calls_run, IsWhole, submission_key, call_key, item_key, run_key, LeavesTold, calls_by, runs_by, future_of}
 use Rattle.act_order_plays.proofs.Lists.{contains_of}
 use Rattle.act_order_plays.proofs.Fronts.{IsRunAt, is_run_of, call_at}
 use Rattle.act_order_plays.proofs.Keeping.{same_call}
@@ -11,13 +10,9 @@ use Rattle.act_order_plays.proofs.Keeping.{same_call}
 -- an item of the one list, and that of the other with the same key
 pub keys_at : {A B K : Type 0} (f : A → K) (g : B → K) (xs : List A) (ys : List B) (i : ℕ) (x : A) → map f xs ≡ map g ys → slice_get xs i ≡ Some x →
     (y : B) × (slice_get ys i ≡ Some y) × (f x ≡ g y)
-keys_at f g [] ys i x same at = absurd (cc)
-keys_at f g (z ∷ xs) [] i x same at = absurd (cc)
-keys_at f g (z ∷ xs) (y ∷ ys) zero x same at =
-    let is : z ≡ x = cc in
-    let heads : f z ≡ g y = cc in
-    (y, refl, ap f (sym is) ∙ heads)
-keys_at f g (z ∷ xs) (y ∷ ys) (suc i) x same at = keys_at f g xs ys i x (cc) at
+keys_at {K = K} f g xs ys i x same at =
+    let one = map-slice_get g ys i (f x) (ap (λ (l : List K). slice_get l i) (sym same) ∙ slice_get-map f xs i ∙ ap (option_map f) at) in
+    (one.0, one.1, sym one.2)
 
 -- the run of a call, by its actor
 pub ran_by : (told : Told) (a j n : ℕ) → slice_get (runs_by told a) j ≡ Some n → (p : ℕ) × (run : Run) × (run.actor ≡ a) × IsRunAt told n p run

@@ -1,9 +1,9 @@
 -- Laws of lists: what they have, fronts of lists whose items differ, and numbers that pass a test.
 use Rattle.act_order_plays.proofs.Common.{◌≡◌, ℕ, zero, suc, ◌+◌, ◌<◌, ◌≤◌, ◌⊎◌, inl, inr, Bool, true, false, cond, List, [], ◌∷◌, ◌++◌, length, filter, take}
-use Rattle.act_order_plays.proofs.Common.{Option, Some, None, slice_get, refl, sym, ap, subst, ◌∙◌, arith, filter_map, Contains, cons_option}
-use Rattle.act_order_plays.proofs.Common.{range_with_len, cases_lt, append-nil, filter-append, slice_get_within, slice_get-get_or, get_or_from_slice_get}
-use Rattle.act_order_plays.proofs.Common.{IsPrefix, slice_get_more, slice_get_front, slice_get_last, slice_get-filter, front_next, range_push, element}
-use Rattle.act_order_plays.proofs.Common.{filter-slice_get, slice_get_pushed, front_whole}
+use Rattle.act_order_plays.proofs.Common.{Option, Some, None, slice_get, refl, sym, ap, subst, ◌∙◌, arith, filter_map, Contains, cons_option, range_with_len}
+use Rattle.act_order_plays.proofs.Common.{cases_lt, append-nil, filter-append, slice_get_within, slice_get-get_or, get_or_from_slice_get, IsPrefix}
+use Rattle.act_order_plays.proofs.Common.{slice_get_more, slice_get_front, slice_get_last, slice_get-filter, front_next, range_push, element, filter-slice_get}
+use Rattle.act_order_plays.proofs.Common.{slice_get_pushed, front_whole}
 
 -- ---- what a list has
 
@@ -28,13 +28,7 @@ has_last xs x = (length xs, slice_get_last xs x)
 
 -- where an item is added at the end, what the list has it had before, or it is that item
 pub has_pushed : {A : Type 0} (xs : List A) (y x : A) → Has (xs ++ y ∷ []) x → (Has xs x) ⊎ (y ≡ x)
-has_pushed {A = A} xs y x has = go xs has.0 has.1
-  where
-    go : (xs : List A) (i : ℕ) → slice_get (xs ++ y ∷ []) i ≡ Some x → (Has xs x) ⊎ (y ≡ x)
-    go [] zero e = inr (cc)
-    go [] (suc i) e = absurd (cc)
-    go (z ∷ zs) zero e = inl (zero, e)
-    go (z ∷ zs) (suc i) e = elim (go zs i e) [ inl h ↦ inl (suc h.0, h.1) | inr same ↦ inr same ]
+has_pushed xs y x has = elim (slice_get_pushed xs y has.0 x has.1) [ inl h ↦ inl (has.0, h) | inr h ↦ inr h.1 ]
 
 -- what a list has and passes the test, the filtered list has
 pub has_filter : {A : Type 0} (p : A → Bool) (xs : List A) (x : A) → Has xs x → p x ≡ true → Has (filter p xs) x
@@ -90,28 +84,21 @@ within_front xs ys i x differ front at has =
 -- where a front has each item before this one, and not this, it is as long as these
 pub front_ends : (xs ys : List ℕ) (i x : ℕ) → Differ ys → IsPrefix xs ys → slice_get ys i ≡ Some x → (Has xs x → ⊥) →
     ((j y : ℕ) → j < i → slice_get ys j ≡ Some y → Has xs y) → length xs ≡ i
-front_ends xs ys zero x differ front at fresh before = first (length xs) refl
-  where
-    first : (n : ℕ) → length xs ≡ n → length xs ≡ 0
-    first zero e = e
-    first (suc n) e =
-        let one = element xs 0 (omega arith) in
-        let there : slice_get ys 0 ≡ Some one.0 = slice_get_front xs ys 0 one.0 front one.1 in
-        let same : one.0 ≡ x = cc in
-        absurd (fresh (0, one.1 ∙ ap Some same))
-front_ends xs ys (suc i) x differ front at fresh before =
-    let ends = slice_get_within ys (suc i) x at in
-    let one = element ys i (omega arith) in
-    let long : i < length xs = within_front xs ys i one.0 differ front one.1 (before i one.0 (omega arith) one.1) in
-    tests (cases_le (length xs) (suc i)) long
-  where
-    tests : (length xs ≤ suc i) ⊎ (suc i < length xs) → i < length xs → length xs ≡ suc i
-    tests (inl a) long = omega arith
-    tests (inr b) long =
-        let two = element xs (suc i) b in
-        let there : slice_get ys (suc i) ≡ Some two.0 = slice_get_front xs ys (suc i) two.0 front two.1 in
+front_ends xs ys i x differ front at fresh before = elim (cases_lt (length xs) i) [
+  | inl less ↦
+      let ends = slice_get_within ys i x at in
+      let one = element ys (length xs) (omega arith) in
+      let long = within_front xs ys (length xs) one.0 differ front one.1 (before (length xs) one.0 less one.1) in
+      absurd (omega arith)
+  | inr most ↦ elim (cases_le (length xs) i) [
+    | inl least ↦ omega arith
+    | inr more ↦
+        let two = element xs i more in
+        let there : slice_get ys i ≡ Some two.0 = slice_get_front xs ys i two.0 front two.1 in
         let same : two.0 ≡ x = cc in
-        absurd (fresh (suc i, two.1 ∙ ap Some same))
+        absurd (fresh (i, two.1 ∙ ap Some same))
+  ]
+]
 
 -- such a front grows by this item
 pub front_grows : (xs ys : List ℕ) (i x : ℕ) → Differ ys → IsPrefix xs ys → slice_get ys i ≡ Some x → (Has xs x → ⊥) →
@@ -121,14 +108,13 @@ front_grows xs ys i x differ front at fresh before =
 
 -- a front that has each item is the list
 pub front_has_all : (xs ys : List ℕ) → Differ ys → IsPrefix xs ys → ((y : ℕ) → Has ys y → Has xs y) → xs ≡ ys
-front_has_all xs ys differ front all = front_whole xs ys front (tests (cases_le (length ys) (length xs)))
-  where
-    tests : (length ys ≤ length xs) ⊎ (length xs < length ys) → length ys ≤ length xs
-    tests (inl a) = a
-    tests (inr b) =
-        let one = element ys (length xs) b in
-        let long = within_front xs ys (length xs) one.0 differ front one.1 (all one.0 (length xs, one.1)) in
-        absurd (omega arith)
+front_has_all xs ys differ front all = front_whole xs ys front (elim (cases_le (length ys) (length xs)) [
+  | inl a ↦ a
+  | inr b ↦
+      let one = element ys (length xs) b in
+      let long = within_front xs ys (length xs) one.0 differ front one.1 (all one.0 (length xs, one.1)) in
+      absurd (omega arith)
+])
 
 -- ---- the numbers below a bound that pass a test
 
@@ -142,12 +128,10 @@ below_more p n = ap (filter p) (range_push 0 n) ∙ filter-append p (range_with_
 -- a number that passes stands behind the lower ones that pass
 pub below_at : (p : ℕ → Bool) (m n : ℕ) → n < m → p n ≡ true → slice_get (below p m) (length (below p n)) ≡ Some n
 below_at p zero n lt passes = absurd (omega arith)
-below_at p (suc m) n lt passes = rw (below_more p m) (tests (cases_lt n m) (λ (a : n < m). below_at p m n a passes))
-  where
-    tests : (n < m) ⊎ (m ≤ n) → (n < m → slice_get (below p m) (length (below p n)) ≡ Some n) →
-        slice_get (below p m ++ cond (p m) (m ∷ []) []) (length (below p n)) ≡ Some n
-    tests (inl a) rest = slice_get_more (below p m) (cond (p m) (m ∷ []) []) (length (below p n)) n (rest a)
-    tests (inr b) rest = let same : m ≡ n = omega arith in rw (same, passes) (slice_get_last (below p n) n)
+below_at p (suc m) n lt passes = rw (below_more p m) (elim (cases_lt n m) [
+  | inl a ↦ slice_get_more (below p m) (cond (p m) (m ∷ []) []) (length (below p n)) n (below_at p m n a passes)
+  | inr b ↦ let same : m ≡ n = omega arith in rw (same, passes) (slice_get_last (below p n) n)
+])
 
 -- what stands there passes, is below the bound, and stands behind the lower ones
 pub record IsBelow (p : ℕ → Bool) (m j n : ℕ) : Type 0 where

@@ -5,9 +5,7 @@ use Rattle.act_order_plays.proofs.Common.{list_all, Contains, lt-ltb, eqb-true, 
 use Rattle.act_order_plays.proofs.Common.{Fut, Event, RunItem, Submission, is_known, History, under, calls_of, runs_of, kept_of, ran_count, next_item}
 use Rattle.act_order_plays.proofs.Common.{add_event, after_run, after, slice_get_front, slice_get_last, element, runs_grow, under-push, after_keeps}
 use Rattle.act_order_plays.proofs.Common.{IsSoundLetter, has_letter-sound, IsNext, next_item_is, calls_to-at, one_place, IsSound, Run, Told, call_of, RunsNext}
-use Rattle.act_order_plays.proofs.Common.{IsWhole, LeavesTold, args_of, future_of}
-use Rattle.act_rules.specs.declared.event.Event.TheVariants.{Submit, Run as RunNext}
-use Rattle.act_rules.specs.declared.history.Letter.TheVariants.{Call as CallLetter}
+use Rattle.act_order_plays.proofs.Common.{IsWhole, LeavesTold, args_of, future_of, Submit, RunNext, CallLetter, or_cases, list_any-append}
 use Rattle.act_order_plays.proofs.Lists.{has_of}
 use Rattle.act_order_plays.proofs.Fronts.{is_run_of, rank, run_ranks}
 use Rattle.act_order_plays.proofs.Casts.{list_any_has}
@@ -15,6 +13,9 @@ use Rattle.act_order_plays.proofs.Left.{IsOf, call_there, item_at}
 use Rattle.act_order_plays.proofs.Turns.{here}
 use Rattle.act_order_plays.proofs.Along.{Within}
 use Rattle.act_order_plays.proofs.Happenings.{is_item, has_call, has_run, has_answer}
+use Rattle.act_order_plays.proofs.Orders.{not_both}
+use Rattle.act_rules.proofs.Places.{all_at}
+use Rattle.std.proofs.lemmas.List.Sums.{AllPass-from_list_all}
 
 -- ---- one event
 
@@ -74,11 +75,6 @@ added_run h event a = inl refl
 may_run : (h : History) (event : Event) (a : ℕ) → MayRun a h (after h event)
 may_run h event a = after_keeps (MayRun a h) h event (inl refl) (λ accepted. added_run h event a)
 
--- from a test that is both false and true, anything follows
-pub not_both : {A : Type 0} (b : Bool) → b ≡ false → b ≡ true → A
-not_both true f t = absurd (cc)
-not_both false f t = absurd (cc)
-
 pub is_of_item : (told : Told) (n : ℕ) (item : RunItem) → is_item (call_of told n).caller (future_of told n) item ≡ true → IsOf told n item
 is_of_item told n item e =
     let parts = and_parts (item.caller == (call_of told n).caller) (item.future == future_of told n) e in
@@ -90,17 +86,10 @@ item_is told n item is =
     (eq-eqb item.caller (call_of told n).caller is.caller) (eq-eqb item.future (future_of told n) is.future)
 
 last_any : (p : RunItem → Bool) (items : List RunItem) (item : RunItem) → list_any p items ≡ false → list_any p (items ++ item ∷ []) ≡ true → p item ≡ true
-last_any p [] item f t = go (p item) t
-  where
-    go : (b : Bool) → (b || false) ≡ true → b ≡ true
-    go true e = refl
-    go false e = e
-last_any p (x ∷ items) item f t = go (p x) (last_any p items item) f t
-  where
-    go : (b : Bool) → (list_any p items ≡ false → list_any p (items ++ item ∷ []) ≡ true → p item ≡ true) → (b || list_any p items) ≡ false →
-        (b || list_any p (items ++ item ∷ [])) ≡ true → p item ≡ true
-    go true rest f t = absurd (cc)
-    go false rest f t = rest f t
+last_any p items item f t = elim (or_cases (list_any p items) (p item || false) (sym (list_any-append p items (item ∷ [])) ∙ t)) [
+  | inl old ↦ not_both (list_any p items) f old
+  | inr new ↦ elim (or_cases (p item) false new) [ inl is ↦ is | inr bad ↦ absurd (cc) ]
+]
 
 -- a call that an event ran is the item that it ran
 pub record RanCall (told : Told) (n : ℕ) (h g : History) : Type 0 where
@@ -119,11 +108,6 @@ ran_call told n h event f t = elim (may_run h event (call_of told n).actor) [
   where
     p : RunItem → Bool
     p = is_item (call_of told n).caller (future_of told n)
-
-list_all_at : {A : Type 0} (p : A → Bool) (xs : List A) (i : ℕ) (x : A) → list_all p xs ≡ true → slice_get xs i ≡ Some x → p x ≡ true
-list_all_at p [] i x all at = absurd (cc)
-list_all_at p (y ∷ xs) zero x all at = let same : y ≡ x = cc in subst (λ (z : _). p z ≡ true) same (and_parts (p y) (list_all p xs) all).0
-list_all_at p (y ∷ xs) (suc i) x all at = list_all_at p xs i x (and_parts (p y) (list_all p xs) all).1 at
 
 rank_more : {A : Type 0} (t : A → Bool) (xs : List A) (i : ℕ) (x : A) → slice_get xs i ≡ Some x → t x ≡ true →
     length (filter t (take (suc i) xs)) ≡ suc (length (filter t (take i xs)))
@@ -178,7 +162,9 @@ module _ (told : Told) (last : History) (whole : IsWhole told) (sound : IsSound 
       let place = has_of (call_of told n).takes m takes in
       let at : slice_get (args_of told n) place.0 ≡ Some (Fut (future_of told m)) =
       slice_get-map (λ (k : ℕ). Fut (future_of told k)) (call_of told n).takes place.0 ∙ ap (option_map (λ (k : ℕ). Fut (future_of told k))) place.1 in
-      let is : is_known (kept_of c h) (Fut (future_of told m)) ≡ true = list_all_at (is_known (kept_of c h)) (args_of told n) place.0 _ all at in
+      let is : is_known (kept_of c h) (Fut (future_of told m)) ≡ true =
+      all_at (λ (x : Arg). is_known (kept_of c h) x ≡ true) (args_of told n) place.0 _
+      (AllPass-from_list_all (is_known (kept_of c h)) (args_of told n) all) at in
       subst (λ (d : ℕ). is_known (kept_of d h) (Fut (future_of told m)) ≡ true) (caller ∙ sym same) is
 
   -- what its actor ran before it ran

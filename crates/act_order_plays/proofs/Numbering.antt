@@ -1,49 +1,19 @@
 -- An actor ran as many of a caller's calls as come before its next call to it.
-use Rattle.act_order_plays.proofs.Common.{◌≡◌, ℕ, zero, suc, ◌+◌, ◌<◌, ◌≤◌, ◌==◌, Bool, true, false, cond, List, [], ◌∷◌, length, map, filter, take, Some}
-use Rattle.act_order_plays.proofs.Common.{slice_get, refl, sym, ap, subst, ◌∙◌, arith, option_map, enumerate_from, eqb-true, eq-eqb, length-map, slice_get-map}
-use Rattle.act_order_plays.proofs.Common.{IsPrefix, RunItem, Submission, items_of, calls_to, number_of, History, calls_of, runs_of, ran_count, element}
-use Rattle.act_order_plays.proofs.Common.{slice_get_front, IsPrefix-map, calls_to_grow, calls_to-number, InOrder, numbered, numbers, calls_to-at, map-slice_get}
-use Rattle.act_order_plays.proofs.Common.{Happening, Submitted, Ran, Run, Told, call_of, SameWay, RunsInTurn, IsCause, calls_by, future_of, get_taken}
-use Rattle.act_order_plays.proofs.Common.{map-enumerate_from, map-numbered, calls_to-length}
+use Rattle.act_order_plays.proofs.Common.{◌≡◌, ℕ, ◌<◌, ◌==◌, true, List, length, map, take, Some, slice_get, refl, sym, ap, subst, ◌∙◌, arith, option_map}
+use Rattle.act_order_plays.proofs.Common.{eqb-true, eq-eqb, length-map, slice_get-map, IsPrefix, RunItem, Submission, items_of, calls_to, number_of, History}
+use Rattle.act_order_plays.proofs.Common.{calls_of, runs_of, ran_count, element, slice_get_front, IsPrefix-map, calls_to_grow, calls_to-number, InOrder}
+use Rattle.act_order_plays.proofs.Common.{numbered, numbers, calls_to-at, map-slice_get, Happening, Submitted, Ran, Run, Told, call_of, SameWay, RunsInTurn}
+use Rattle.act_order_plays.proofs.Common.{IsCause, calls_by, future_of, get_taken, map-enumerate_from, map-numbered, calls_to-length, places_differ}
 use Rattle.act_order_plays.proofs.Premises.{Premises}
 use Rattle.act_order_plays.proofs.Lists.{Has, has_filter, filter_has, Differ, front_ends}
-use Rattle.act_order_plays.proofs.Fronts.{subs_of, rans_of, rans_of_has, has_rans_of, call_at, call_before, calls_differ, IsRunAt, run_at, ran_earlier, take_front}
+use Rattle.act_order_plays.proofs.Fronts.{subs_of, rans_of, rans_of_has, has_rans_of, call_at, call_before, calls_differ, IsRunAt, run_at, ran_earlier}
+use Rattle.act_order_plays.proofs.Fronts.{take_front}
 use Rattle.act_order_plays.proofs.Causes.{IsNext, Good, earlier_ran}
 use Rattle.act_order_plays.proofs.Answering.{call_of_item, item_of_call}
 use Rattle.act_order_plays.proofs.Stands.{sub_of, Shape, runs_are, calls_are}
 use Rattle.act_order_plays.proofs.Keeping.{call_stands, same_call, ran_submitted}
 
 -- ---- the futures of a caller's calls to an actor
-
--- the places of items that pass, counted from n
-abbrev places : {A : Type 0} → (ℕ × A → Bool) → ℕ → List A → List ℕ
-places t n xs = map (λ e. e.0) (filter t (enumerate_from n xs))
-
-places_from : {A : Type 0} (t : ℕ × A → Bool) (n : ℕ) (xs : List A) (m k : ℕ) → slice_get (places t n xs) m ≡ Some k → n ≤ k
-places_from t n [] m k e = absurd (cc)
-places_from {A = A} t n (x ∷ xs) m k e = go (t (n, x)) m (λ (i : ℕ). places_from t (n + 1) xs i k) e
-  where
-    go : (b : Bool) (m : ℕ) → ((i : ℕ) → slice_get (places t (n + 1) xs) i ≡ Some k → n + 1 ≤ k) →
-        slice_get (map (λ (e : ℕ × A). e.0) (cond b ((n, x) ∷ filter t (enumerate_from (n + 1) xs)) (filter t (enumerate_from (n + 1) xs)))) m ≡ Some k → n ≤ k
-    go true zero rest e = let same : n ≡ k = cc in omega arith
-    go true (suc i) rest e = let more : n + 1 ≤ k = rest i e in omega arith
-    go false m rest e = let more : n + 1 ≤ k = rest m e in omega arith
-
-places_differ : {A : Type 0} (t : ℕ × A → Bool) (n : ℕ) (xs : List A) → Differ (places t n xs)
-places_differ t n [] m i k e f = absurd (cc)
-places_differ {A = A} t n (x ∷ xs) m i k e f = go (t (n, x)) m i (λ (p q : ℕ). places_differ t (n + 1) xs p q k) (λ (p : ℕ). places_from t (n + 1) xs p k) e f
-  where
-    rest : List (ℕ × A)
-    rest = filter t (enumerate_from (n + 1) xs)
-
-    go : (b : Bool) (m i : ℕ) → ((p q : ℕ) → slice_get (places t (n + 1) xs) p ≡ Some k → slice_get (places t (n + 1) xs) q ≡ Some k → p ≡ q) →
-        ((p : ℕ) → slice_get (places t (n + 1) xs) p ≡ Some k → n + 1 ≤ k) → slice_get (map (λ (e : ℕ × A). e.0) (cond b ((n, x) ∷ rest) rest)) m ≡ Some k →
-        slice_get (map (λ (e : ℕ × A). e.0) (cond b ((n, x) ∷ rest) rest)) i ≡ Some k → m ≡ i
-    go true zero zero same from e f = refl
-    go true zero (suc i) same from e f = let is : n ≡ k = cc in let more : n + 1 ≤ k = from i f in absurd (omega arith)
-    go true (suc m) zero same from e f = let is : n ≡ k = cc in let more : n + 1 ≤ k = from m e in absurd (omega arith)
-    go true (suc m) (suc i) same from e f = ap (λ (j : ℕ). suc j) (same m i e f)
-    go false m i same from e f = same m i e f
 
 -- the futures of those of a caller's calls that are to an actor, in order
 abbrev pub futures_to : ℕ → List Submission → List ℕ

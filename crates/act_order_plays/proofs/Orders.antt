@@ -1,6 +1,6 @@
 -- An order of what comes true along states: what comes true at each of them, one after the other.
 use Rattle.act_order_plays.proofs.Common.{◌≡◌, ℕ, zero, suc, ◌<◌, ◌&&◌, ◌⊎◌, inl, inr, Bool, true, false, List, [], ◌∷◌, ◌++◌, filter, map, take, Some}
-use Rattle.act_order_plays.proofs.Common.{slice_get, refl, sym, ap, subst, ◌∙◌, arith, cond, not, and_parts, not-true, map-slice_get}
+use Rattle.act_order_plays.proofs.Common.{slice_get, refl, sym, ap, subst, ◌∙◌, arith, cond, not, and_parts, not-true, map-slice_get, false_from_ne_true}
 use Rattle.act_order_plays.proofs.Lists.{Has, has_more, has_filter, filter_has}
 
 -- ---- lists of which no item stands twice
@@ -75,12 +75,15 @@ has_taken : {A : Type 0} (i : ℕ) (xs : List A) (x : A) → Has (take i xs) x �
 has_taken {A = A} i xs x has = go i xs has.0 has.1
   where
     go : (i : ℕ) (xs : List A) (k : ℕ) → slice_get (take i xs) k ≡ Some x → (k : ℕ) × (k < i) × (slice_get xs k ≡ Some x)
-    go zero xs k at = absurd (cc)
-    go (suc i) [] k at = absurd (cc)
     go (suc i) (y ∷ xs) zero at = (zero, omega arith, at)
     go (suc i) (y ∷ xs) (suc k) at = let r = go i xs k at in let less = r.1 in (suc r.0, omega (arith, less), r.2)
+    go more xs k at = absurd (cc)
 
 -- ---- the order
+
+-- from a test that is both false and true, anything follows
+pub not_both : {A : Type 0} (b : Bool) → b ≡ false → b ≡ true → A
+not_both more f t = absurd (cc)
 
 module _ {S X : Type 0} (has : S → X → Bool) (every : List X) where
   abbrev pub is_new : S → S → X → Bool
@@ -104,10 +107,6 @@ module _ {S X : Type 0} (has : S → X → Bool) (every : List X) where
   Before y x s [] = Unit {0}
   Before y x s (t ∷ ts) = (has s x ≡ false → has t x ≡ true → has s y ≡ true) × Before y x t ts
 
-  not_both : {A : Type 0} (b : Bool) → b ≡ false → b ≡ true → A
-  not_both true f t = absurd (cc)
-  not_both false f t = absurd (cc)
-
   new_of : (s t : S) (x : X) → has s x ≡ false → has t x ≡ true → is_new s t x ≡ true
   new_of s t x f e = rw (f, e) refl
 
@@ -123,11 +122,7 @@ module _ {S X : Type 0} (has : S → X → Bool) (every : List X) where
       go false now rest = has_later (filter (is_new s t) every) (order_from t ts) x (rest now)
 
   stays_false : (s t : S) (x : X) → ((x : X) → has s x ≡ true → has t x ≡ true) → has t x ≡ false → has s x ≡ false
-  stays_false s t x lasts f = go (has s x) refl
-    where
-      go : (b : Bool) → has s x ≡ b → b ≡ false
-      go true e = not_both (has t x) f (lasts x e)
-      go false e = refl
+  stays_false s t x lasts f = false_from_ne_true (has s x) (λ e. not_both (has t x) f (lasts x e))
 
   -- all in it is among these, and comes true later
   pub order_only : (s : S) (ts : List S) (x : X) → Lasts s ts → Has (order_from s ts) x → Has every x × (has s x ≡ false)

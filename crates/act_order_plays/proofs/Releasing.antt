@@ -4,8 +4,7 @@ use Rattle.act_order_plays.proofs.Common.{None, slice_get, refl, sym, ap, subst,
 use Rattle.act_order_plays.proofs.Common.{list_any-append, Release, Deliver, Retire, Letter, calls_to, copies_held, ActorSpec, History, contains, callers_in}
 use Rattle.act_order_plays.proofs.Common.{cast_of, is_caller, calls_of, count_pairs, copies_of, ran_count, is_letter, has_letter, is_done, is_drained, is_ended}
 use Rattle.act_order_plays.proofs.Common.{refusal_of, add_event, and_also, slice_get_last, contains_more, times-push, Dead, Retired, Told, actor_of}
-use Rattle.act_order_plays.proofs.Common.{list_all-weaker}
-use Rattle.act_rules.specs.declared.history.Letter.TheVariants.{Note as NoteLetter}
+use Rattle.act_order_plays.proofs.Common.{list_all-weaker, NoteLetter}
 use Rattle.act_order_plays.proofs.Lists.{Has, has_last}
 use Rattle.act_order_plays.proofs.Casts.{list_any_has, contains_has, cast_of_is, names_is, is_caller_is}
 use Rattle.act_order_plays.proofs.Stands.{Leads, leads_now, leads_by, leads_then}

@@ -1,27 +1,24 @@
 -- A run: the call is sent, brought to its actor and run, and its answer is collected where it is taken.
-use Rattle.act_order_plays.proofs.Common.{◌≡◌, ℕ, suc, ◌<◌, ◌==◌, ◌&&◌, ◌⊎◌, inl, inr, Bool, true, false, cond, List, [], ◌∷◌, ◌++◌, length, map, Option, Some}
-use Rattle.act_order_plays.proofs.Common.{None, slice_get, refl, sym, ap, subst, ◌∙◌, option_map, eq-eqb, and_from, append-nil, Letter, RunItem, Submission}
-use Rattle.act_order_plays.proofs.Common.{calls_to, number_of, History, cast_of, names, is_caller, calls_of, runs_of, kept_of, ran_count, is_letter, has_letter}
-use Rattle.act_order_plays.proofs.Common.{is_ended, run_item, next_item, refusal_of, add_event, and_also, after_run, call_letter, slice_get_last, added_grows}
-use Rattle.act_order_plays.proofs.Common.{after_run_grows, calls_to-number, IsSound, sound_step, Happening, Outcome, Died, Open, Told, call_of}
-use Rattle.act_order_plays.proofs.Common.{actor_of, RunsInTurn, kept_for, future_of}
-use Rattle.act_rules.specs.declared.event.Event.TheVariants.{Send, Deliver, Run as RunNext, Collect}
-use Rattle.act_rules.specs.declared.history.Letter.TheVariants.{Call as CallLetter}
-use Rattle.act_rules.specs.declared.history.Post.TheVariants.{Reply as ReplyPost}
-use Rattle.act_orders.specs.declared.told.Happening.TheVariants.{Submitted, Ran, Answered as HasBeenTold}
+use Rattle.act_order_plays.proofs.Common.{◌≡◌, ℕ, ◌<◌, ◌==◌, ◌&&◌, ◌⊎◌, inl, inr, Bool, true, false, cond, List, [], ◌∷◌, ◌++◌, length, map, Option, Some, None}
+use Rattle.act_order_plays.proofs.Common.{slice_get, refl, sym, ap, subst, ◌∙◌, option_map, eq-eqb, and_from, append-nil, Letter, RunItem, Submission, calls_to}
+use Rattle.act_order_plays.proofs.Common.{number_of, History, cast_of, names, is_caller, calls_of, runs_of, kept_of, ran_count, is_letter, has_letter, is_ended}
+use Rattle.act_order_plays.proofs.Common.{run_item, next_item, refusal_of, add_event, and_also, after_run, call_letter, slice_get_last, added_grows}
+use Rattle.act_order_plays.proofs.Common.{after_run_grows, calls_to-number, IsSound, sound_step, Happening, Outcome, Died, Open, Told, call_of, length-map}
+use Rattle.act_order_plays.proofs.Common.{actor_of, RunsInTurn, kept_for, future_of, item_key, run_key, Send, Deliver, RunNext, Collect, CallLetter, ReplyPost}
+use Rattle.act_order_plays.proofs.Common.{Submitted, Ran, HasBeenTold, collect_unrefused}
 use Rattle.act_order_plays.proofs.Premises.{Premises}
 use Rattle.act_order_plays.proofs.Lists.{Has, has_more, has_last, has_pushed}
 use Rattle.act_order_plays.proofs.Fronts.{submits, rans, is_to, rans_of}
 use Rattle.act_order_plays.proofs.Causes.{IsNext, Good, good_more, submits_more, rans_more, rans_of_more}
 use Rattle.act_order_plays.proofs.Casts.{list_any_has, names_is, is_caller_is}
-use Rattle.act_order_plays.proofs.Answering.{Suits, IsTaken, IsItem, AreItems}
-use Rattle.act_order_plays.proofs.Stands.{Leads, leads_now, leads_by, sub_of, pair_of, Agree, agree_push, IsDeath, Shape, Keeps, Stands, shape_stays, keeps_stays, runs_are}
+use Rattle.act_order_plays.proofs.Answering.{Suits, IsTaken, IsItem, AreItems, item_keys}
+use Rattle.act_order_plays.proofs.Stands.{Leads, leads_now, leads_by, sub_of, pair_of, Agree, agree_push, IsDeath, Shape, Keeps, Stands, shape_stays}
+use Rattle.act_order_plays.proofs.Stands.{keeps_stays, runs_are}
 use Rattle.act_order_plays.proofs.Keeping.{call_stands, kept_gives}
 use Rattle.act_order_plays.proofs.More.{death_more, rights_more, keeps_more}
 use Rattle.act_order_plays.proofs.Numbering.{number_is}
 use Rattle.act_order_plays.proofs.Collecting.{shape_collect, collect_answers, reply_answers}
 use Rattle.act_order_plays.proofs.Sending.{no_death, alive, sendable, args_good}
-use Rattle.act_rules.proofs.Events.{collect_unrefused}
 
 -- ---- the parts of a run
 
@@ -42,10 +39,8 @@ deliver_fine : (h : History) (c a n i : ℕ) → slice_get h.mail i ≡ Some (Ca
 deliver_fine h c a n i at lives = rw (at, lives) refl
 
 items_long : (told : Told) (items : List RunItem) (ns : List ℕ) → AreItems told items ns → length items ≡ length ns
-items_long told [] [] are = refl
-items_long told [] (n ∷ ns) are = absurd are
-items_long told (item ∷ items) [] are = absurd are
-items_long told (item ∷ items) (n ∷ ns) are = ap (λ (k : ℕ). suc k) (items_long told items ns are.1)
+items_long told items ns are = sym (length-map items item_key) ∙ ap (λ (l : List _). length l) (item_keys told items ns are)
+    ∙ length-map ns (run_key told)
 
 -- whether an answer is taken
 taken_or_not : (o : Outcome) → (IsTaken o) ⊎ (IsTaken o → ⊥)

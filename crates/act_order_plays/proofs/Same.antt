@@ -1,7 +1,6 @@
 -- What is kept depends on the casts, the submissions, the runs and what was collected, alone.
-use Rattle.act_order_plays.proofs.Common.{◌≡◌, ℕ, List, [], Option, Some, None, slice_get, refl, sym, ap, ◌∙◌, filter_map, Post, Submission}
-use Rattle.act_order_plays.proofs.Common.{Answer, kept_at, History, calls_of, kept_of, under, answer_in, kept_by, kept_at_is, filter_map_alike}
-use Rattle.act_rules.specs.declared.history.Post.TheVariants.{Reply as ReplyPost, Death as DeathPost}
+use Rattle.act_order_plays.proofs.Common.{◌≡◌, ℕ, List, Option, Some, None, slice_get, refl, sym, ap, ◌∙◌, filter_map, Post, Submission, Answer, kept_at}
+use Rattle.act_order_plays.proofs.Common.{History, calls_of, kept_of, under, answer_in, kept_by, kept_at_is, filter_map_alike, ReplyPost, DeathPost}
 
 pub record SameLists (h g : History) : Type 0 where
   pub casts : g.casts ≡ h.casts

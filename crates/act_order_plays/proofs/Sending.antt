@@ -3,10 +3,7 @@ use Rattle.act_order_plays.proofs.Common.{◌≡◌, ◌≢◌, ℕ, zero, suc, 
 use Rattle.act_order_plays.proofs.Common.{sym, ap, subst, ◌∙◌, is_some, list_all, false_from_ne_true, Fut, Settled, Value, Send, Submission, Answer, with_value}
 use Rattle.act_order_plays.proofs.Common.{values_of, has_terminated, kept_at, is_known, settle, settled_future, send_refusal, History, contains, runs_of}
 use Rattle.act_order_plays.proofs.Common.{kept_of, is_ended, refusal_of, was_sent, Happening, Outcome, Failed, Died, Open, Told, call_of, actor_of, RunsInTurn}
-use Rattle.act_order_plays.proofs.Common.{RunsBefore, kept_for, args_of, future_of}
-use Rattle.act_types.specs.declared.call.Settled.TheVariants.{Good as GoodArg}
-use Rattle.act_types.specs.declared.call.Value.TheVariants.{Unit as Nothing}
-use Rattle.act_orders.specs.declared.told.Happening.TheVariants.{Submitted, Ran, Answered as HasBeenTold}
+use Rattle.act_order_plays.proofs.Common.{RunsBefore, kept_for, args_of, future_of, GoodArg, Nothing, Submitted, Ran, HasBeenTold}
 use Rattle.act_orders.specs.declared.told.Outcome.TheVariants.{Answered}
 use Rattle.act_order_plays.proofs.Premises.{Premises}
 use Rattle.act_order_plays.proofs.Lists.{Has, contains_of}

@@ -3,9 +3,7 @@ use Rattle.act_order_plays.proofs.Common.{◌≡◌, ℕ, ◌==◌, Bool, true, 
 use Rattle.act_order_plays.proofs.Common.{sym, ap, subst, ◌∙◌, AllByRecursion, ActorDied, Event, Post, RunItem, Submission, WorldRefusal, kept_at, History}
 use Rattle.act_order_plays.proofs.Common.{contains, under, calls_of, runs_of, kept_of, refusal_of, add_event, after, after_by, after_all, after_all-append}
 use Rattle.act_order_plays.proofs.Common.{Grows, PostsAreSound, kept_stays, IsSound, Happening, Outcome, Failed, Died, Open, Told, call_of, kept_for, casts_of}
-use Rattle.act_order_plays.proofs.Common.{args_of, future_of}
-use Rattle.act_rules.specs.declared.history.Post.TheVariants.{Reply as ReplyPost, Death as DeathPost}
-use Rattle.act_orders.specs.declared.told.Happening.TheVariants.{Ran, Answered as Told_answer}
+use Rattle.act_order_plays.proofs.Common.{args_of, future_of, ReplyPost, DeathPost, Ran, Told_answer}
 use Rattle.act_order_plays.proofs.Lists.{Has}
 use Rattle.act_order_plays.proofs.Fronts.{submits, rans, is_by, is_to, subs_of, rans_of}
 use Rattle.act_order_plays.proofs.Answering.{Suits, method_of, IsTaken, IsItem, AreItems}
@@ -127,14 +125,11 @@ shape_stays told before h g like sound shape = record {
 pub agree_push : (told : Told) (runs : List (ℕ × RunItem)) (ns : List ℕ) (run : ℕ × RunItem) (n : ℕ) → Agree told runs ns → run.0 ≡ (call_of told n).actor →
     IsItem told n run.1 → Agree told (runs ++ run ∷ []) (ns ++ n ∷ [])
 agree_push told [] [] run n agree actor is = (actor, is, tt)
-agree_push told [] (m ∷ ns) run n agree actor is = absurd agree
-agree_push told (first ∷ runs) [] run n agree actor is = absurd agree
 agree_push told (first ∷ runs) (m ∷ ns) run n agree actor is = (agree.0, agree.1, agree_push told runs ns run n agree.2 actor is)
+agree_push told runs ns run n agree actor is = absurd agree
 
 pub agree_under : (told : Told) (a : ℕ) (runs : List (ℕ × RunItem)) (ns : List ℕ) → Agree told runs ns → AreItems told (under a runs) (filter (is_to told a) ns)
 agree_under told a [] [] agree = tt
-agree_under told a [] (n ∷ ns) agree = absurd agree
-agree_under told a (run ∷ runs) [] agree = absurd agree
 agree_under told a (run ∷ runs) (n ∷ ns) agree =
     let same : (run.0 == a) ≡ is_to told a n = ap (λ (b : ℕ). b == a) agree.0 in
     subst (λ (b : Bool). AreItems told (map (λ (r : ℕ × RunItem). r.1)
@@ -147,6 +142,7 @@ agree_under told a (run ∷ runs) (n ∷ ns) agree =
         (cond b (n ∷ filter (is_to told a) ns) (filter (is_to told a) ns))
     go true rest = (agree.1, rest)
     go false rest = rest
+agree_under told a runs ns agree = absurd agree
 
 -- an actor's run list
 pub runs_are : (told : Told) (before : List Happening) (h : History) (a : ℕ) → Shape told before h → AreItems told (runs_of a h) (rans_of told before a)

@@ -18,11 +18,6 @@ use Rattle.act_order_plays.proofs.More.{death_more, rights_more, keeps_more}
 pub one_copy : (h : History) (c a : ℕ) → names c (cast_of a h) ≡ true → h.copied ≡ [] → h.released ≡ [] → copies_of c a h ≡ Some 1
 one_copy h c a named copied released = rw (named, copied, released) refl
 
--- what holds of each item
-pub list_all_has : {A : Type 0} (p : A → Bool) (xs : List A) → ((x : A) → Has xs x → p x ≡ true) → list_all p xs ≡ true
-list_all_has p [] all = refl
-list_all_has p (x ∷ xs) all = and_from (p x) (list_all p xs) (all x (zero, refl)) (list_all_has p xs (λ y has. all y (suc has.0, has.1)))
-
 pub list_all_map : {A B : Type 0} (p : B → Bool) (f : A → B) (xs : List A) → ((x : A) → Has xs x → p (f x) ≡ true) → list_all p (map f xs) ≡ true
 list_all_map p f [] all = refl
 list_all_map p f (x ∷ xs) all = and_from (p (f x)) (list_all p (map f xs)) (all x (zero, refl)) (list_all_map p f xs (λ y has. all y (suc has.0, has.1)))

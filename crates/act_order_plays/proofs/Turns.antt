@@ -2,11 +2,10 @@
 use Rattle.act_order_plays.proofs.Common.{◌≡◌, ℕ, zero, suc, ◌<◌, ◌==◌, Bool, true, false, cond, List, [], ◌∷◌, length, filter, take, Some, slice_get, refl}
 use Rattle.act_order_plays.proofs.Common.{sym, ap, subst, ◌∙◌, arith, option_map, Option, Contains, eqb-true, eq-eqb, slice_get-map, slice_get_within, Arg}
 use Rattle.act_order_plays.proofs.Common.{RunItem, Submission, items_of, calls_to, number_of, ActorSpec, History, calls_of, runs_of, cast_of, names, is_dead}
-use Rattle.act_order_plays.proofs.Common.{is_retired, element, slice_get_front, IsPrefix-filter, All_at, calls_to-number, filter-slice_get, IsSound, deaths_are}
-use Rattle.act_order_plays.proofs.Common.{IsNamed, Retires, ran_all, End, Dead, Retired, Outcome, Run, Told, call_of, actor_of, calls_run, SameCaller}
-use Rattle.act_order_plays.proofs.Common.{SameWay, RunsInTurn, EndsRight, IsWhole, casts_of, IsKeptFor, EndsAs, LeavesTold, kept_for, runs_by, future_of}
-use Rattle.act_order_plays.proofs.Common.{get_taken}
-use Rattle.act_rules.proofs.Unique.{map-slice_get, rank as rank_in, same_place, held_call, one_place}
+use Rattle.act_order_plays.proofs.Common.{is_retired, element, slice_get_front, IsPrefix-filter, calls_to-number, filter-slice_get, IsSound, deaths_are}
+use Rattle.act_order_plays.proofs.Common.{Retires, ran_all, End, Dead, Retired, Outcome, Run, Told, call_of, actor_of, calls_run, SameCaller, SameWay}
+use Rattle.act_order_plays.proofs.Common.{RunsInTurn, EndsRight, IsWhole, casts_of, IsKeptFor, EndsAs, LeavesTold, kept_for, runs_by, future_of, get_taken}
+use Rattle.act_order_plays.proofs.Common.{map-slice_get, rank_in, same_place, held_call, one_place, named_call}
 use Rattle.act_orders.specs.declared.told.Outcome.TheVariants as out
 use Rattle.act_order_plays.proofs.Lists.{contains_of, below, below_at}
 use Rattle.act_order_plays.proofs.Fronts.{is_by, is_run_of, IsRunAt, take_front, rank, run_ranks, run_before, ran_earlier, runs_earlier}
@@ -138,13 +137,9 @@ module _ (told : Told) (last : History) (whole : IsWhole told) (sound : IsSound 
         let c = (call_of told n).caller in
         let a = (call_of told n).actor in
         let one = stands told last whole sound leaves n lt in
-        let pair = map-slice_get (λ (s : ℕ × Submission). s.1) (filter (λ (s : ℕ × Submission). s.0 == c) last.submitted) (future_of told n) one.0 one.1 in
-        let place = filter-slice_get (λ (s : ℕ × Submission). s.0 == c) last.submitted (future_of told n) pair.0 pair.1 in
-        let mine : pair.0.0 ≡ c = eqb-true pair.0.0 c place.passes in
-        let to : pair.0.1.actor ≡ a = ap (λ (s : Submission). s.actor) pair.2 ∙ ap (λ (q : ℕ × List Arg). q.0) one.2 in
-        let is : names pair.0.0 (cast_of pair.0.1.actor last) ≡ true = All_at (IsNamed last) last.submitted place.place pair.0 retires.named place.at in
         let named : names c (cast_of a last) ≡ true =
-        subst (λ (x : ℕ). names c (cast_of x last) ≡ true) to (subst (λ (y : ℕ). names y (cast_of pair.0.1.actor last) ≡ true) mine is) in
+        subst (λ (x : ℕ). names c (cast_of x last) ≡ true) (ap (λ (q : ℕ × List Arg). q.0) one.2)
+        (named_call last c (future_of told n) one.0 retires.named one.1) in
         let told_so = subst (λ (o : Option ActorSpec). names c o ≡ true) (cast_of_is told last a casts (whole.actors n lt)) named in
         contains_of (actor_of told a).callers c (has_contains (actor_of told a).callers c told_so)
 

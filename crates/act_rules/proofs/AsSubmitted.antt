@@ -1,9 +1,7 @@
 -- Each call ran as it was submitted, with its arguments as the kept answers settle them.
 use Rattle.act_rules.proofs.Common.{◌≡◌, ℕ, zero, suc, ◌+◌, Bool, true, false, cond, List, [], ◌∷◌, Some, None, refl, ap, sym, ◌∙◌, subst, arith, Option, ◌==◌}
-use Rattle.act_rules.proofs.Common.{filter, slice_get, option_map, AllByRecursion, list_all, enumerate_from, eqb-true, RunItem, Event}
-use Rattle.act_rules.proofs.Common.{Run, Submission, calls_to, is_known, IsAsSubmitted, History}
-use Rattle.act_rules.proofs.Common.{calls_of, kept_of, ran_count, next_item, add_event, after_run}
-use Rattle.act_rules.specs.declared.history.Letter.TheVariants.{Call as CallLetter}
+use Rattle.act_rules.proofs.Common.{filter, slice_get, option_map, AllByRecursion, list_all, enumerate_from, eqb-true, RunItem, Event, Run, Submission}
+use Rattle.act_rules.proofs.Common.{calls_to, is_known, IsAsSubmitted, History, calls_of, kept_of, ran_count, next_item, add_event, after_run, CallLetter}
 use Rattle.act_rules.proofs.Lists.{slice_get_front, slice_get-enumerate_from, All_more, All_weaker}
 use Rattle.act_rules.proofs.Growth.{Grows, added_grows, after_run_grows, calls_grow}
 use Rattle.act_rules.proofs.Posts.{PostsAreSound}

@@ -7,8 +7,8 @@ pub use Rattle.act_rules.specs.History.{count_pairs, first_answer, has_letter, i
 pub use Rattle.act_rules.specs.History.{is_retired, kept_of, limit_of, names, next_item, opening, opening_of, ran_count, run_item, runs_of, under}
 pub use Rattle.act_rules.specs.Kinds.{Reply, account_reply, counter_reply, is_in_range, kind_fault, list_reply, look_up, need, reply_of, table_reply}
 pub use Rattle.act_rules.specs.Kinds.{told_reply}
-pub use Rattle.act_rules.specs.Laws.{HasOneSpelling, ReadsBack, always, arg_text, is_actor_number, is_caller_number, is_number, is_sayable, is_sayable_arg}
-pub use Rattle.act_rules.specs.Laws.{is_sayable_method}
+pub use Rattle.act_rules.specs.Laws.{HasOneSpelling, ReadsBack, always, arg_text, history, is_actor_number, is_caller_number, is_number, is_sayable}
+pub use Rattle.act_rules.specs.Laws.{is_sayable_arg, is_sayable_method}
 pub use Rattle.act_rules.specs.OwnRuns.{HoldsInEachRun, IsKept, RunsByItsSteps, ask_of, kind_answer, own_after_item, own_answers, own_asked, own_call}
 pub use Rattle.act_rules.specs.OwnRuns.{own_state_after, told_in, with_answer}
 pub use Rattle.act_rules.specs.Plans.{Progress, do_step, done_by, events_of, holds, is_held_back, is_limit, is_planned_by, is_refused, let_through}
@@ -25,7 +25,9 @@ pub use Rattle.act_rules.specs.Words.{named_by, number_at, or_bad_line, ◌>>=�
 pub use Rattle.act_rules.specs.declared.event.Event.{Event}
 pub use Rattle.act_rules.specs.declared.event.Event.TheVariants.{AskKill, Collect, Copy, Deliver, Release, Retire, Run, Send, Submit, TakeKill, Tell}
 pub use Rattle.act_rules.specs.declared.history.Letter.{Letter}
+pub use Rattle.act_rules.specs.declared.history.Letter.TheVariants.{Call as CallLetter, Note as NoteLetter}
 pub use Rattle.act_rules.specs.declared.history.Post.{Post}
+pub use Rattle.act_rules.specs.declared.history.Post.TheVariants.{Death as DeathPost, Reply as ReplyPost}
 pub use Rattle.act_rules.specs.declared.history.RunItem.{RunItem}
 pub use Rattle.act_rules.specs.declared.history.Submission.{Submission}
 pub use Rattle.act_rules.specs.declared.outcome.HandleRefusal.{HandleRefusal}
@@ -33,9 +35,11 @@ pub use Rattle.act_rules.specs.declared.outcome.HandleRefusal.TheVariants.{NoAct
 pub use Rattle.act_rules.specs.declared.outcome.SendRefusal.{SendRefusal}
 pub use Rattle.act_rules.specs.declared.outcome.SendRefusal.TheVariants.{Answered, NotReady}
 pub use Rattle.act_rules.specs.declared.outcome.SubmitRefusal.{SubmitRefusal}
-pub use Rattle.act_rules.specs.declared.outcome.SubmitRefusal.TheVariants.{PendingLimit}
+pub use Rattle.act_rules.specs.declared.outcome.SubmitRefusal.TheVariants.{BadFuture, NoActor as NoSuchActor, NoHandle as NoCopy, PendingLimit, TooManyArgs}
+pub use Rattle.act_rules.specs.declared.outcome.SubmitRefusal.TheVariants.{TooManyCalls}
 pub use Rattle.act_rules.specs.declared.outcome.WorldRefusal.{WorldRefusal}
-pub use Rattle.act_rules.specs.declared.outcome.WorldRefusal.TheVariants.{ActorEnded, Handle, NoCaller, NotDead, NotDrained, Sending}
+pub use Rattle.act_rules.specs.declared.outcome.WorldRefusal.TheVariants.{ActorEnded, Handle, NoCaller, NoKill, NoReply, NotDead, NotDrained, Sending}
+pub use Rattle.act_rules.specs.declared.outcome.WorldRefusal.TheVariants.{Submit as SubmitRefused}
 pub use Rattle.act_rules.specs.declared.script.Role.{Role}
 pub use Rattle.act_rules.specs.declared.script.Step.{Step}
 pub use Rattle.act_rules.specs.declared.script.Wrong.{Wrong}
@@ -52,25 +56,26 @@ pub use Rattle.act_types.specs.declared.call.Method.{Method}
 pub use Rattle.act_types.specs.declared.call.Method.TheVariants.{Add, At, Balance, Del, Deposit, Get, Len, Pop, Push, Put, Size, Terminate, Withdraw}
 pub use Rattle.act_types.specs.declared.call.Value.{Value}
 pub use Rattle.act_types.specs.declared.call.Value.TheVariants.{Int, Text}
-pub use Rattle.std.proofs.Common.{All, AllPairs, Bool, Contains, Err, List, None, Ok, Option, Result, Some, [], ap, append_assoc, arith, bytes_eq, codes, cond, decimal}
-pub use Rattle.std.proofs.Common.{false, filter, filter_map, find, get_or, inl, inr, is_none, is_some, length, length-append, map, nat_le, nat_lt, neg_ℤ}
-pub use Rattle.std.proofs.Common.{negsuc, not, option_and_then, option_map, pos, position, refl, rules, slice_get, slice_index, slice_index_or, subst, suc, sym}
-pub use Rattle.std.proofs.Common.{take, true, zero, zip, ℕ, ℤ, ⊎_elim, ◌&&◌, ◌++◌, ◌+◌, ◌-◌, ◌<◌, ◌==◌, ◌^◌, ◌||◌, ◌∙◌, ◌∷◌, ◌≡◌, ◌≢◌, ◌≤◌, ◌⊎◌}
+pub use Rattle.std.proofs.Common.{All, AllPairs, Bool, Contains, Err, List, None, Ok, Option, Result, Some, [], ap, append_assoc, arith, bytes_eq, codes, cond}
+pub use Rattle.std.proofs.Common.{decimal, false, filter, filter_map, find, get_or, if◌then◌else◌, inl, inr, is_none, is_some, length, length-append, map}
+pub use Rattle.std.proofs.Common.{nat_le, nat_lt, neg_ℤ, negsuc, not, option_and_then, option_map, pos, position, refl, rules, slice_get, slice_index}
+pub use Rattle.std.proofs.Common.{slice_index_or, subst, suc, sym, take, true, zero, zip, ℕ, ℤ, ⊎_elim, ◌&&◌, ◌++◌, ◌+◌, ◌-◌, ◌<◌, ◌==◌, ◌^◌, ◌||◌, ◌∙◌, ◌∷◌}
+pub use Rattle.std.proofs.Common.{◌≡◌, ◌≢◌, ◌≤◌, ◌⊎◌}
 pub use Rattle.std.proofs.Math.Seq.{get_or-append_seam, take-append_seam, take-length}
-pub use Rattle.std.proofs.lemmas.Bool.{and_from, and_parts, cases_lt, eq-eqb, eqb-true, ltb-false, ltb-true, ne_eqb, not-true, or_right}
+pub use Rattle.std.proofs.lemmas.Bool.{and_from, and_parts, cases_lt, eq-eqb, eqb-true, ltb-false, ltb-true, ne_eqb, not-true, or_cases, or_right}
 pub use Rattle.std.proofs.lemmas.Bool.Decides.{eqb_tells, nat_tests}
 pub use Rattle.std.proofs.lemmas.Fmt.{decimal-digits_value, decimal_digit, decimal_nonempty, digits_decimal, digits_value-decimal, first_decimal}
 pub use Rattle.std.proofs.lemmas.List.{append-nil, get_or-map, length-map, length_push, map-append, take_more}
-pub use Rattle.std.proofs.lemmas.List.Elements.{All-cons, All-head, All-nil, All-tail, filter-append, filter_map-append}
+pub use Rattle.std.proofs.lemmas.List.Elements.{All-cons, All-contains, All-head, All-map, All-nil, All-tail, filter-append, filter_map-append}
 pub use Rattle.std.proofs.lemmas.List.Folds.{find_at, list_any-append}
 pub use Rattle.std.proofs.lemmas.List.FromFn.{length-enumerate_from}
 pub use Rattle.std.proofs.lemmas.List.Quantifiers.{position-Some}
 pub use Rattle.std.proofs.lemmas.List.Sums.{count_by-le-length, length-filter}
-pub use Rattle.std.proofs.lemmas.Option.{slice_get-get_or, slice_get-map, slice_get_past, slice_get_within}
+pub use Rattle.std.proofs.lemmas.Option.{get_or_from_slice_get, slice_get-get_or, slice_get-map, slice_get_past, slice_get_read, slice_get_within}
 pub use Rattle.std.proofs.lemmas.Str.Parse.{IsDigitsTest, IsNumeralModel, numerals_by_value}
 pub use Rattle.std.specs.Char.{is_ascii_digit}
 pub use Rattle.std.specs.Cmp.Lexicographic.{bytes_decides}
 pub use Rattle.std.specs.Fmt.{signed_decimal}
-pub use Rattle.std.specs.List.{AllByRecursion, cons_option, enumerate_from, list_all, list_any, position_or_len, range_with_len}
+pub use Rattle.std.specs.List.{AllByRecursion, cons_option, enumerate_from, flat_map, list_all, list_any, position_or_len, range_with_len}
 pub use Rattle.std.specs.Option.{option_or}
 pub use Rattle.std.specs.Str.Parse.{digits_value}

@@ -1,11 +1,10 @@
 -- Elements of lists by their places, and look-ups.
 use Rattle.act_rules.proofs.Common.{◌≡◌, ℕ, zero, suc, ◌+◌, ◌<◌, ◌==◌, ◌||◌, Bool, true, false, cond, List, [], ◌∷◌, ◌++◌, length, Some, None, refl, ap, sym}
 use Rattle.act_rules.proofs.Common.{◌∙◌, subst, arith, inl, inr, ◌⊎◌, map, filter, find, slice_get, All, Contains, list_any, range_with_len, enumerate_from}
-use Rattle.act_rules.proofs.Common.{eq-eqb, eqb-true, slice_get-get_or, slice_get_within, IsPrefix, contains, get_or-map, length-map}
+use Rattle.act_rules.proofs.Common.{eq-eqb, eqb-true, slice_get-get_or, slice_get_within, IsPrefix, contains, get_or-map, length-map, All-contains}
+use Rattle.act_rules.proofs.Common.{slice_get_read, get_or_from_slice_get}
 use Rattle.act_rules.proofs.Lists.{slice_get-filter, slice_get_front}
-use Rattle.std.proofs.lemmas.List.Elements.{All-contains}
 use Rattle.std.proofs.lemmas.Map.Keys.{any_passes_from_place}
-use Rattle.std.proofs.lemmas.Option.{slice_get_read, get_or_from_slice_get}
 
 -- x stands in xs
 pub record IsIn {A : Type 0} (xs : List A) (x : A) : Type 0 where

@@ -1,9 +1,8 @@
 -- Nothing runs at an actor that has ended.
 use Rattle.act_rules.proofs.Common.{◌≡◌, ℕ, Bool, true, false, cond, List, [], ◌∷◌, ◌++◌, Some, None, refl, sym, ◌∙◌, subst, Option, ◌==◌, ◌||◌, not, map}
-use Rattle.act_rules.proofs.Common.{map-append, append-nil, filter-append, list_any-append, eqb-true, not-true, RunItem, Event}
-use Rattle.act_rules.proofs.Common.{Run, TakeKill, Retire, NoCaller, Handle, ActorEnded, NoActor, has_terminated}
-use Rattle.act_rules.proofs.Common.{NothingFollowsAnEnd, needs, History, contains, under, runs_of, is_dead, is_retired, is_ended, is_caller, names, cast_of}
-use Rattle.act_rules.proofs.Common.{next_item, refusal_of, add_event, after_run}
+use Rattle.act_rules.proofs.Common.{map-append, append-nil, filter-append, list_any-append, eqb-true, not-true, RunItem, Event, Run, TakeKill, Retire, NoCaller}
+use Rattle.act_rules.proofs.Common.{Handle, ActorEnded, NoActor, has_terminated, NothingFollowsAnEnd, needs, History, contains, under, runs_of, is_dead}
+use Rattle.act_rules.proofs.Common.{is_retired, is_ended, is_caller, names, cast_of, next_item, refusal_of, add_event, after_run}
 use Rattle.act_rules.proofs.Growth.{added_grows}
 use Rattle.act_rules.proofs.Terminated.{nothing_follows-push}
 use Rattle.act_rules.proofs.Steps.{IsKept}

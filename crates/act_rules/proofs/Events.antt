@@ -1,10 +1,8 @@
 -- When the rules accept a collection or a notice, and what an event leaves as it was.
-use Rattle.act_rules.proofs.Common.{◌≡◌, ℕ, ◌+◌, ◌<◌, ◌≤◌, ◌==◌, Bool, true, false, cond, List, ◌∷◌, ◌++◌, length, Option, Some, None, refl, ap}
-use Rattle.act_rules.proofs.Common.{subst, arith, filter, slice_get, is_some, list_all, enumerate_from, length-append, append-nil, and_from, eq-eqb, eqb-true}
-use Rattle.act_rules.proofs.Common.{or_right, suc, Event, Collect, Tell, Post, RunItem, Submission, ActorSpec, History, opening, contains}
-use Rattle.act_rules.proofs.Common.{under, calls_of, cast_of, names, is_caller, is_dead, refusal_of, after, after_run, []}
-use Rattle.std.proofs.Common.{if◌then◌else◌}
-use Rattle.act_rules.specs.Laws.{history}
+use Rattle.act_rules.proofs.Common.{◌≡◌, ℕ, ◌+◌, ◌<◌, ◌≤◌, ◌==◌, Bool, true, false, cond, List, ◌∷◌, ◌++◌, length, Option, Some, None, refl, ap, subst, arith}
+use Rattle.act_rules.proofs.Common.{filter, slice_get, is_some, list_all, enumerate_from, length-append, append-nil, and_from, eq-eqb, eqb-true, or_right, suc}
+use Rattle.act_rules.proofs.Common.{Event, Collect, Tell, Post, RunItem, Submission, ActorSpec, History, opening, contains, under, calls_of, cast_of, names}
+use Rattle.act_rules.proofs.Common.{is_caller, is_dead, refusal_of, after, after_run, [], if◌then◌else◌, history}
 use Rattle.act_rules.proofs.Ended.{under-push}
 use Rattle.act_rules.proofs.Steps.{after_all-append}
 

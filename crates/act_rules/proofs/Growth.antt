@@ -1,7 +1,6 @@
 -- Each accepted event leaves every list of a history as it was, with something more at its end.
-use Rattle.act_rules.proofs.Common.{◌≡◌, ℕ, List, [], ◌∷◌, Some, None, refl, Option, ◌==◌, RunItem, Event, Submit, Release, Send, Deliver, Run, Collect}
-use Rattle.act_rules.proofs.Common.{TakeKill, Tell, Submission, calls_to, History, under, runs_of, calls_of, next_item, add_event, and_also}
-use Rattle.act_rules.proofs.Common.{after_run, IsPrefix}
+use Rattle.act_rules.proofs.Common.{◌≡◌, ℕ, List, [], ◌∷◌, Some, None, Option, ◌==◌, RunItem, Event, Run, Submission, calls_to, History, under, runs_of}
+use Rattle.act_rules.proofs.Common.{calls_of, next_item, add_event, and_also, after_run, IsPrefix}
 use Rattle.act_rules.proofs.Lists.{whole_front, more_front, IsPrefix-filter, IsPrefix-map, IsPrefix-enumerate}
 
 -- the second history has the casts of the first, and each of these lists begins with the first's
@@ -22,20 +21,13 @@ and_also_front xs (Some x) = more_front xs (x ∷ [])
 
 -- a history grows by a run, be there an item to run or none
 pub after_run_grows : (a c : ℕ) (h : History) (o : Option RunItem) → Grows h (after_run a c h o)
-after_run_grows a c h None = record { casts = refl; submitted = whole_front h.submitted; released = whole_front h.released; mail = whole_front h.mail; arrived = whole_front h.arrived; ran = whole_front h.ran; posts = whole_front h.posts; collected = whole_front h.collected; killed = whole_front h.killed }
-after_run_grows a c h (Some item) = record { casts = refl; submitted = whole_front h.submitted; released = whole_front h.released; mail = whole_front h.mail; arrived = whole_front h.arrived; ran = more_front h.ran _; posts = more_front h.posts _; collected = whole_front h.collected; killed = whole_front h.killed }
+after_run_grows a c h None = search whole_front
+after_run_grows a c h (Some item) = search (whole_front, more_front)
 
 -- a history grows by each event that is added to it
 pub added_grows : (h : History) (event : Event) → Grows h (add_event h event)
-added_grows h (Submit c a method args) = record { casts = refl; submitted = more_front h.submitted _; released = whole_front h.released; mail = whole_front h.mail; arrived = whole_front h.arrived; ran = whole_front h.ran; posts = whole_front h.posts; collected = whole_front h.collected; killed = whole_front h.killed }
-added_grows h (Release c a) = record { casts = refl; submitted = whole_front h.submitted; released = more_front h.released _; mail = and_also_front h.mail _; arrived = whole_front h.arrived; ran = whole_front h.ran; posts = whole_front h.posts; collected = whole_front h.collected; killed = whole_front h.killed }
-added_grows h (Send c k) = record { casts = refl; submitted = whole_front h.submitted; released = whole_front h.released; mail = and_also_front h.mail _; arrived = whole_front h.arrived; ran = whole_front h.ran; posts = whole_front h.posts; collected = whole_front h.collected; killed = whole_front h.killed }
-added_grows h (Deliver i) = record { casts = refl; submitted = whole_front h.submitted; released = whole_front h.released; mail = whole_front h.mail; arrived = and_also_front h.arrived _; ran = whole_front h.ran; posts = whole_front h.posts; collected = whole_front h.collected; killed = whole_front h.killed }
 added_grows h (Run a c) = after_run_grows a c h (next_item a c h)
-added_grows h (Collect j) = record { casts = refl; submitted = whole_front h.submitted; released = whole_front h.released; mail = whole_front h.mail; arrived = whole_front h.arrived; ran = whole_front h.ran; posts = whole_front h.posts; collected = and_also_front h.collected _; killed = whole_front h.killed }
-added_grows h (TakeKill a) = record { casts = refl; submitted = whole_front h.submitted; released = whole_front h.released; mail = whole_front h.mail; arrived = whole_front h.arrived; ran = whole_front h.ran; posts = whole_front h.posts; collected = whole_front h.collected; killed = more_front h.killed _ }
-added_grows h (Tell a c) = record { casts = refl; submitted = whole_front h.submitted; released = whole_front h.released; mail = whole_front h.mail; arrived = whole_front h.arrived; ran = whole_front h.ran; posts = more_front h.posts _; collected = whole_front h.collected; killed = whole_front h.killed }
-added_grows h event = record { casts = refl; submitted = whole_front h.submitted; released = whole_front h.released; mail = whole_front h.mail; arrived = whole_front h.arrived; ran = whole_front h.ran; posts = whole_front h.posts; collected = whole_front h.collected; killed = whole_front h.killed }
+added_grows h event = search (whole_front, more_front, and_also_front)
 
 pub under_grow : {A : Type 0} (n : ℕ) (xs ys : List (ℕ × A)) → IsPrefix xs ys → IsPrefix (under n xs) (under n ys)
 under_grow {A = A} n xs ys f = IsPrefix-map (λ (pair : ℕ × A). pair.1) _ _ (IsPrefix-filter (λ (pair : ℕ × A). pair.0 == n) xs ys f)

@@ -2,8 +2,7 @@
 use Rattle.act_rules.proofs.Common.{◌≡◌, ℕ, zero, suc, ◌+◌, List, [], ◌∷◌, ◌++◌, length, Some, None, refl, ap, sym, ◌∙◌, arith, Option, ◌==◌, filter_map, find}
 use Rattle.act_rules.proofs.Common.{slice_get, option_map, option_and_then, enumerate_from, filter_map-append, slice_get-map, RunItem, KindState, Answer}
 use Rattle.act_rules.proofs.Common.{after_item, answers_from, answer_at, state_after, Submission, kept_at, Post, ActorSpec, History, runs_of, calls_of, kept_of}
-use Rattle.act_rules.proofs.Common.{opening_of, answer_of, answer_in, first_answer, add_event, IsPrefix, slice_get_more}
-use Rattle.act_rules.specs.declared.history.Post.TheVariants.{Reply as ReplyPost, Death as DeathPost}
+use Rattle.act_rules.proofs.Common.{opening_of, answer_of, answer_in, first_answer, add_event, IsPrefix, slice_get_more, ReplyPost, DeathPost}
 use Rattle.act_rules.proofs.Lists.{slice_get_front, slice_get-enumerate_from, filter_map-same, All_weaker}
 use Rattle.act_rules.proofs.Growth.{Grows, added_grows, runs_grow, calls_grow}
 use Rattle.act_rules.proofs.Steps.{IsKept}

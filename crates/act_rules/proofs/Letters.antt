@@ -1,11 +1,10 @@
 -- Each call letter names a call that stands, with arguments that are known.
 use Rattle.act_rules.proofs.Common.{◌≡◌, ℕ, zero, suc, ◌+◌, Bool, true, false, cond, List, [], ◌∷◌, length, Some, None, refl, ap, sym, ◌∙◌, subst, arith}
 use Rattle.act_rules.proofs.Common.{Option, ◌==◌, ◌||◌, ◌&&◌, not, filter, slice_get, take, option_map, is_some, AllByRecursion, list_all, enumerate_from}
-use Rattle.act_rules.proofs.Common.{eq-eqb, eqb-true, and_parts, RunItem, Event, Release, Send, Deliver, Run}
-use Rattle.act_rules.proofs.Common.{NoCaller, Sending, NotReady, Answered, Submission, calls_to, number_of, needs, is_known, kept_at, send_refusal}
-use Rattle.act_rules.proofs.Common.{Letter, History, calls_of, kept_of, is_caller, is_letter, has_letter, next_item, refusal_of, add_event, and_also, after_run}
-use Rattle.act_rules.proofs.Common.{call_letter, was_sent, is_last, IsPrefix, list_any-append, or_right, slice_get_last, ◌++◌}
-use Rattle.act_rules.specs.declared.history.Letter.TheVariants.{Call as CallLetter, Note as NoteLetter}
+use Rattle.act_rules.proofs.Common.{eq-eqb, eqb-true, and_parts, RunItem, Event, Release, Send, Deliver, Run, NoCaller, Sending, NotReady, Answered, Submission}
+use Rattle.act_rules.proofs.Common.{calls_to, number_of, needs, is_known, kept_at, send_refusal, Letter, History, calls_of, kept_of, is_caller, is_letter}
+use Rattle.act_rules.proofs.Common.{has_letter, next_item, refusal_of, add_event, and_also, after_run, call_letter, was_sent, is_last, IsPrefix}
+use Rattle.act_rules.proofs.Common.{list_any-append, or_right, slice_get_last, ◌++◌, CallLetter, NoteLetter}
 use Rattle.act_rules.proofs.Lists.{slice_get_front, slice_get-filter, slice_get-enumerate_from, All_more, All_weaker, All_at, option_map-none}
 use Rattle.act_rules.proofs.Growth.{Grows, added_grows, after_run_grows, calls_grow, calls_to_grow}
 use Rattle.act_rules.proofs.Ended.{needs-none}
@@ -68,10 +67,7 @@ letters_stay h g grows s l mail arrived = record {
 }
 
 pub letters_step : (h : History) (event : Event) → PostsAreSound h → LettersAreSound h → refusal_of h event ≡ None → LettersAreSound (add_event h event)
-letters_step h (Release c a) s l accepted = record {
-  mail = go (is_last c a h);
-  arrived = All_weaker (IsSoundLetter h) (IsSoundLetter (add_event h (Release c a))) h.arrived (letter_grows h (add_event h (Release c a)) (added_grows h (Release c a)) s) l.arrived;
-}
+letters_step h (Release c a) s l accepted = search (go, All_weaker)
   where
     kept : AllByRecursion (IsSoundLetter (add_event h (Release c a))) h.mail
     kept = All_weaker (IsSoundLetter h) (IsSoundLetter (add_event h (Release c a))) h.mail (letter_grows h (add_event h (Release c a)) (added_grows h (Release c a)) s) l.mail

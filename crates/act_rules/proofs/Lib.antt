@@ -22,6 +22,7 @@ pub mod Sound
 pub mod Retired
 pub mod RanAll
 pub mod Limits
+pub mod Callers
 pub mod Table
 pub mod Numbers
 pub mod Marks

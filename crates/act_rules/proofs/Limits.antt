@@ -1,11 +1,9 @@
 -- A caller's calls without an answer never are more than their actor's limit.
 use Rattle.act_rules.proofs.Common.{◌≡◌, ℕ, ◌+◌, ◌<◌, ◌≤◌, Bool, true, false, cond, List, [], ◌∷◌, ◌++◌, length, Some, None, refl, ap, sym, ◌∙◌, subst, arith}
 use Rattle.act_rules.proofs.Common.{length-append, Option, ◌==◌, filter, option_map, is_none, nat_lt, eqb-true, ltb-true, append-nil, filter-append, Arg}
-use Rattle.act_rules.proofs.Common.{Method, RunItem, Event, Submit, Run, PendingLimit}
-use Rattle.act_rules.proofs.Common.{Submission, Answer, calls_to, kept_at, submit_refusal, limit_refusal, ActorSpec, History, opening, under, is_caller}
-use Rattle.act_rules.proofs.Common.{calls_of, copies_of, limit_of, kept_of, next_item, unanswered, submission_refusal, refusal_of, add_event, after_run}
-use Rattle.act_rules.proofs.Common.{after_all}
-use Rattle.act_rules.specs.declared.outcome.WorldRefusal.TheVariants.{Submit as SubmitRefused, NoCaller}
+use Rattle.act_rules.proofs.Common.{Method, RunItem, Event, Submit, Run, PendingLimit, Submission, Answer, calls_to, kept_at, submit_refusal, limit_refusal}
+use Rattle.act_rules.proofs.Common.{ActorSpec, History, opening, under, is_caller, calls_of, copies_of, limit_of, kept_of, next_item, unanswered}
+use Rattle.act_rules.proofs.Common.{submission_refusal, refusal_of, add_event, after_run, after_all, SubmitRefused, NoCaller}
 use Rattle.act_rules.proofs.Steps.{IsKept, after_all_keeps}
 use Rattle.act_rules.proofs.Ended.{needs-none, under-push}
 use Rattle.act_rules.proofs.Growth.{Grows, added_grows}
@@ -17,11 +15,12 @@ use Rattle.act_rules.proofs.Lists.{option_map-none, option_or-none_second}
 
 -- ---- what pends
 
-abbrev has_none : List (Option Answer) → ℕ × Submission → Bool
+-- whether a call, with its future, has no answer among those kept
+abbrev pub has_none : List (Option Answer) → ℕ × Submission → Bool
 has_none kept call = is_none (kept_at kept call.0)
 
 -- of the same calls no more pend where more is answered
-fewer : (before after : List (Option Answer)) (calls : List (ℕ × Submission)) → Extends before after → length (filter (has_none after) calls) ≤ length (filter (has_none before) calls)
+pub fewer : (before after : List (Option Answer)) (calls : List (ℕ × Submission)) → Extends before after → length (filter (has_none after) calls) ≤ length (filter (has_none before) calls)
 fewer before after [] extends = omega arith
 fewer before after (call ∷ calls) extends = go (kept_at before call.0) (kept_at after call.0) refl refl (fewer before after calls extends)
   where

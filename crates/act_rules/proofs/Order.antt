@@ -1,9 +1,8 @@
 -- What an actor ran of a caller's calls is a prefix of the caller's calls to it, each as it was submitted.
 use Rattle.act_rules.proofs.Common.{◌≡◌, ℕ, ◌+◌, Bool, true, false, cond, List, [], ◌∷◌, ◌++◌, length, Some, None, refl, ap, sym, ◌∙◌, subst, arith, Option}
 use Rattle.act_rules.proofs.Common.{◌==◌, map, slice_get, option_map, enumerate_from, eqb-true, map-append, append-nil, length-map, slice_get-map, RunItem}
-use Rattle.act_rules.proofs.Common.{Event, Submit, Run, items_of, Submission, calls_to}
-use Rattle.act_rules.proofs.Common.{IsPrefix, History, under, runs_of, calls_of, kept_of, ran_count, has_letter, run_item, next_item, add_event, after_run}
-use Rattle.act_rules.specs.declared.history.Letter.TheVariants.{Call as CallLetter}
+use Rattle.act_rules.proofs.Common.{Event, Submit, Run, items_of, Submission, calls_to, IsPrefix, History, under, runs_of, calls_of, kept_of, ran_count}
+use Rattle.act_rules.proofs.Common.{has_letter, run_item, next_item, add_event, after_run, CallLetter}
 use Rattle.act_rules.proofs.Lists.{front_trans, front_next, slice_get-enumerate_from, IsPrefix-map, IsPrefix-enumerate}
 use Rattle.act_rules.proofs.Growth.{Grows, added_grows, calls_grow, calls_to_grow}
 use Rattle.act_rules.proofs.Ended.{under-push}

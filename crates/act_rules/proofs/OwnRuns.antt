@@ -3,7 +3,7 @@ use Rattle.act_rules.proofs.Common.{◌≡◌, ℕ, List, [], ◌∷◌, ◌++�
 use Rattle.act_rules.proofs.Common.{Terminate, KindState, OwnAt, Ask, StepOf, next_state, step_answer, behaves, RunItem, told_reply, Answer, values_of}
 use Rattle.act_rules.proofs.Common.{step_of_reply, call_reply, step_of_call, after_item, state_after, answers_from, kind_answer, own_call, own_asked}
 use Rattle.act_rules.proofs.Common.{own_after_item, own_state_after, own_answers, RunsByItsSteps, ask_of, with_answer, told_in, IsKept, HoldsInEachRun}
-use Rattle.std.proofs.lemmas.List.{append_assoc}
+use Rattle.act_rules.proofs.Common.{append_assoc}
 
 module _ {S : Type 0} (step : StepOf S) (written : S → List ℕ) where
   abbrev at : S → KindState

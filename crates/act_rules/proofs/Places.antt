@@ -1,14 +1,11 @@
 -- Lists that agree place by place, and the names in them.
-use Rattle.act_rules.proofs.Common.{◌≡◌, ◌≢◌, ℕ, zero, suc, ◌+◌, ◌<◌, ◌==◌, true, List, [], ◌∷◌, ◌++◌, Some, All, AllPairs, Contains, length}
-use Rattle.act_rules.proofs.Common.{map, zip, get_or, slice_get, option_map, ◌⊎◌, inl, inr, refl, ap, sym, ◌∙◌, subst, arith, eq-eqb, eqb-true, or_right, All-head}
-use Rattle.act_rules.proofs.Common.{All-tail, get_or-map, length-map, slice_get-map, slice_get-get_or, contains}
+use Rattle.act_rules.proofs.Common.{◌≡◌, ◌≢◌, ℕ, zero, suc, ◌+◌, ◌<◌, ◌==◌, true, List, [], ◌∷◌, ◌++◌, Some, All, AllPairs, Contains, length, map, zip, get_or}
+use Rattle.act_rules.proofs.Common.{slice_get, option_map, ◌⊎◌, inl, inr, refl, ap, sym, ◌∙◌, subst, arith, eq-eqb, eqb-true, or_right, All-head, All-tail}
+use Rattle.act_rules.proofs.Common.{get_or-map, length-map, slice_get-map, slice_get-get_or, contains, or_cases, All-map, get_or_from_slice_get}
 use Rattle.act_rules.proofs.Elements.{all_in, contains_is, contains_from_in}
 use Rattle.act_rules.proofs.Unique.{map-slice_get}
 use Rattle.std.proofs.Math.Nat.{eq-or-lt_of_le}
-use Rattle.std.proofs.lemmas.Bool.{or_cases}
-use Rattle.std.proofs.lemmas.List.Elements.{All-map}
 use Rattle.std.proofs.lemmas.List.Kept.{AllPairs-cons}
-use Rattle.std.proofs.lemmas.Option.{get_or_from_slice_get}
 
 -- ---- lists that agree under two maps
 
@@ -86,11 +83,6 @@ pub same_at : {X Y Z : Type 0} (f : X → Z) (g : Y → Z) (xs : List X) (ys : L
 same_at f g xs ys i x y same lt at at' =
     let short : i < length ys = omega (arith, length-map xs f, length-map ys g, ap length same) in
     ap g at' ∙ sym (get_or-map g ys i y (f x) short) ∙ sym (ap (λ l. get_or l i (f x)) same) ∙ get_or-map f xs i x (f x) lt ∙ ap f (sym at)
-
--- one element goes over from a list to another
-pub map_over : {X Y : Type 0} (f : X → Y) (xs : List X) (x : X) (rest : List Y) → map f (xs ++ x ∷ []) ++ rest ≡ map f xs ++ f x ∷ rest
-map_over f [] x rest = refl
-map_over f (y ∷ ys) x rest = ap (λ l. f y ∷ l) (map_over f ys x rest)
 
 -- where one of two lists is used up, nothing of them is left
 pub nothing_zips : {X Y : Type 0} (xs : List X) (ys : List Y) → (length xs ≡ 0) ⊎ (length ys ≡ 0) → zip xs ys ≡ []

@@ -8,10 +8,8 @@ use Rattle.act_rules.proofs.Common.{send_refusal, is_earlier, ActorSpec, History
 use Rattle.act_rules.proofs.Common.{count_pairs, copies_of, limit_of, calls_of, kept_of, is_dead, is_ended, is_drained, next_item, Progress, nothing_done}
 use Rattle.act_rules.proofs.Common.{occurrences, holds, is_refused, do_step, done_by, planned, events_of, is_limit, is_held_back, let_through, is_planned_by}
 use Rattle.act_rules.proofs.Common.{letter_actor, was_sent, deliver_refusal, unanswered, submission_refusal, refusal_of, add_event, after_by, after, after_run}
-use Rattle.act_rules.proofs.Common.{after_all, actor_spec_of, actors_of_roles}
-use Rattle.std.proofs.Common.{append-nil}
-use Rattle.act_rules.specs.declared.outcome.WorldRefusal.TheVariants.{Submit as SubmitRefused, Handle, Sending, NoCaller, NoReply, ActorEnded, NoKill, NotDead, NotDrained}
-use Rattle.act_rules.specs.declared.outcome.SubmitRefusal.TheVariants.{NoActor as NoSuchActor, NoHandle as NoCopy, TooManyArgs, BadFuture, TooManyCalls, PendingLimit}
+use Rattle.act_rules.proofs.Common.{after_all, actor_spec_of, actors_of_roles, append-nil, SubmitRefused, Handle, Sending, NoCaller, NoReply, ActorEnded}
+use Rattle.act_rules.proofs.Common.{NoKill, NotDead, NotDrained, NoSuchActor, NoCopy, TooManyArgs, BadFuture, TooManyCalls, PendingLimit}
 use Rattle.act_rules.specs.declared.script.Step.TheVariants as step
 use Rattle.act_rules.proofs.Growth.{added_grows}
 use Rattle.act_rules.proofs.Steps.{after_keeps}

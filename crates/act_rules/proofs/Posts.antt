@@ -1,11 +1,8 @@
 -- Each post names a place of the run list that stands, or an actor that is dead.
 use Rattle.act_rules.proofs.Common.{◌≡◌, ℕ, Bool, true, false, cond, List, [], ◌∷◌, ◌++◌, length, Some, None, refl, ap, sym, Option, slice_get, option_map}
-use Rattle.act_rules.proofs.Common.{AllByRecursion, eq-eqb, RunItem, Event, Run, Collect, Tell}
-use Rattle.act_rules.proofs.Common.{NoCaller, Handle, NotDead, NoActor, Submission, calls_to, needs, Post, History, under, runs_of, calls_of, kept_of, cast_of}
-use Rattle.act_rules.proofs.Common.{names, is_caller, is_dead, has_letter, ran_count, run_item, next_item, refusal_of, add_event, and_also, after_run}
-use Rattle.act_rules.proofs.Common.{slice_get_last}
-use Rattle.act_rules.specs.declared.history.Letter.TheVariants.{Call as CallLetter}
-use Rattle.act_rules.specs.declared.history.Post.TheVariants.{Reply as ReplyPost, Death as DeathPost}
+use Rattle.act_rules.proofs.Common.{AllByRecursion, eq-eqb, RunItem, Event, Run, Collect, Tell, NoCaller, Handle, NotDead, NoActor, Submission, calls_to, needs}
+use Rattle.act_rules.proofs.Common.{Post, History, under, runs_of, calls_of, kept_of, cast_of, names, is_caller, is_dead, has_letter, ran_count, run_item}
+use Rattle.act_rules.proofs.Common.{next_item, refusal_of, add_event, and_also, after_run, slice_get_last, CallLetter, ReplyPost, DeathPost}
 use Rattle.act_rules.proofs.Lists.{slice_get_front, All_more, All_weaker, All_at}
 use Rattle.act_rules.proofs.Growth.{added_grows, runs_grow}
 use Rattle.act_rules.proofs.Steps.{IsKept}

@@ -1,13 +1,10 @@
 -- A retired actor ran every call that was submitted to it, of every caller.
-use Rattle.act_rules.proofs.Common.{◌≡◌, ℕ, ◌+◌, ◌≤◌, Bool, true, false, cond, List, [], ◌∷◌, ◌++◌, length, Some, None, refl, ap, sym, ◌∙◌, subst, arith}
-use Rattle.act_rules.proofs.Common.{◌⊎◌, inl, inr, ⊎_elim, ◌-◌, Option, ◌==◌, ◌||◌, not, map, filter, find, slice_get, is_some, AllByRecursion}
-use Rattle.act_rules.proofs.Common.{list_all, eqb-true, and_parts, or_right, length-map}
-use Rattle.act_rules.proofs.Common.{length-enumerate_from, RunItem, Event, Submit, Run, Retire}
-use Rattle.act_rules.proofs.Common.{Handle, ActorEnded, NotDrained, NoActor, items_of, Submission, calls_to, needs, ActorSpec, History}
-use Rattle.act_rules.proofs.Common.{opening, contains, callers_in, cast_of, names, calls_of, count_pairs, copies_of, runs_of, ran_count}
-use Rattle.act_rules.proofs.Common.{is_done, is_drained, is_dead, is_retired, is_ended, next_item, refusal_of, add_event, after_run, after_all}
-use Rattle.act_rules.proofs.Common.{list_all-weaker, map-enumerate_from}
-use Rattle.act_rules.specs.declared.history.Letter.TheVariants.{Note as NoteLetter}
+use Rattle.act_rules.proofs.Common.{◌≡◌, ℕ, ◌+◌, ◌≤◌, Bool, true, false, cond, List, [], ◌∷◌, ◌++◌, length, Some, None, refl, ap, sym, ◌∙◌, subst, arith, ◌⊎◌}
+use Rattle.act_rules.proofs.Common.{inl, inr, ⊎_elim, ◌-◌, Option, ◌==◌, ◌||◌, not, map, filter, find, slice_get, is_some, AllByRecursion, list_all, eqb-true}
+use Rattle.act_rules.proofs.Common.{and_parts, or_right, length-map, length-enumerate_from, RunItem, Event, Submit, Run, Retire, Handle, ActorEnded, NotDrained}
+use Rattle.act_rules.proofs.Common.{NoActor, items_of, Submission, calls_to, needs, ActorSpec, History, opening, contains, callers_in, cast_of, names, calls_of}
+use Rattle.act_rules.proofs.Common.{count_pairs, copies_of, runs_of, ran_count, is_done, is_drained, is_dead, is_retired, is_ended, next_item, refusal_of}
+use Rattle.act_rules.proofs.Common.{add_event, after_run, after_all, list_all-weaker, map-enumerate_from, NoteLetter}
 use Rattle.act_rules.proofs.Lists.{All_more, All_at, front_whole}
 use Rattle.act_rules.proofs.Growth.{Grows, added_grows}
 use Rattle.act_rules.proofs.Steps.{IsKept, after_all_keeps}
@@ -105,11 +102,7 @@ pub record Retires (h : History) : Type 0 where
 
 -- each accepted event keeps these three facts
 pub retires_step : IsKept Retires
-retires_step h event s accepted = record {
-  notes = notes_step h event s.notes accepted;
-  named = named_step h event s.named accepted;
-  drained = retired_step h event s.drained accepted;
-}
+retires_step h event s accepted = search (notes_step, named_step, retired_step)
 
 -- they hold after any events from an opening
 pub world_retires : (casts : List ActorSpec) (events : List Event) → Retires (after_all (opening casts) events)

@@ -2,13 +2,10 @@
 use Rattle.act_rules.proofs.Common.{◌≡◌, ℕ, ◌+◌, ◌-◌, Bool, true, false, cond, List, [], ◌∷◌, ◌++◌, length, Some, None, refl, ap, sym, ◌∙◌, arith}
 use Rattle.act_rules.proofs.Common.{length-append, Option, ◌==◌, ◌&&◌, slice_get, option_map, is_some, nat_lt, nat_le, AllByRecursion, list_all, eqb-true}
 use Rattle.act_rules.proofs.Common.{eq-eqb, and_parts, and_from, append-nil, filter-append, Arg, Method, RunItem, Event, Submit, Copy, Release, Send, Deliver}
-use Rattle.act_rules.proofs.Common.{Run, NoActor, NoHandle, TooManyCopies, Submission, calls_to, needs, copies_held}
-use Rattle.act_rules.proofs.Common.{copy_refusal, submit_refusal, limit_refusal, is_earlier, Letter, History, cast_of, names, is_caller, calls_of, under}
-use Rattle.act_rules.proofs.Common.{count_pairs, copies_of, limit_of, next_item, unanswered, submission_refusal, refusal_of, add_event, and_also, after_run}
-use Rattle.act_rules.proofs.Common.{call_letter, is_last}
-use Rattle.act_rules.specs.declared.outcome.WorldRefusal.TheVariants.{Submit as SubmitRefused, Handle, NoCaller}
-use Rattle.act_rules.specs.declared.outcome.SubmitRefusal.TheVariants.{NoActor as NoSuchActor, NoHandle as NoCopy, TooManyArgs, BadFuture, TooManyCalls}
-use Rattle.act_rules.specs.declared.history.Letter.TheVariants.{Call as CallLetter, Note as NoteLetter}
+use Rattle.act_rules.proofs.Common.{Run, NoActor, NoHandle, TooManyCopies, Submission, calls_to, needs, copies_held, copy_refusal, submit_refusal}
+use Rattle.act_rules.proofs.Common.{limit_refusal, is_earlier, Letter, History, cast_of, names, is_caller, calls_of, under, count_pairs, copies_of, limit_of}
+use Rattle.act_rules.proofs.Common.{next_item, unanswered, submission_refusal, refusal_of, add_event, and_also, after_run, call_letter, is_last, SubmitRefused}
+use Rattle.act_rules.proofs.Common.{Handle, NoCaller, NoSuchActor, NoCopy, TooManyArgs, BadFuture, TooManyCalls, CallLetter, NoteLetter}
 use Rattle.act_rules.proofs.Lists.{enumerate_from-append, All_more, All_weaker, All_at, option_map-none, option_or-none}
 use Rattle.act_rules.proofs.Steps.{IsKept}
 use Rattle.act_rules.proofs.Ended.{needs-none, under-push}
@@ -140,10 +137,7 @@ last_gone h c a last =
 pub notes_step : IsKept NotesAreSound
 notes_step h (Submit c a method args) s accepted = record { mail = mail_stays h (Submit c a method args) accepted h.mail s.mail; arrived = mail_stays h (Submit c a method args) accepted h.arrived s.arrived }
 notes_step h (Copy c a) s accepted = record { mail = mail_stays h (Copy c a) accepted h.mail s.mail; arrived = mail_stays h (Copy c a) accepted h.arrived s.arrived }
-notes_step h (Release c a) s accepted = record {
-  mail = go (is_last c a h) refl;
-  arrived = mail_stays h (Release c a) accepted h.arrived s.arrived;
-}
+notes_step h (Release c a) s accepted = search (go, mail_stays)
   where
     note : Letter
     note = NoteLetter c a (length (calls_to a (calls_of c h)))

@@ -3,8 +3,7 @@ use Rattle.act_rules.proofs.Common.{◌≡◌, ◌≢◌, ℕ, zero, suc, Bool, 
 use Rattle.act_rules.proofs.Common.{filter, filter_map, slice_get, option_and_then, Err, AllByRecursion, cons_option, eqb-true, and_parts, RunItem, ActorDied}
 use Rattle.act_rules.proofs.Common.{Event, KindState, Answer, answer_at, Submission, kept_at, IsAsSubmitted, IsAnswerOfRun, IsCallToDead, Consistent, Post}
 use Rattle.act_rules.proofs.Common.{ActorSpec, History, opening, opening_of, under, runs_of, calls_of, kept_of, is_dead, is_item_of, answer_of, answer_in}
-use Rattle.act_rules.proofs.Common.{after_all, cond_gives}
-use Rattle.act_rules.specs.declared.history.Post.TheVariants.{Reply as ReplyPost, Death as DeathPost}
+use Rattle.act_rules.proofs.Common.{after_all, cond_gives, ReplyPost, DeathPost}
 use Rattle.act_rules.proofs.Lists.{whole_front}
 use Rattle.act_rules.proofs.Steps.{IsKept, after_all_keeps}
 use Rattle.act_rules.proofs.Posts.{IsSoundPost, PostsAreSound, posts_step}

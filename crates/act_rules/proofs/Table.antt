@@ -2,8 +2,7 @@
 use Rattle.act_rules.proofs.Common.{◌≡◌, ℕ, ◌+◌, ◌<◌, Bool, true, false, cond, List, [], ◌∷◌, ◌++◌, length, Some, None, refl, ap, ◌∙◌, arith, Option, ◌==◌}
 use Rattle.act_rules.proofs.Common.{◌&&◌, ◌||◌, map, filter_map, slice_get, Err, list_any, enumerate_from, cons_option, eqb-true, eq-eqb, map-append}
 use Rattle.act_rules.proofs.Common.{filter_map-append, slice_get_within, Arg, Method, ActorDied, Answer, Submission, Post, History, under, calls_of, kept_of}
-use Rattle.act_rules.proofs.Common.{answer_of, answer_in, first_answer, map_alike}
-use Rattle.act_rules.specs.declared.history.Post.TheVariants.{Reply as ReplyPost, Death as DeathPost}
+use Rattle.act_rules.proofs.Common.{answer_of, answer_in, first_answer, map_alike, ReplyPost, DeathPost}
 use Rattle.act_rules.proofs.Lists.{enumerate_from-append, All_weaker, filter_map-same}
 use Rattle.act_rules.proofs.Ended.{under-push}
 use Rattle.act_rules.proofs.Growth.{Grows}

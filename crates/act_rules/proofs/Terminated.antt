@@ -1,13 +1,7 @@
 -- Run lists in which nothing follows a `terminate` that ended the actor.
 use Rattle.act_rules.proofs.Common.{◌≡◌, ℕ, zero, suc, ◌+◌, ◌-◌, ◌<◌, ◌≤◌, true, false, List, [], ◌∷◌, ◌++◌, length, Some, None, refl, ap, sym, ◌∙◌, arith, ◌⊎◌}
 use Rattle.act_rules.proofs.Common.{inl, inr, Option, slice_get, cases_lt, slice_get_past, length_push, RunItem, ends_actor, has_terminated}
-use Rattle.act_rules.proofs.Common.{NothingFollowsAnEnd, slice_get_last, slice_get_more}
-
--- the last item decides
-pub has_terminated-push : (items : List RunItem) (item : RunItem) → has_terminated (items ++ item ∷ []) ≡ ends_actor (Some item)
-has_terminated-push items item =
-    let last : length (items ++ item ∷ []) - 1 ≡ length items = (let long = length_push items item in omega (arith, long)) in
-    ap (λ (n : ℕ). ends_actor (slice_get (items ++ item ∷ []) n)) last ∙ ap ends_actor (slice_get_last items item)
+use Rattle.act_rules.proofs.Common.{NothingFollowsAnEnd, slice_get_more}
 
 -- nothing has ended the actor yet
 pub none_ends : (items : List RunItem) (place : ℕ) → NothingFollowsAnEnd items → has_terminated items ≡ false → ends_actor (slice_get items place) ≡ true → ⊥

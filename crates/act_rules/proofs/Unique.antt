@@ -40,10 +40,11 @@ same_place {A = A} t (z ∷ zs) (suc p) (suc q) x y e passes f passes' same = go
     go false rest same = ap suc (rest same)
 
 -- the places of the elements that pass, counted from n, are all different
-abbrev places : {A : Type 0} → (ℕ × A → Bool) → ℕ → List A → List ℕ
+abbrev pub places : {A : Type 0} → (ℕ × A → Bool) → ℕ → List A → List ℕ
 places t n xs = map (λ e. e.0) (filter t (enumerate_from n xs))
 
-places_from : {A : Type 0} (t : ℕ × A → Bool) (n : ℕ) (xs : List A) (m k : ℕ) → slice_get (places t n xs) m ≡ Some k → n ≤ k
+-- no such place is before n
+pub places_from : {A : Type 0} (t : ℕ × A → Bool) (n : ℕ) (xs : List A) (m k : ℕ) → slice_get (places t n xs) m ≡ Some k → n ≤ k
 places_from t n [] m k e = cc
 places_from {A = A} t n (x ∷ xs) m k e = go (t (n, x)) m (λ (i : ℕ). places_from t (n + 1) xs i k) e
   where
@@ -52,7 +53,7 @@ places_from {A = A} t n (x ∷ xs) m k e = go (t (n, x)) m (λ (i : ℕ). places
     go true (suc i) rest e = let more : n + 1 ≤ k = rest i e in omega arith
     go false m rest e = let more : n + 1 ≤ k = rest m e in omega arith
 
-places_differ : {A : Type 0} (t : ℕ × A → Bool) (n : ℕ) (xs : List A) (m i k : ℕ) → slice_get (places t n xs) m ≡ Some k → slice_get (places t n xs) i ≡ Some k → m ≡ i
+pub places_differ : {A : Type 0} (t : ℕ × A → Bool) (n : ℕ) (xs : List A) (m i k : ℕ) → slice_get (places t n xs) m ≡ Some k → slice_get (places t n xs) i ≡ Some k → m ≡ i
 places_differ t n [] m i k e f = cc
 places_differ {A = A} t n (x ∷ xs) m i k e f = go (t (n, x)) m i (λ (p q : ℕ). places_differ t (n + 1) xs p q k) (λ (p : ℕ). places_from t (n + 1) xs p k) e f
   where

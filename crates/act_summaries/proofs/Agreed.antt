@@ -1,16 +1,9 @@
 -- From the bytes to the stems with which their lines agree, and how such lines are written.
-use Rattle.std.proofs.Common.{◌≡◌, ◌≢◌, ℕ, Bool, true, false, cond, not, List, [], ◌∷◌, ◌++◌, codes, decimal}
-use Rattle.std.proofs.Common.{refl, sym, ap, ◌∙◌, subst, arith, append_assoc, map, Option, Some, None, inl}
-use Rattle.std.specs.List.{AllByRecursion, AllZip, flat_map}
-use Rattle.std.proofs.lemmas.List.Elements.{recursion_from_All}
-use Rattle.act_types.specs.Texts.{space, with_spaces, caller_text, actor_text, method_text, settled_text}
-use Rattle.act_types.specs.declared.call.Method.{Method}
-use Rattle.act_types.specs.declared.call.Settled.{Settled}
-use Rattle.act_rules.specs.Grammar.{is_skipped}
-use Rattle.act_rules.specs.Laws.{is_sayable_method}
-use Rattle.act_rules.specs.Report.{line, future_text}
-use Rattle.act_summaries.specs.Lines.{AreTold, IsToldAs}
-use Rattle.act_summaries.specs.Stems.{Kept, Nothing, Reply, Death, Any, Call, Ran, Stem, OfCall, OfEnd, OfRun, IsReadable, AgreesKept, AgreesEnd, AgreesRan, Agrees, AreAgreed}
+use Rattle.act_summaries.proofs.Common.{◌≡◌, ◌≢◌, ℕ, Bool, true, false, cond, not, List, [], ◌∷◌, ◌++◌, codes, decimal, refl, sym, ap, ◌∙◌, subst, arith}
+use Rattle.act_summaries.proofs.Common.{append_assoc, map, Option, Some, None, inl, AllByRecursion, AllZip, flat_map, recursion_from_All, space, with_spaces}
+use Rattle.act_summaries.proofs.Common.{caller_text, actor_text, method_text, settled_text, Method, Settled, is_skipped, is_sayable_method, line, future_text}
+use Rattle.act_summaries.proofs.Common.{AreTold, IsToldAs, Kept, Nothing, Reply, Death, Any, Call, Ran, Stem, OfCall, OfEnd, OfRun, IsReadable, AgreesKept}
+use Rattle.act_summaries.proofs.Common.{AgreesEnd, AgreesRan, Agrees, AreAgreed}
 use Rattle.act_summaries.proofs.Bytes.{spaced, spaced_is, Lacks, before, before_cut, before_all, word_lacks}
 use Rattle.act_summaries.proofs.Marks.{TellsBoth}
 use Rattle.act_summaries.proofs.Reading.{shown, tells_both, skipped_alike, told_texts}
@@ -47,10 +40,9 @@ stems_told stems (p ∷ ps) told all = go (is_skipped p.0) (is_skipped p.1) (sym
     go : (a b : Bool) → a ≡ b → (rest : List Stem) → AllZip Agrees rest (cond (not a) (p.0 ∷ given) given) →
         ((rest : List Stem) → AllZip Agrees rest given → AllZip IsToldOf rest texts) → AllZip IsToldOf rest (cond (not b) (p.1 ∷ texts) texts)
     go true true e rest each more = more rest each
-    go true false e rest each more = cc
-    go false true e rest each more = cc
     go false false e [] each more = absurd each
     go false false e (stem ∷ rest) each more = (record { line = p.0; agrees = each.0; tells = both }, more rest each.1)
+    go other some e rest each more = cc
 
 -- where lines agree with stems, each stem is that of a text that the lines tell
 pub agreed_lines : (bytes : List ℕ) (stems : List Stem) (xs : List (List ℕ)) → AllByRecursion (Lacks 10) xs → AreTold bytes (flat_map line xs) →
@@ -141,13 +133,11 @@ run_front a place c k = actor_text a ++ codes "." ++ decimal place ++ space ++ f
 
 run_front_is : (a place c k : ℕ) (end : List ℕ) → run_front a place c k ++ end ≡ place_text a place ++ 32 ∷ (future_name c k ++ 32 ∷ end)
 run_front_is a place c k end =
+    let at : List ℕ = actor_text a ++ codes "." ++ decimal place in
     append_assoc (at ++ space ++ future_text c k) space end
     ∙ append_assoc (at ++ space) (future_text c k) (32 ∷ end)
     ∙ append_assoc at space (future_text c k ++ 32 ∷ end)
     ∙ (λ i. place_is a place i ++ 32 ∷ (name_is c k i ++ 32 ∷ end))
-  where
-    at : List ℕ
-    at = actor_text a ++ codes "." ++ decimal place
 
 pub run_line : (a place : ℕ) (ran : Ran) (line : List ℕ) →
     AgreesRan ran.words (actor_text a ++ codes "." ++ decimal place ++ space ++ future_text ran.caller ran.future ++ space) line → RunLine a place ran line

@@ -1,21 +1,9 @@
 -- What a line says that agrees with a stem.
-use Rattle.std.proofs.Common.{◌≡◌, inl, inr, ℕ, zero, suc, ◌+◌, ◌≤◌, Bool, true, false, List, [], ◌∷◌, ◌++◌, codes, decimal, map, slice_get}
-use Rattle.std.proofs.Common.{refl, sym, ap, ◌∙◌, subst, arith, Option, Some, None, Err}
-use Rattle.std.specs.List.{AllByRecursion, AllZip}
-use Rattle.std.proofs.lemmas.Fmt.{decimal_injective}
-use Rattle.act_types.specs.Texts.{actor_text, method_text, answer_text, settled_text, state_text}
-use Rattle.act_types.specs.KindState.{KindState}
-use Rattle.act_types.specs.declared.call.Fault.TheVariants.{ActorDied}
-use Rattle.act_types.specs.declared.call.Method.{Method}
-use Rattle.act_types.specs.declared.call.Settled.{Settled}
-use Rattle.act_types.specs.declared.call.Settled.TheVariants.{Good, Bad}
-use Rattle.act_rules.specs.declared.history.RunItem.{RunItem}
-use Rattle.act_rules.specs.declared.history.Submission.{Submission}
-use Rattle.act_rules.specs.RunList.{Answer}
-use Rattle.act_rules.specs.Submissions.{kept_at}
-use Rattle.act_rules.specs.Report.{stage_text}
-use Rattle.act_rules.proofs.Lists.{All_weaker}
-use Rattle.act_summaries.specs.Stems.{Kept, Nothing, Reply, Death, Any, Call, Ran, OfCall, OfEnd, OfRun, placed, IsReadable, IsKeptSo, HasWords, IsRanSo}
+use Rattle.act_summaries.proofs.Common.{◌≡◌, inl, inr, ℕ, zero, suc, ◌+◌, ◌≤◌, Bool, true, false, List, [], ◌∷◌, ◌++◌, codes, decimal, map, slice_get, refl}
+use Rattle.act_summaries.proofs.Common.{sym, ap, ◌∙◌, subst, arith, Option, Some, None, Err, AllByRecursion, AllZip, decimal_injective, actor_text, method_text}
+use Rattle.act_summaries.proofs.Common.{answer_text, settled_text, state_text, KindState, ActorDied, Method, Settled, Good, Bad, RunItem, Submission, Answer}
+use Rattle.act_summaries.proofs.Common.{kept_at, stage_text, All_weaker, Kept, Nothing, Reply, Death, Any, Call, Ran, OfCall, OfEnd, OfRun, placed, IsReadable}
+use Rattle.act_summaries.proofs.Common.{IsKeptSo, HasWords, IsRanSo, same_Some}
 use Rattle.act_summaries.proofs.Bytes.{differ, tails, texts_apart, begins_once, spaced, IsWord, AreWords, word_lacks, decimal_word}
 use Rattle.act_summaries.proofs.Marks.{TellsBoth, TellsRest, peel, head_same, told_both, told_same, words_same}
 use Rattle.act_summaries.proofs.Texts.{numbered, kept_word, future_as, item_as, place_text, future_name, actor_word, future_word, place_word}
@@ -24,9 +12,6 @@ use Rattle.act_summaries.proofs.Decoding.{IsGoodKept, IsGoodItem, kept_words, fu
 use Rattle.act_summaries.proofs.Agreed.{IsToldOf, IsTail, call_line, IsStage, end_line, HasTail, run_line}
 
 -- ---- what is kept
-
-some_same : (x y : Answer) → Some x ≡ Some y → x ≡ y
-some_same x y e = cc
 
 kept_told : (kept : Kept) (tail : List ℕ) (o : Option Answer) → IsGoodKept o → IsTail kept tail → TellsRest tail (kept_word o) tail → IsKeptSo kept o
 kept_told Nothing tail None good is tells = refl
@@ -37,7 +22,7 @@ kept_told Reply tail None good says tells =
     absurd (let bad = head_same tail 63 61 [] (32 ∷ says.0) (subst (λ (y : List ℕ). TellsRest tail (63 ∷ []) y) says.1 tells) in omega (arith, bad))
 kept_told Reply tail (Some answer) good says tells =
     elim (kept_words tail answer says.0 good (subst (λ (y : List ℕ). TellsRest tail (61 ∷ 32 ∷ answer_text answer) y) says.1 tells)) [
-      | inl same ↦ (refl, λ died. says.3 (sym same ∙ ap answer_text (some_same answer (Err ActorDied) died)))
+      | inl same ↦ (refl, λ died. says.3 (sym same ∙ ap answer_text (same_Some answer (Err ActorDied) died)))
       | inr opened ↦ absurd (says.2 (tails 32 32 says.0 (42 ∷ []) (tails 61 61 (32 ∷ says.0) (32 ∷ 42 ∷ []) (sym says.1 ∙ opened))))
     ]
 kept_told Death tail None good is tells =
@@ -86,8 +71,6 @@ module _ (c : ℕ) (kept : List (Option Answer)) (good : (k : ℕ) → IsGoodKep
       (map (λ (sub : Submission). sub.actor) subs ≡ map (λ (call : Call). call.actor) calls)
       × ((j : ℕ) (call : Call) → slice_get calls j ≡ Some call → IsKeptSo call.kept (kept_at kept (k + j)))
   calls_told k [] [] few told = (refl, λ j call e. cc)
-  calls_told k [] (sub ∷ subs) few told = absurd told
-  calls_told k (call ∷ calls) [] few told = absurd told
   calls_told k (call ∷ calls) (sub ∷ subs) few told =
       let one = call_told k call sub few.0 told.0 in
       let rest = calls_told (k + 1) calls subs few.1 told.1 in
@@ -103,6 +86,7 @@ module _ (c : ℕ) (kept : List (Option Answer)) (good : (k : ℕ) → IsGoodKep
       at (suc i) other e one rest =
           let same : (k + 1) + i ≡ k + suc i = omega arith in
           subst (λ (n : ℕ). IsKeptSo other.kept (kept_at kept n)) same (rest i other e)
+  calls_told k calls subs few told = absurd told
 
 -- ---- ends
 
@@ -192,6 +176,5 @@ module _ (a : ℕ) where
   pub runs_told : (place : ℕ) (runs : List Ran) (items : List RunItem) → AllByRecursion IsGoodItem items →
       AllZip IsToldOf (placed (OfRun a) place runs) (numbered (item_as a) place items) → AllZip IsRanSo runs items
   runs_told place [] [] good told = tt
-  runs_told place [] (item ∷ items) good told = absurd told
-  runs_told place (ran ∷ runs) [] good told = absurd told
   runs_told place (ran ∷ runs) (item ∷ items) good told = (run_told place ran item good.0 told.0, runs_told (place + 1) runs items good.1 told.1)
+  runs_told place runs items good told = absurd told

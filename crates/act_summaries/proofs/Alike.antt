@@ -1,33 +1,22 @@
 -- Two histories that the same lines tell end alike.
-use Rattle.act_rules.proofs.Common.{◌≡◌, ◌⊎◌, inl, inr, ℕ, zero, suc, ◌+◌, ◌<◌, ◌≤◌, ◌==◌, ◌||◌, Bool, true, false, cond, List, [], ◌∷◌, ◌++◌, length, map, filter}
-use Rattle.act_rules.proofs.Common.{take, find, slice_get, Some, None, Option, is_some, option_map, option_and_then, refl, sym, ap, subst, ◌∙◌, arith, codes}
-use Rattle.act_rules.proofs.Common.{eq-eqb, slice_get-map, slice_get_within, AllByRecursion, enumerate_from, History, ActorSpec, cast_of}
-use Rattle.act_rules.proofs.Common.{calls_of, runs_of, kept_of, opening_of, calls_to, items_of, is_dead, is_retired, is_ended, Answer, answer_at, KindState}
-use Rattle.act_rules.proofs.Common.{kept_at, actor_spec_of, IsAsSubmitted, IsAnswerOfRun}
-use Rattle.act_rules.specs.declared.history.RunItem.{RunItem}
-use Rattle.act_rules.specs.declared.history.Submission.{Submission}
-use Rattle.std.specs.List.{AllZip, flat_map}
-use Rattle.std.proofs.Common.{Contains}
-use Rattle.act_types.specs.Texts.{caller_text, actor_text, answer_text, settled_text, method_text, state_text}
-use Rattle.act_rules.specs.RunList.{state_after}
-use Rattle.act_rules.specs.Grammar.{lines_in}
-use Rattle.act_rules.specs.Report.{one_to, stage_text}
-use Rattle.act_rules.specs.Laws.{history, is_sayable_method}
-use Rattle.act_rules.proofs.Lists.{slice_get-filter, slice_get-enumerate_from, slice_get_front, option_map-none, All_at, All_weaker}
-use Rattle.act_rules.proofs.Kept.{kept_by, kept_at_is}
-use Rattle.act_rules.proofs.Order.{numbers, numbered as keyed}
-use Rattle.act_rules.proofs.Unique.{held_submission, rank}
-use Rattle.act_rules.proofs.Sound.{answers_are, consistent}
-use Rattle.act_summaries.specs.Lines.{AreTold}
-use Rattle.act_summaries.specs.Summaries.{AreReadOneWay, open_line, KeepsDeath}
+use Rattle.act_summaries.proofs.Common.{◌≡◌, ◌⊎◌, inl, inr, ℕ, zero, suc, ◌+◌, ◌<◌, ◌≤◌, ◌==◌, ◌||◌, Bool, true, false, cond, List, [], ◌∷◌, ◌++◌, length, map}
+use Rattle.act_summaries.proofs.Common.{filter, take, find, slice_get, Some, None, Option, is_some, option_map, option_and_then, refl, sym, ap, subst, ◌∙◌}
+use Rattle.act_summaries.proofs.Common.{arith, codes, eq-eqb, slice_get-map, slice_get_within, AllByRecursion, enumerate_from, History, ActorSpec, cast_of}
+use Rattle.act_summaries.proofs.Common.{calls_of, runs_of, kept_of, opening_of, calls_to, items_of, is_dead, is_retired, is_ended, Answer, answer_at, KindState}
+use Rattle.act_summaries.proofs.Common.{kept_at, actor_spec_of, IsAsSubmitted, IsAnswerOfRun, RunItem, Submission, AllZip, flat_map, Contains, caller_text}
+use Rattle.act_summaries.proofs.Common.{actor_text, answer_text, settled_text, method_text, state_text, state_after, lines_in, one_to, stage_text, history}
+use Rattle.act_summaries.proofs.Common.{is_sayable_method, slice_get-filter, slice_get-enumerate_from, slice_get_front, option_map-none, All_at, All_weaker}
+use Rattle.act_summaries.proofs.Common.{kept_by, kept_at_is, numbers, keyed, held_submission, rank, answers_are, consistent, AreTold, AreReadOneWay, open_line}
+use Rattle.act_summaries.proofs.Common.{KeepsDeath, all_from_places, same_Some}
 use Rattle.act_summaries.proofs.Bytes.{tails, spaced, IsWord, IsPlain, Lacks, AreWords, word_plain, word_lacks, plain_lacks, Each-append}
 use Rattle.act_summaries.proofs.Marks.{TellsRest, peel, head_same}
 use Rattle.act_summaries.proofs.Reading.{IsToldTwice, told_twice}
-use Rattle.act_summaries.proofs.Texts.{numbered, kept_word, future_as, item_as, actor_as, futures, actors, lines_of, summary_is, actor_word, future_name, future_word, place_text, place_word, is_of, of_caller, of_actor, filtered}
+use Rattle.act_summaries.proofs.Texts.{numbered, kept_word, future_as, item_as, actor_as, futures, actors, lines_of, summary_is, actor_word, future_name}
+use Rattle.act_summaries.proofs.Texts.{future_word, place_text, place_word, is_of, of_caller, of_actor, filtered}
 use Rattle.act_summaries.proofs.Words.{IsGoodArg, IsGoodState, answer_word, method_word, args_words, state_plain, plain_from, spaced_plain, dead_alike}
-use Rattle.act_summaries.proofs.Facts.{Facts, facts, IsGoodCall, IsCallerNumber, call_numbers, cast_good, calls_good, items_good, opened_good, kept_good, died_or_not}
+use Rattle.act_summaries.proofs.Facts.{Facts, facts, IsGoodCall, IsCallerNumber, call_numbers, cast_good, calls_good, items_good, opened_good, kept_good}
+use Rattle.act_summaries.proofs.Facts.{died_or_not}
 use Rattle.act_summaries.proofs.Decoding.{IsGoodKept, AreKeptAlike, futures_alike, IsGoodItem, IsSameItem, items_alike}
-use Rattle.act_lists.proofs.Lists.{all_from_places}
 
 -- ---- what the facts say of items and answers
 
@@ -35,27 +24,24 @@ both : {A : Type 0} (P Q R : A → Type 0) (xs : List A) → ((x : A) → P x �
 both P Q R [] f p q = tt
 both P Q R (x ∷ xs) f p q = (f x p.0 q.0, both P Q R xs f p.1 q.1)
 
-some_same : (p q : ℕ × ℕ) → Some p ≡ Some q → p ≡ q
-some_same p q e = cc
-
 module _ (casts : List ActorSpec) (h : History) (f : Facts casts h) where
   abbrev IsSubmittedHere : RunItem → Type 0
   IsSubmittedHere item = IsAsSubmitted (λ c. calls_of c h) (λ c. kept_of c h) item
 
   pub items_fine : (a : ℕ) → AllByRecursion IsGoodItem (runs_of a h)
-  items_fine a = both IsSubmittedHere (λ item. AllByRecursion IsGoodArg item.args) IsGoodItem (runs_of a h) one ((consistent h f.sound).as_submitted a) (items_good h a f.good)
-    where
-      one : (item : RunItem) → IsSubmittedHere item → AllByRecursion IsGoodArg item.args → IsGoodItem item
-      one item sub good =
-          let call = All_at IsGoodCall (calls_of item.caller h) item.future sub.call (calls_good h item.caller f.good) sub.at in
-          let number = call_numbers casts h item.caller item.future sub.call f sub.at in
-          let within = slice_get_within (calls_of item.caller h) item.future sub.call sub.at in
-          record {
-            method = ap is_sayable_method sub.method ∙ call.0;
-            args = good;
-            caller = number.caller.1;
-            future = omega (arith, within, f.few item.caller);
-          }
+  items_fine a =
+      let one : (item : RunItem) → IsSubmittedHere item → AllByRecursion IsGoodArg item.args → IsGoodItem item =
+      λ item sub good. let call = All_at IsGoodCall (calls_of item.caller h) item.future sub.call (calls_good h item.caller f.good) sub.at in
+      let number = call_numbers casts h item.caller item.future sub.call f sub.at in
+      let within = slice_get_within (calls_of item.caller h) item.future sub.call sub.at in
+      record {
+        method = ap is_sayable_method sub.method ∙ call.0;
+        args = good;
+        caller = number.caller.1;
+        future = omega (arith, within, f.few item.caller);
+      } in
+      both IsSubmittedHere (λ item. AllByRecursion IsGoodArg item.args) IsGoodItem (runs_of a h) one ((consistent h f.sound).as_submitted a)
+      (items_good h a f.good)
 
   -- what a caller keeps for a future is good: nothing, a sayable value, or a fault that is no kind's own
   pub kept_fine : (c k : ℕ) → IsGoodKept (kept_at (kept_of c h) k)
@@ -115,7 +101,7 @@ module _ (casts : List ActorSpec) (h : History) (f : Facts casts h) where
           go : (o : Option ℕ) → option_map {U = ℕ × ℕ} (λ (x : ℕ). (0 + m, x)) o ≡ Some (n, k) → n ≡ m
           go None e = absurd (cc)
           go (Some x) e =
-              let same : 0 + m ≡ n = ap (λ (p : ℕ × ℕ). p.0) (some_same (0 + m, x) (n, k) e) in
+              let same : 0 + m ≡ n = ap (λ (p : ℕ × ℕ). p.0) (same_Some (0 + m, x) (n, k) e) in
               omega (arith, same)
 
   -- ---- no line of the summary has a line end
@@ -149,6 +135,7 @@ module _ (casts : List ActorSpec) (h : History) (f : Facts casts h) where
 
   item_plain : (a place : ℕ) (item : RunItem) → IsGoodItem item → IsPlain (item_as a place item)
   item_plain a place item good =
+      let u : List ℕ = future_name item.caller item.future in
       append_plain (place_text a place) (32 ∷ (u ++ 32 ∷ (method_text item.method ++ spaced (map settled_text item.args)))) (word_plain (place_text a place) (place_word a place)) (
         omega arith,
         append_plain u (32 ∷ (method_text item.method ++ spaced (map settled_text item.args))) (word_plain u (future_word item.caller item.future)) (
@@ -157,9 +144,6 @@ module _ (casts : List ActorSpec) (h : History) (f : Facts casts h) where
               (spaced_plain (map settled_text item.args) (words_plain (map settled_text item.args) (args_words item.args good.args))),
         ),
       )
-    where
-      u : List ℕ
-      u = future_name item.caller item.future
 
   stage_plain : (dead retired : Bool) (state : KindState) → IsGoodState state → IsPlain (stage_text dead retired state)
   stage_plain true retired state good = plain_from (codes "dead") refl
@@ -191,10 +175,9 @@ module _ (casts : List ActorSpec) (h : History) (f : Facts casts h) where
 zip_at : {A : Type 0} (R : A → A → Type 0) (xs ys : List A) (k : ℕ) → AllZip R xs ys →
     ((slice_get xs k ≡ None) × (slice_get ys k ≡ None)) ⊎ ((x : A) × (y : A) × (slice_get xs k ≡ Some x) × (slice_get ys k ≡ Some y) × R x y)
 zip_at R [] [] k all = inl (refl, refl)
-zip_at R [] (y ∷ ys) k all = absurd all
-zip_at R (x ∷ xs) [] k all = absurd all
 zip_at R (x ∷ xs) (y ∷ ys) zero all = inr (x, y, refl, refl, all.0)
 zip_at R (x ∷ xs) (y ∷ ys) (suc k) all = zip_at R xs ys k all.1
+zip_at R xs ys k all = absurd all
 
 lists_same : {A : Type 0} (xs ys : List A) → ((k : ℕ) → slice_get xs k ≡ slice_get ys k) → xs ≡ ys
 lists_same [] [] same = refl
@@ -208,8 +191,6 @@ lists_same (x ∷ xs) (y ∷ ys) same =
 rank_same : (xs ys : List RunItem) (c place : ℕ) → AllZip IsSameItem xs ys → rank c place xs ≡ rank c place ys
 rank_same xs ys c zero all = refl
 rank_same [] [] c (suc place) all = refl
-rank_same [] (y ∷ ys) c (suc place) all = absurd all
-rank_same (x ∷ xs) [] c (suc place) all = absurd all
 rank_same (x ∷ xs) (y ∷ ys) c (suc place) all =
     ap (λ (d : ℕ). length (cond (d == c) (x ∷ filter (λ (i : RunItem). i.caller == c) (take place xs)) (filter (λ (i : RunItem). i.caller == c) (take place xs)))) all.0.caller
     ∙ go (y.caller == c) (rank_same xs ys c place all.1)
@@ -219,6 +200,7 @@ rank_same (x ∷ xs) (y ∷ ys) c (suc place) all =
         ≡ length (cond b (y ∷ filter (λ (i : RunItem). i.caller == c) (take place ys)) (filter (λ (i : RunItem). i.caller == c) (take place ys)))
     go true e = ap suc e
     go false e = e
+rank_same xs ys c (suc place) all = absurd all
 
 item_same : (x y : RunItem) → IsSameItem x y → x.number ≡ y.number → x ≡ y
 item_same x y same number = λ i. record { caller = same.caller i; number = number i; future = same.future i; method = same.method i; args = same.args i }
@@ -276,6 +258,7 @@ module _ (casts : List ActorSpec) (h g : History) (f : Facts casts h) (t : Facts
   -- of an actor that is cast
   cast_alike : (a : ℕ) (state : KindState) → 1 ≤ a → a ≤ 8 → opening_of a h ≡ Some state → opening_of a g ≡ Some state → IsActorAlike h g a
   cast_alike a state some few here there =
+      let staged : History → KindState → List ℕ = λ w state. stage_text (is_dead a w) (is_retired a w) (state_after state (runs_of a w)) in
       let mine = subst (λ (l : List (List ℕ)). AllZip (IsToldTwice lines) l (actors g a)) (of_actor h a some few)
       (subst (λ (l : List (List ℕ)). AllZip (IsToldTwice lines) (filter (is_of (actor_text a)) (lines_of h)) l) (of_actor g a some few)
       (filtered lines (actor_text a) (lines_of h) (lines_of g) told)) in
@@ -292,9 +275,6 @@ module _ (casts : List ActorSpec) (h g : History) (f : Facts casts h) (t : Facts
         retired = retires (is_dead a h) refl ends.0 ends.1;
       }
     where
-      staged : History → KindState → List ℕ
-      staged w state = stage_text (is_dead a w) (is_retired a w) (state_after state (runs_of a w))
-
       retires : (d : Bool) → is_dead a h ≡ d → is_dead a h ≡ is_dead a g → (is_dead a h ≡ false → is_retired a h ≡ is_retired a g) → is_retired a h ≡ is_retired a g
       retires true e dead live = f.once.apart a e ∙ sym (t.once.apart a (sym dead ∙ e))
       retires false e dead live = live e

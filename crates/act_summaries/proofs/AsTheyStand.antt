@@ -1,8 +1,6 @@
 -- Where no line has a mark, the lines are told as they stand.
-use Rattle.std.proofs.Common.{◌≡◌, ℕ, true, false, List, [], ◌∷◌, ◌++◌, map, inl, inr, refl, sym, ap, subst, ◌∙◌, All}
-use Rattle.std.proofs.lemmas.List.Elements.{All-head, All-tail}
-use Rattle.std.specs.List.{flat_map}
-use Rattle.act_summaries.specs.Lines.{told_line, is_open, IsToldAs, AreToldAsTheyStand}
+use Rattle.act_summaries.proofs.Common.{◌≡◌, ℕ, true, false, List, [], ◌∷◌, ◌++◌, map, inl, inr, refl, sym, ap, subst, ◌∙◌, All, All-head, All-tail, flat_map}
+use Rattle.act_summaries.proofs.Common.{told_line, is_open, IsToldAs, AreToldAsTheyStand}
 
 -- the line of a pair, as it is told
 abbrev told_of : List ℕ × List ℕ → List ℕ

@@ -1,12 +1,8 @@
 -- Words: how they end, and what numbers are written with.
-use Rattle.std.proofs.Common.{◌≡◌, ◌≢◌, ℕ, zero, suc, ◌+◌, ◌<◌, ◌≤◌, ◌/◌, ◌%◌, ◌==◌, Bool, true, false, cond, List, [], ◌∷◌, ◌++◌, decimal, not, bytes_eq}
-use Rattle.std.proofs.Common.{refl, sym, ap, ◌∙◌, subst, arith, ℤ, pos, negsuc}
-use Rattle.std.proofs.lemmas.Bool.{eq-eqb, ne_eqb, lt-ltb, and_parts, not-true}
-use Rattle.std.specs.Cmp.Lexicographic.{bytes_decides}
-use Rattle.std.specs.Fmt.{signed_decimal, digits_onto, digit_glyph, digits}
-use Rattle.std.specs.List.{AllByRecursion, list_all}
-use Rattle.act_types.specs.Texts.{space, with_spaces}
-use Rattle.act_rules.proofs.Lists.{All_weaker}
+use Rattle.act_summaries.proofs.Common.{◌≡◌, ◌≢◌, ℕ, zero, suc, ◌+◌, ◌<◌, ◌≤◌, ◌/◌, ◌%◌, ◌==◌, Bool, true, false, cond, List, [], ◌∷◌, ◌++◌, decimal, not}
+use Rattle.act_summaries.proofs.Common.{bytes_eq, refl, sym, ap, ◌∙◌, subst, arith, ℤ, pos, negsuc, take, eq-eqb, ne_eqb, lt-ltb, and_parts, not-true}
+use Rattle.act_summaries.proofs.Common.{bytes_decides, signed_decimal, digits_onto, digit_glyph, AllByRecursion, list_all, space, with_spaces, All_weaker}
+use Rattle.std.specs.Fmt.{digits}
 
 -- ---- what each byte of a text is
 
@@ -14,6 +10,12 @@ use Rattle.act_rules.proofs.Lists.{All_weaker}
 pub Each-append : {A : Type 0} (P : A → Type 0) (xs ys : List A) → AllByRecursion P xs → AllByRecursion P ys → AllByRecursion P (xs ++ ys)
 Each-append P [] ys p q = q
 Each-append P (x ∷ xs) ys p q = (p.0, Each-append P xs ys p.1 q)
+
+-- what holds of each item of a list holds of each of its first ones
+pub Each-take : {A : Type 0} (P : A → Type 0) (n : ℕ) (xs : List A) → AllByRecursion P xs → AllByRecursion P (take n xs)
+Each-take P zero xs h = tt
+Each-take P (suc n) [] h = tt
+Each-take P (suc n) (x ∷ xs) h = (h.0, Each-take P n xs h.1)
 
 -- the text has no such byte
 abbrev pub Lacks : ℕ → List ℕ → Type 0

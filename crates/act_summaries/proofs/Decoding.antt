@@ -1,29 +1,14 @@
 -- What two texts of one line say alike: a future's line, and an item's.
-use Rattle.std.proofs.Common.{◌≡◌, ◌≢◌, ℕ, zero, suc, ◌+◌, ◌<◌, ◌^◌, ◌≤◌, ◌⊎◌, inl, inr, true, List, [], ◌∷◌, ◌++◌, codes, length, decimal}
-use Rattle.std.proofs.Common.{refl, sym, ap, ◌∙◌, subst, arith, append_assoc, map, Option, Some, None, is_some, Result, Ok, pos, negsuc, Contains}
-use Rattle.std.specs.List.{AllByRecursion, AllZip}
-use Rattle.std.proofs.lemmas.List.{append-nil}
-use Rattle.std.proofs.lemmas.Fmt.{decimal_injective}
-use Rattle.act_types.specs.Texts.{space, caller_text, actor_text, method_text, value_text, settled_text, answer_text}
-use Rattle.act_types.specs.declared.call.Value.{Value}
+use Rattle.act_summaries.proofs.Common.{◌≡◌, ◌≢◌, ℕ, zero, suc, ◌+◌, ◌<◌, ◌^◌, ◌≤◌, ◌⊎◌, inl, inr, true, List, [], ◌∷◌, ◌++◌, codes, length, decimal, refl, sym}
+use Rattle.act_summaries.proofs.Common.{ap, ◌∙◌, subst, arith, append_assoc, map, Option, Some, None, is_some, Result, Ok, pos, negsuc, Contains}
+use Rattle.act_summaries.proofs.Common.{AllByRecursion, AllZip, append-nil, decimal_injective, space, caller_text, actor_text, method_text, value_text}
+use Rattle.act_summaries.proofs.Common.{settled_text, answer_text, Value, Method, Settled, Good, Bad, RunItem, Submission, Wrong, Answer, kept_at, is_sayable}
+use Rattle.act_summaries.proofs.Common.{is_sayable_method, method_at, value_at, future_text, All_weaker, IsReadable, open_line}
 use Rattle.act_types.specs.declared.call.Value.TheVariants as value
-use Rattle.act_types.specs.declared.call.Method.{Method}
-use Rattle.act_types.specs.declared.call.Settled.{Settled}
-use Rattle.act_types.specs.declared.call.Settled.TheVariants.{Good, Bad}
-use Rattle.act_rules.specs.declared.history.RunItem.{RunItem}
-use Rattle.act_rules.specs.declared.history.Submission.{Submission}
-use Rattle.act_rules.specs.declared.script.Wrong.{Wrong}
-use Rattle.act_rules.specs.RunList.{Answer}
-use Rattle.act_rules.specs.Submissions.{kept_at}
-use Rattle.act_rules.specs.Laws.{is_sayable, is_sayable_method}
-use Rattle.act_rules.specs.Words.{method_at, value_at}
-use Rattle.act_rules.specs.Report.{future_text}
 use Rattle.act_rules.proofs.ReadingBack.{method_reads_back, value_reads_back}
-use Rattle.act_rules.proofs.Lists.{All_weaker}
-use Rattle.act_summaries.specs.Stems.{IsReadable}
-use Rattle.act_summaries.specs.Summaries.{open_line}
 use Rattle.act_summaries.proofs.Bytes.{differ, tails, apart, spaced, IsWord, AreWords, AreDigits, Lacks, word_lacks, cut, decimal_digits}
-use Rattle.act_summaries.proofs.Marks.{Mark, Equals, Live, Retired, word_of, end_of, TellsRest, peel, head_same, told_both, unmarked, told_same, words_same, AreLacking}
+use Rattle.act_summaries.proofs.Marks.{Mark, Equals, Live, Retired, word_of, end_of, TellsRest, peel, head_same, told_both, unmarked, told_same, words_same}
+use Rattle.act_summaries.proofs.Marks.{AreLacking}
 use Rattle.act_summaries.proofs.Reading.{IsToldTwice}
 use Rattle.act_summaries.proofs.Texts.{numbered, kept_word, future_as, item_as, place_text, future_name, name_is, actor_word, future_word, place_word}
 use Rattle.act_summaries.proofs.Texts.{caller_dots}
@@ -110,8 +95,6 @@ module _ (lines : List (List ℕ)) (c : ℕ) (kept others : List (Option Answer)
       (map (λ (call : Submission). call.actor) xs ≡ map (λ (call : Submission). call.actor) ys)
       × ((j : ℕ) → j < length xs → AreKeptAlike lines c (k + j) (kept_at kept (k + j)) (kept_at others (k + j)))
   futures_alike k [] [] p q told = (refl, λ j less. absurd (omega (arith, less)))
-  futures_alike k [] (y ∷ ys) p q told = absurd told
-  futures_alike k (x ∷ xs) [] p q told = absurd told
   futures_alike k (x ∷ xs) (y ∷ ys) p q told =
       let one = future_alike k x y p.0 q.0 told.0 in
       let rest = futures_alike (k + 1) xs ys p.1 q.1 told.1 in
@@ -126,6 +109,7 @@ module _ (lines : List (List ℕ)) (c : ℕ) (kept others : List (Option Answer)
       at (suc i) less one rest =
           let same : (k + 1) + i ≡ k + suc i = omega arith in
           subst (λ (n : ℕ). AreKeptAlike lines c n (kept_at kept n) (kept_at others n)) same (rest i (omega (arith, less)))
+  futures_alike k xs ys p q told = absurd told
 
 -- ---- an item's line
 
@@ -171,12 +155,11 @@ arg_same (Bad j) (Bad k) p q e = ap (λ (n : ℕ). Bad n) (decimal_injective j k
 
 pub args_same : (xs ys : List Settled) → AllByRecursion IsReadable xs → AllByRecursion IsReadable ys → map settled_text xs ≡ map settled_text ys → xs ≡ ys
 args_same [] [] p q e = refl
-args_same [] (y ∷ ys) p q e = cc
-args_same (x ∷ xs) [] p q e = cc
 args_same (x ∷ xs) (y ∷ ys) p q e =
     let head : settled_text x ≡ settled_text y = cc in
     let tail : map settled_text xs ≡ map settled_text ys = cc in
     (λ i. arg_same x y p.0 q.0 head i ∷ args_same xs ys p.1 q.1 tail i)
+args_same xs ys p q e = cc
 
 pub words_lack : (words : List (List ℕ)) → AreWords words → AreLacking words
 words_lack words all = All_weaker IsWord (Lacks 32) words (λ word is. word_lacks 32 word (omega arith) is) all

@@ -1,43 +1,22 @@
 -- What holds of each history of a script: its numbers are small, and what it says is sayable.
-use Rattle.act_rules.proofs.Common.{◌≡◌, ◌≢◌, ◌⊎◌, inl, inr, ℕ, ◌<◌, ◌≤◌, ◌^◌, ◌==◌, ◌||◌, Bool, true, false, cond, List, [], ◌∷◌}
-use Rattle.act_rules.proofs.Common.{length, map, filter, find, slice_get, Some, None, Option, is_some, option_map, option_and_then, Ok, Err, refl, sym, ap, subst, ◌∙◌, arith, nat_lt, nat_le}
-use Rattle.act_rules.proofs.Common.{eqb-true, and_parts, ltb-true, AllByRecursion, list_all}
-use Rattle.act_rules.proofs.Common.{History, ActorSpec, contains, names, cast_of}
-use Rattle.act_rules.proofs.Common.{calls_of, runs_of, kept_of, under, opening_of, ran_count, next_item, refusal_of, add_event, after, after_run}
-use Rattle.act_rules.proofs.Common.{after_all, opening, Answer, answer_at, answers_from, state_after, KindState, settle, settled_future}
-use Rattle.act_rules.proofs.Common.{kept_at, is_sayable, is_sayable_arg, is_sayable_method, is_number, is_actor_number, is_caller_number, actor_spec_of}
-use Rattle.act_rules.proofs.Common.{needs, is_caller, copies_of, copies_held, is_earlier, limit_of, unanswered, submission_refusal, submit_refusal}
-use Rattle.act_rules.specs.declared.event.Event.{Event}
-use Rattle.act_rules.specs.declared.event.Event.TheVariants.{Submit, Run}
-use Rattle.act_rules.specs.declared.history.RunItem.{RunItem}
-use Rattle.act_rules.specs.declared.history.Submission.{Submission}
-use Rattle.act_rules.specs.declared.outcome.WorldRefusal.TheVariants.{NoCaller}
-use Rattle.act_rules.specs.declared.script.Role.{Role}
-use Rattle.act_types.specs.declared.call.Arg.{Arg}
-use Rattle.act_types.specs.declared.call.Arg.TheVariants.{Fut, Plain}
-use Rattle.act_types.specs.declared.call.Fault.TheVariants.{ActorDied}
-use Rattle.act_types.specs.declared.call.Method.{Method}
-use Rattle.act_rules.specs.declared.outcome.SubmitRefusal.TheVariants.{NoActor as NoSuchActor, NoHandle as NoCopy, TooManyArgs, BadFuture, TooManyCalls}
-use Rattle.act_rules.specs.declared.outcome.WorldRefusal.TheVariants.{Submit as SubmitRefused}
+use Rattle.act_summaries.proofs.Common.{◌≡◌, ◌≢◌, ◌⊎◌, inl, inr, ℕ, ◌<◌, ◌≤◌, ◌^◌, ◌==◌, ◌||◌, Bool, true, false, cond, List, [], ◌∷◌, length, map, filter}
+use Rattle.act_summaries.proofs.Common.{find, slice_get, Some, None, Option, is_some, option_map, option_and_then, Ok, Err, refl, sym, ap, subst, ◌∙◌, arith}
+use Rattle.act_summaries.proofs.Common.{nat_le, eqb-true, and_parts, ltb-true, AllByRecursion, list_all, History, ActorSpec, contains, names, cast_of, calls_of}
+use Rattle.act_summaries.proofs.Common.{runs_of, kept_of, under, opening_of, ran_count, next_item, refusal_of, add_event, after, after_run, after_all, opening}
+use Rattle.act_summaries.proofs.Common.{Answer, answer_at, answers_from, state_after, KindState, settle, settled_future, kept_at, is_sayable, is_sayable_arg}
+use Rattle.act_summaries.proofs.Common.{is_sayable_method, is_number, is_actor_number, is_caller_number, actor_spec_of, Event, Submit, Run, RunItem, Submission}
+use Rattle.act_summaries.proofs.Common.{Role, Arg, Fut, Plain, ActorDied, history, All_more, All_at, IsKept, after_all_keeps, after_keeps, next_item_is}
+use Rattle.act_summaries.proofs.Common.{IsSound, sound_step, world_sound, answers_are, leb-true, is_sayable_role, is_sayable_event}
 use Rattle.act_rules.specs.declared.script.KindName.{KindName}
 use Rattle.act_rules.specs.declared.script.KindName.TheVariants as kind
 use Rattle.act_rules.specs.Scripts.{opening_state}
-use Rattle.act_rules.specs.Submissions.{limit_refusal}
-use Rattle.act_rules.specs.Laws.{history}
-use Rattle.act_rules.proofs.Lists.{All_more, option_map-none, option_or-none, All_at}
-use Rattle.act_rules.proofs.Ended.{needs-none}
-use Rattle.act_rules.proofs.Steps.{IsKept, after_all_keeps, after_keeps}
-use Rattle.act_rules.proofs.Order.{next_item_is}
-use Rattle.act_rules.proofs.AsSubmitted.{calls_to-at, filter-slice_get}
-use Rattle.act_rules.proofs.Unique.{map-slice_get}
-use Rattle.act_rules.proofs.Sound.{IsSound, sound_step, world_sound, answers_are}
-use Rattle.act_rules.proofs.RanAll.{AllNamed, IsNamed, named_step}
-use Rattle.std.proofs.lemmas.Bool.{leb-true}
-use Rattle.act_summaries.specs.Summaries.{is_sayable_role, is_sayable_event}
+use Rattle.act_rules.proofs.AsSubmitted.{calls_to-at}
+use Rattle.act_rules.proofs.RanAll.{AllNamed, named_step, named_call}
 use Rattle.act_summaries.proofs.Words.{IsGoodArg, IsGoodAnswer, IsGoodState}
 use Rattle.act_summaries.proofs.Replies.{AreGoodItems, runs_good}
 use Rattle.act_summaries.proofs.Ends.{EndOnce, ends_once}
-use Rattle.act_rules.proofs.Events.{few_more}
+use Rattle.act_rules.proofs.Callers.{AreFew, few_step}
+use Rattle.act_rules.proofs.Growth.{added_grows}
 
 -- ---- lists
 
@@ -194,36 +173,6 @@ goes_good h (event ∷ events) sayable s sound =
     (after_keeps IsGood h event s (good_step h event parts.0 s sound))
     (after_keeps IsSound h event sound (sound_step h event sound))
 
--- ---- how many calls a caller has
-
-abbrev AreFew : History → Type 0
-AreFew h = (c : ℕ) → length (calls_of c h) ≤ 65536
-
-room_for : (h : History) (c a : ℕ) (method : Method) (args : List Arg) → refusal_of h (Submit c a method args) ≡ None → length (calls_of c h) < 65536
-room_for h c a method args e =
-    let count = length (calls_of c h) in
-    let copies = copies_of c a h in
-    let whole = option_map-none SubmitRefused (submission_refusal c a args h)
-    (needs-none (is_caller c h) NoCaller (option_map SubmitRefused (submission_refusal c a args h)) e).1 in
-    let none = option_or-none (submit_refusal copies count args) (limit_refusal (limit_of c a h) (unanswered c a h)) whole in
-    let last = needs (nat_lt count 65536) TooManyCalls None in
-    let fourth = needs (list_all (is_earlier count) args) BadFuture last in
-    let third = needs (nat_le (length args) 4) TooManyArgs fourth in
-    let first = needs-none (is_some copies) NoSuchActor (needs (nat_lt 0 (copies_held copies)) NoCopy third) none in
-    let second = needs-none (nat_lt 0 (copies_held copies)) NoCopy third first.1 in
-    let few = needs-none (nat_le (length args) 4) TooManyArgs fourth second.1 in
-    let earlier = needs-none (list_all (is_earlier count) args) BadFuture last few.1 in
-    ltb-true count 65536 (needs-none (nat_lt count 65536) TooManyCalls None earlier.1).0
-
-few_step : IsKept AreFew
-few_step h (Submit c a method args) s accepted = λ d. few_more h c d (record { actor = a; method = method; args = args }) (room_for h c a method args accepted) (s d)
-few_step h (Run a c) s accepted = go (next_item a c h)
-  where
-    go : (o : Option RunItem) → AreFew (after_run a c h o)
-    go None = s
-    go (Some item) = s
-few_step h other s accepted = s
-
 -- ---- all of it
 
 pub record Facts (casts : List ActorSpec) (h : History) : Type 0 where
@@ -235,12 +184,7 @@ pub record Facts (casts : List ActorSpec) (h : History) : Type 0 where
   pub once : EndOnce h
 
 same_step : (casts : List ActorSpec) → IsKept (λ (h : History). h.casts ≡ casts)
-same_step casts h (Run a c) s accepted = go (next_item a c h)
-  where
-    go : (o : Option RunItem) → (after_run a c h o).casts ≡ casts
-    go None = s
-    go (Some item) = s
-same_step casts h event s accepted = s
+same_step casts h event s accepted = (added_grows h event).casts ∙ s
 
 -- the facts hold of each history of roles and events that a script can write
 pub facts : (roles : List Role) (events : List Event) → list_all is_sayable_role roles ≡ true → list_all is_sayable_event events ≡ true →
@@ -289,10 +233,4 @@ named_good h c a s e = go (cast_of a h) refl e
 
 -- a call that stands
 pub call_numbers : (casts : List ActorSpec) (h : History) (c k : ℕ) (call : Submission) → Facts casts h → slice_get (calls_of c h) k ≡ Some call → AreNumbers c call.actor h
-call_numbers casts h c k call f at =
-    let pair = map-slice_get (λ (s : ℕ × Submission). s.1) (filter (λ (s : ℕ × Submission). s.0 == c) h.submitted) k call at in
-    let place = filter-slice_get (λ (s : ℕ × Submission). s.0 == c) h.submitted k pair.0 pair.1 in
-    let named : names pair.0.0 (cast_of pair.0.1.actor h) ≡ true = All_at (IsNamed h) h.submitted place.place pair.0 f.named place.at in
-    let caller : pair.0.0 ≡ c = eqb-true pair.0.0 c place.passes in
-    named_good h c call.actor f.good
-    (subst (λ (n : ℕ). names n (cast_of call.actor h) ≡ true) caller (subst (λ (s : Submission). names pair.0.0 (cast_of s.actor h) ≡ true) pair.2 named))
+call_numbers casts h c k call f at = named_good h c call.actor f.good (named_call h c k call f.named at)

@@ -1,32 +1,19 @@
 -- Where two histories end alike, but for answers that lines leave open, lines that tell one tell the other.
-use Rattle.act_rules.proofs.Common.{◌≡◌, ◌≢◌, inl, inr, ℕ, zero, suc, ◌+◌, ◌-◌, ◌<◌, ◌==◌, ◌||◌, Bool, true, false, cond, not, List, [], ◌∷◌, ◌++◌, length, map, filter, take}
-use Rattle.act_rules.proofs.Common.{slice_get, Some, option_map, refl, sym, ap, subst, ◌∙◌, arith, codes, append_assoc, eq-eqb, slice_get-map}
-use Rattle.act_rules.proofs.Common.{AllByRecursion, History, ActorSpec, calls_of, kept_of, actor_spec_of}
-use Rattle.std.proofs.Common.{Contains, length-append, drop, decimal}
-use Rattle.std.specs.List.{AllZip, flat_map}
-use Rattle.std.specs.Cmp.Lexicographic.{bytes_decides}
-use lib.Pointwise.{pointwise}
-use Rattle.std.proofs.lemmas.Bool.{or_left, and_from}
-use Rattle.std.proofs.lemmas.List.Elements.{recursion_from_All, All-from_recursion}
-use Rattle.std.proofs.lemmas.Option.{slice_get_read}
-use Rattle.std.proofs.Math.Seq.{drop-append_seam}
-use Rattle.act_types.specs.Texts.{caller_text, actor_text}
-use Rattle.act_rules.specs.Submissions.{kept_at}
-use Rattle.act_rules.specs.Grammar.{is_skipped, lines_in}
-use Rattle.act_rules.specs.Report.{line}
-use Rattle.act_rules.specs.Laws.{history}
-use Rattle.act_rules.proofs.Lists.{slice_get-filter}
-use Rattle.act_summaries.specs.Lines.{AreTold, IsToldAs, is_open, ends_in, told_line}
-use Rattle.act_summaries.specs.Summaries.{IsLeftOpen, open_line, AreToldAlike}
+use Rattle.act_summaries.proofs.Common.{◌≡◌, ◌≢◌, inl, inr, ℕ, zero, suc, ◌+◌, ◌-◌, ◌<◌, ◌==◌, ◌||◌, Bool, true, false, cond, not, List, [], ◌∷◌, ◌++◌, length}
+use Rattle.act_summaries.proofs.Common.{map, filter, take, slice_get, Some, option_map, refl, sym, ap, subst, ◌∙◌, arith, codes, append_assoc, eq-eqb}
+use Rattle.act_summaries.proofs.Common.{slice_get-map, AllByRecursion, History, ActorSpec, calls_of, kept_of, actor_spec_of, length-append, drop, decimal}
+use Rattle.act_summaries.proofs.Common.{AllZip, flat_map, bytes_decides, pointwise, or_left, and_from, recursion_from_All, All-from_recursion, same_Some}
+use Rattle.act_summaries.proofs.Common.{drop-append_seam, caller_text, actor_text, kept_at, is_skipped, lines_in, line, history, slice_get-filter, AreTold}
+use Rattle.act_summaries.proofs.Common.{IsToldAs, is_open, ends_in, told_line, IsLeftOpen, open_line, AreToldAlike, All_at, map-slice_get, place_in}
+use Rattle.act_summaries.proofs.Common.{filter_mapped}
 use Rattle.act_summaries.proofs.Bytes.{cut, begins_once, word_lacks, before_cut, before}
 use Rattle.act_summaries.proofs.Marks.{Equals}
 use Rattle.act_summaries.proofs.Reading.{shown, tells_both, skipped_alike, told_at, filled_in, told_texts}
-use Rattle.act_summaries.proofs.Texts.{numbered, kept_word, future_as, futures, lines_of, summary_is, is_of, of_caller, owner, future_name, future_word, actor_word, caller_dots}
+use Rattle.act_summaries.proofs.Texts.{numbered, kept_word, future_as, futures, lines_of, summary_is, is_of, of_caller, owner, future_name, future_word}
+use Rattle.act_summaries.proofs.Texts.{actor_word, caller_dots}
 use Rattle.act_summaries.proofs.Facts.{Facts, facts, IsCallerNumber}
 use Rattle.act_summaries.proofs.Decoding.{future_is, open_is}
 use Rattle.act_summaries.proofs.Alike.{lines_lack_ends}
-use Rattle.act_rules.proofs.Lists.{All_at}
-use Rattle.act_rules.proofs.Unique.{map-slice_get}
 use Rattle.act_summaries.proofs.Near.{AreNear, lines_near}
 
 -- ---- lists
@@ -35,20 +22,8 @@ use Rattle.act_summaries.proofs.Near.{AreNear, lines_near}
 abbrev Stands : {A : Type 0} → List A → A → Type 0
 Stands xs x = (i : ℕ) × (slice_get xs i ≡ Some x)
 
-stands : {A : Type 0} (xs : List A) (x : A) → Contains xs x → Stands xs x
-stands xs x has = (has.0, slice_get_read xs (length xs) has.0 x refl has.1 (sym has.2))
-
 stands-filter : {A : Type 0} (p : A → Bool) (xs : List A) (x : A) → Stands xs x → p x ≡ true → Stands (filter p xs) x
 stands-filter p xs x at passes = (length (filter p (take at.0 xs)), slice_get-filter p xs at.0 x at.1 passes)
-
-map-filter : {A B : Type 0} (f : A → B) (p : B → Bool) (xs : List A) → map f (filter (λ (x : A). p (f x)) xs) ≡ filter p (map f xs)
-map-filter f p [] = refl
-map-filter {A = A} {B = B} f p (x ∷ xs) = go (p (f x)) (map-filter f p xs)
-  where
-    go : (b : Bool) → map f (filter (λ (x : A). p (f x)) xs) ≡ filter p (map f xs) →
-        map f (cond b (x ∷ filter (λ (x : A). p (f x)) xs) (filter (λ (x : A). p (f x)) xs)) ≡ cond b (f x ∷ filter p (map f xs)) (filter p (map f xs))
-    go true e = ap (λ (l : List B). f x ∷ l) e
-    go false e = e
 
 numbered_at : {X : Type 0} (text_of : ℕ → X → List ℕ) (place : ℕ) (xs : List X) (i : ℕ) (text : List ℕ) → slice_get (numbered text_of place xs) i ≡ Some text →
     (x : X) × (i < length xs) × (text ≡ text_of (place + i) x)
@@ -92,8 +67,8 @@ module _ (casts : List ActorSpec) (g : History) (t : Facts casts g) (bytes : Lis
     (told : AllByRecursion (λ (p : Pair). IsToldAs p.0 p.1) ps) (texts : shown (map (λ (p : Pair). p.1) ps) ≡ lines_of g) where
   texts_of : (c : ℕ) → IsCallerNumber c → map (λ (p : Pair). p.1) (pairs_of (caller_text c) ps) ≡ futures g c
   texts_of c number =
-      map-filter (λ (p : Pair). p.1) (is_of (caller_text c)) (filter (λ (p : Pair). not (is_skipped p.1)) ps)
-      ∙ ap (filter (is_of (caller_text c))) (map-filter (λ (p : Pair). p.1) (λ (text : List ℕ). not (is_skipped text)) ps ∙ texts)
+      sym (filter_mapped (is_of (caller_text c)) (λ (p : Pair). p.1) (filter (λ (p : Pair). not (is_skipped p.1)) ps))
+      ∙ ap (filter (is_of (caller_text c))) (sym (filter_mapped (λ (text : List ℕ). not (is_skipped text)) (λ (p : Pair). p.1) ps) ∙ texts)
       ∙ of_caller g c number.0 number.1
 
   -- a pair of future k is the k-th one of its caller
@@ -129,16 +104,13 @@ module _ (casts : List ActorSpec) (g : History) (t : Facts casts g) (bytes : Lis
       (b : ℕ) × (p.0 ≡ open_line c k b)
   open_pair c k p rest number few at is opened =
       let b = opened.0 in
-      let line = stands (lines_in bytes) (open_line c k b) opened.1 in
+      let line = place_in (lines_in bytes) (open_line c k b) opened.1 in
       let q = map-slice_get (λ (p : Pair). p.0) ps line.0 (open_line c k b) (ap (λ (l : List (List ℕ)). slice_get l line.0) given ∙ line.1) in
       let front : List ℕ = future_name c k ++ 32 ∷ actor_text b in
       let text = told_at q.0.0 q.0.1 front Equals (q.2 ∙ left_is c k b) (All_at (λ (p : Pair). IsToldAs p.0 p.1) ps line.0 q.0 told q.1) in
       let mine = pair_at c k p rest number few at is in
       let theirs = pair_at c k q.0 (actor_text b ++ 32 ∷ (61 ∷ 32 ∷ text.0)) number few (line.0, q.1) (text.1 ∙ front_is c k b (32 ∷ (61 ∷ 32 ∷ text.0))) in
-      (b, ap (λ (p : Pair). p.0) (same_pair p q.0 (sym mine ∙ theirs)) ∙ q.2)
-    where
-      same_pair : (p q : Pair) → Some p ≡ Some q → p ≡ q
-      same_pair p q e = cc
+      (b, ap (λ (p : Pair). p.0) (same_Some p q.0 (sym mine ∙ theirs)) ∙ q.2)
 
   -- such a line tells each text that is near
   pub tells_near : (p : Pair) → Stands ps p → IsToldAs p.0 p.1 → (y : List ℕ) → AreNear bytes p.1 y → IsToldAs p.0 y

@@ -1,19 +1,12 @@
 -- Calls and ends with which lines agree fit the history that the lines tell.
-use Rattle.act_rules.proofs.Common.{◌≡◌, ℕ, ◌+◌, ◌≤◌, Bool, true, false, cond, List, [], ◌∷◌, ◌++◌, map, filter, slice_get, Some, None, Option, is_some, option_map, refl, sym, ap, subst, ◌∙◌, arith}
-use Rattle.act_rules.proofs.Common.{History, ActorSpec, cast_of, calls_of, runs_of, kept_of, is_dead, is_retired, KindState, actor_spec_of, append-nil}
-use Rattle.act_rules.specs.declared.history.Submission.{Submission}
-use Rattle.std.proofs.Common.{bytes_eq}
-use Rattle.std.specs.List.{AllZip, flat_map}
-use Rattle.std.proofs.lemmas.List.Elements.{filter-append}
-use Rattle.act_types.specs.Texts.{caller_text, actor_text}
-use Rattle.act_rules.specs.RunList.{state_after}
-use Rattle.act_rules.specs.Submissions.{kept_at}
-use Rattle.act_rules.specs.Report.{one_to, stage_text}
-use Rattle.act_rules.specs.Laws.{history}
-use Rattle.act_summaries.specs.Lines.{AreTold}
-use Rattle.act_summaries.specs.Stems.{Call, End, Stem, OfCall, OfEnd, OfRun, placed, stems_of_actor, stems_of, IsKeptSo, IsActorSo, AgreedLinesFit}
+use Rattle.act_summaries.proofs.Common.{◌≡◌, ℕ, ◌+◌, ◌≤◌, Bool, true, false, cond, List, [], ◌∷◌, ◌++◌, map, filter, slice_get, Some, None, Option, is_some}
+use Rattle.act_summaries.proofs.Common.{option_map, refl, sym, ap, subst, ◌∙◌, arith, History, ActorSpec, cast_of, calls_of, runs_of, kept_of, is_dead}
+use Rattle.act_summaries.proofs.Common.{is_retired, KindState, actor_spec_of, append-nil, Submission, bytes_eq, AllZip, flat_map, filter-append, caller_text}
+use Rattle.act_summaries.proofs.Common.{actor_text, state_after, kept_at, one_to, stage_text, history, AreTold, Call, End, Stem, OfCall, OfEnd, OfRun, placed}
+use Rattle.act_summaries.proofs.Common.{stems_of_actor, stems_of, IsKeptSo, IsActorSo, AgreedLinesFit}
 use Rattle.act_summaries.proofs.Owned.{belongs, AreOwned, others, one_of}
-use Rattle.act_summaries.proofs.Texts.{actor_as, futures, actors, lines_of, summary_is, is_of, of_caller, of_actor, owner_same, callers_differ, actors_differ, kinds_differ}
+use Rattle.act_summaries.proofs.Texts.{actor_as, futures, actors, lines_of, summary_is, is_of, of_caller, of_actor, owner_same, callers_differ, actors_differ}
+use Rattle.act_summaries.proofs.Texts.{kinds_differ}
 use Rattle.act_summaries.proofs.Facts.{Facts, facts}
 use Rattle.act_summaries.proofs.Alike.{items_fine, kept_fine, few_actors, lines_lack_ends}
 use Rattle.act_summaries.proofs.Agreed.{IsToldOf, agreed_lines, stem_name, line_name}
@@ -24,8 +17,6 @@ use Rattle.act_summaries.proofs.AgreedLines.{calls_told, end_told, not_both, run
 filtered_stems : (name : List ℕ) (stems : List Stem) (xs : List (List ℕ)) → AllZip IsToldOf stems xs →
     AllZip IsToldOf (filter (belongs stem_name name) stems) (filter (is_of name) xs)
 filtered_stems name [] [] all = tt
-filtered_stems name [] (x ∷ xs) all = absurd all
-filtered_stems name (stem ∷ stems) [] all = absurd all
 filtered_stems name (stem ∷ stems) (x ∷ xs) all =
     go (bytes_eq (stem_name stem) name) (is_of name x) (ap (λ (o : List ℕ). bytes_eq o name)
     (sym (line_name stem all.0.line all.0.agrees) ∙ sym (owner_same all.0.line x all.0.line all.0.tells)))
@@ -35,9 +26,9 @@ filtered_stems name (stem ∷ stems) (x ∷ xs) all =
         AllZip IsToldOf (cond a (stem ∷ filter (belongs stem_name name) stems) (filter (belongs stem_name name) stems))
         (cond b (x ∷ filter (is_of name) xs) (filter (is_of name) xs))
     go true true e rest = (all.0, rest)
-    go true false e rest = cc
-    go false true e rest = cc
     go false false e rest = rest
+    go more other e rest = cc
+filtered_stems name stems xs all = absurd all
 
 placed_own : {X : Type 0} (name : List ℕ) (stem_of : ℕ → X → Stem) (place : ℕ) (xs : List X) → ((k : ℕ) (x : X) → stem_name (stem_of k x) ≡ name) →
     AreOwned stem_name name (placed stem_of place xs)
@@ -107,8 +98,6 @@ module _ (calls : ℕ → List Call) (ends : ℕ → Option End) where
         go : (o : Option End) (p : Option ActorSpec) → cast_of a h ≡ p → AllZip IsToldOf (stems_of_actor a o) (actor_as a (runs_of a h) (staged a p)) →
             IsActorSo a h o
         go None None e all = e
-        go None (Some cast) e all = absurd all
-        go (Some end) None e all = absurd all
         go (Some end) (Some cast) e all =
             let state = state_after cast.opening (runs_of a h) in
             let stage = end_told a end.dead end.retired (is_dead a h) (is_retired a h) state all.0 in
@@ -119,6 +108,7 @@ module _ (calls : ℕ → List Call) (ends : ℕ → Option End) where
                   (apart end.dead end.retired (actor_text a ++ 32 ∷ stage_text (is_dead a h) (is_retired a h) state) all.0) stage.1;
               runs = runs_told a 0 end.runs (runs_of a h) (items_fine casts h f a) all.1;
             }
+        go more other e all = absurd all
 
 -- where lines agree with calls and ends, these fit each history that a script can write and the lines tell
 pub agreed_lines_fit : AgreedLinesFit

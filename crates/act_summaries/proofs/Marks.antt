@@ -1,8 +1,5 @@
 -- Two texts that one line tells: they agree up to the mark.
-use Rattle.std.proofs.Common.{◌≡◌, ◌≢◌, ℕ, ◌⊎◌, inl, inr, List, [], ◌∷◌, ◌++◌, codes}
-use Rattle.std.proofs.Common.{refl, sym, ap, ◌∙◌, subst}
-use Rattle.std.specs.List.{AllByRecursion}
-use Rattle.std.proofs.lemmas.List.{append-nil}
+use Rattle.act_summaries.proofs.Common.{◌≡◌, ◌≢◌, ℕ, ◌⊎◌, inl, inr, List, [], ◌∷◌, ◌++◌, codes, refl, sym, ap, ◌∙◌, subst, AllByRecursion, append-nil}
 use Rattle.act_summaries.proofs.Bytes.{Lacks, lacks_from, spaced, before, before_cut, before_all, cut, lacks_not}
 
 -- ---- marks

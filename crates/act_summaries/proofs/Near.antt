@@ -1,14 +1,8 @@
 -- Histories that end alike, but for answers that lines leave open, have the same lines but for these.
-use Rattle.act_rules.proofs.Common.{◌≡◌, ◌⊎◌, inl, inr, ℕ, ◌+◌, ◌<◌, ◌≤◌, ◌==◌, true, false, List, [], ◌∷◌, ◌++◌, length, map}
-use Rattle.act_rules.proofs.Common.{find, Some, None, Option, is_some, option_map, refl, sym, ap, subst, ◌∙◌, arith}
-use Rattle.act_rules.proofs.Common.{History, ActorSpec, calls_of, kept_of, opening_of, Answer, KindState}
-use Rattle.act_rules.specs.declared.history.Submission.{Submission}
-use Rattle.std.specs.List.{AllZip, flat_map}
-use Rattle.act_types.specs.Texts.{actor_text, answer_text}
-use Rattle.act_rules.specs.RunList.{state_after}
-use Rattle.act_rules.specs.Submissions.{kept_at}
-use Rattle.act_rules.specs.Report.{one_to, stage_text}
-use Rattle.act_summaries.specs.Summaries.{EndAlike, IsLeftOpen}
+use Rattle.act_summaries.proofs.Common.{◌≡◌, ◌⊎◌, inl, inr, ℕ, ◌+◌, ◌<◌, ◌≤◌, ◌==◌, true, false, List, [], ◌∷◌, ◌++◌, length, map, find, Some, None, Option}
+use Rattle.act_summaries.proofs.Common.{is_some, option_map, refl, sym, ap, subst, ◌∙◌, arith, History, ActorSpec, calls_of, kept_of, opening_of, Answer}
+use Rattle.act_summaries.proofs.Common.{KindState, Submission, AllZip, flat_map, actor_text, answer_text, state_after, kept_at, one_to, stage_text, EndAlike}
+use Rattle.act_summaries.proofs.Common.{IsLeftOpen}
 use Rattle.act_summaries.proofs.Bytes.{Lacks, word_lacks}
 use Rattle.act_summaries.proofs.Texts.{numbered, kept_word, future_as, actor_as, futures, actors, lines_of, future_name}
 use Rattle.act_summaries.proofs.Words.{answer_word}
@@ -20,9 +14,8 @@ use Rattle.act_summaries.proofs.Alike.{kept_fine, valid_or_none}
 
 zip-append : {A B : Type 0} (R : A → B → Type 0) (xs zs : List A) (ys ws : List B) → AllZip R xs ys → AllZip R zs ws → AllZip R (xs ++ zs) (ys ++ ws)
 zip-append R [] zs [] ws p q = q
-zip-append R [] zs (y ∷ ys) ws p q = absurd p
-zip-append R (x ∷ xs) zs [] ws p q = absurd p
 zip-append R (x ∷ xs) zs (y ∷ ys) ws p q = (p.0, zip-append R xs zs ys ws p.1 q)
+zip-append R xs zs ys ws p q = absurd p
 
 zip-flat_map : {A B : Type 0} (R : A → B → Type 0) (f : ℕ → List A) (g : ℕ → List B) → ((n : ℕ) → AllZip R (f n) (g n)) → (ns : List ℕ) →
     AllZip R (flat_map f ns) (flat_map g ns)
@@ -96,12 +89,11 @@ module _ (casts : List ActorSpec) (h g : History) (f : Facts casts h) (t : Facts
       map (λ (call : Submission). call.actor) others ≡ map (λ (call : Submission). call.actor) calls →
       AllZip (AreNear bytes) (numbered (future_as c (kept_of c g)) k calls) (numbered (future_as c (kept_of c h)) k others)
   futures_near c k [] [] number few same = tt
-  futures_near c k [] (other ∷ others) number few same = cc
-  futures_near c k (call ∷ calls) [] number few same = cc
   futures_near c k (call ∷ calls) (other ∷ others) number few same =
       let head : other.actor ≡ call.actor = cc in
       let tail : map (λ (call : Submission). call.actor) others ≡ map (λ (call : Submission). call.actor) calls = cc in
       (future_near c k call other number (omega (arith, few)) head, futures_near c (k + 1) calls others number (omega (arith, few)) tail)
+  futures_near c k calls others number few same = cc
 
   caller_near : (c : ℕ) → AllZip (AreNear bytes) (futures g c) (futures h c)
   caller_near c = elim (valid_or_none casts g t c) [

@@ -1,20 +1,10 @@
 -- The members of a list that are of one name.
-use Rattle.std.proofs.Common.{◌≡◌, ◌≢◌, ℕ, zero, suc, ◌≤◌, ◌==◌, Bool, true, false, cond, List, [], ◌∷◌, ◌++◌}
-use Rattle.std.proofs.Common.{refl, sym, ap, ◌∙◌, subst, arith, filter, bytes_eq}
-use Rattle.std.specs.List.{AllByRecursion, flat_map}
-use Rattle.std.specs.Cmp.Lexicographic.{bytes_decides}
-use Rattle.std.proofs.lemmas.List.{append-nil}
-use Rattle.std.proofs.lemmas.List.Elements.{filter-append}
-use Rattle.std.proofs.lemmas.Grind.{flat_map-append}
-use Rattle.std.proofs.lemmas.Bool.{eqb-true, eq-eqb}
-use Rattle.act_rules.specs.Report.{one_to}
+use Rattle.act_summaries.proofs.Common.{◌≡◌, ◌≢◌, ℕ, zero, suc, ◌≤◌, ◌==◌, Bool, true, false, cond, List, [], ◌∷◌, ◌++◌, refl, sym, ap, ◌∙◌, subst, arith}
+use Rattle.act_summaries.proofs.Common.{filter, bytes_eq, AllByRecursion, flat_map, bytes_decides, append-nil, filter-append, flat_map-append, eqb-true, eq-eqb}
+use Rattle.act_summaries.proofs.Common.{false_from_ne_true, one_to}
 
 differs_so : (xs ys : List ℕ) → xs ≢ ys → bytes_eq xs ys ≡ false
-differs_so xs ys ne = go (bytes_eq xs ys) refl
-  where
-    go : (b : Bool) → bytes_eq xs ys ≡ b → b ≡ false
-    go true e = absurd (ne ((bytes_decides xs ys).0 e))
-    go false e = refl
+differs_so xs ys ne = false_from_ne_true (bytes_eq xs ys) (λ e. ne ((bytes_decides xs ys).0 e))
 
 -- each member has a name
 module _ {A : Type 0} (owner_of : A → List ℕ) where

@@ -1,28 +1,20 @@
 -- From the bytes to the texts that their lines tell.
-use Rattle.std.proofs.Common.{◌≡◌, ◌≢◌, ℕ, zero, suc, ◌-◌, ◌==◌, ◌||◌, inl, inr, Bool, true, false, cond, not, List, [], ◌∷◌, ◌++◌, codes, length, take, drop}
-use Rattle.std.proofs.Common.{refl, sym, ap, ◌∙◌, subst, arith, append_assoc, length-append, map, filter, Contains}
-use Rattle.std.specs.List.{AllByRecursion, AllZip, flat_map, onto_first}
-use lib.Pointwise.{pointwise}
-use Rattle.std.proofs.lemmas.List.{take-append-drop}
-use Rattle.std.proofs.lemmas.List.Elements.{recursion_from_All}
-use Rattle.std.proofs.lemmas.Bool.{eqb-true, eq-eqb, and_parts, or_cases}
-use Rattle.std.proofs.Math.Seq.{take-append_seam}
-use Rattle.act_rules.specs.Grammar.{is_skipped, lines_in}
-use Rattle.act_rules.specs.Report.{line}
-use Rattle.act_summaries.specs.Lines.{AreTold, IsToldAs, is_open, ends_in, told_line}
-use Rattle.act_summaries.proofs.Bytes.{Lacks, Each-append, cut}
+use Rattle.act_summaries.proofs.Common.{◌≡◌, ◌≢◌, ℕ, suc, ◌-◌, ◌==◌, ◌||◌, inl, inr, Bool, true, false, cond, not, List, [], ◌∷◌, ◌++◌, codes, length, take}
+use Rattle.act_summaries.proofs.Common.{drop, refl, sym, ap, ◌∙◌, subst, arith, append_assoc, length-append, map, filter, Contains, AllByRecursion, AllZip}
+use Rattle.act_summaries.proofs.Common.{flat_map, onto_first, pointwise, take-append-drop, recursion_from_All, eqb-true, eq-eqb, and_parts, or_cases}
+use Rattle.act_summaries.proofs.Common.{take-append_seam, is_skipped, lines_in, line, AreTold, IsToldAs, is_open, ends_in, told_line}
+use Rattle.act_summaries.proofs.Bytes.{Lacks, Each-append, cut, Each-take}
 use Rattle.act_summaries.proofs.Marks.{Mark, Equals, Live, Retired, word_of, end_of, TellsBoth}
 
 -- ---- a line that is open
 
 pointwise_same : (xs ys : List ℕ) → pointwise (λ a b. a == b) xs ys ≡ true → xs ≡ ys
 pointwise_same [] [] e = refl
-pointwise_same [] (y ∷ ys) e = cc
-pointwise_same (x ∷ xs) [] e = cc
 pointwise_same (x ∷ xs) (y ∷ ys) e =
     let parts = and_parts (x == y) (pointwise (λ a b. a == b) xs ys) e in
     let rest = pointwise_same xs ys parts.1 in
     (λ i. eqb-true x y parts.0 i ∷ rest i)
+pointwise_same xs ys e = cc
 
 ends_so : (end text : List ℕ) → ends_in end text ≡ true → text ≡ take (length text - length end) text ++ end
 ends_so end text e =
@@ -81,11 +73,6 @@ tells_both text x y (inl p) (inr q) = open_tells text x y q.marked (inl p) (inr 
 tells_both text x y (inr p) q = open_tells text x y p.marked (inr p) q
 
 -- ---- line ends
-
-Each-take : (P : ℕ → Type 0) (n : ℕ) (xs : List ℕ) → AllByRecursion P xs → AllByRecursion P (take n xs)
-Each-take P zero xs h = tt
-Each-take P (suc n) [] h = tt
-Each-take P (suc n) (x ∷ xs) h = (h.0, Each-take P n xs h.1)
 
 onto_lacks : (x : ℕ) (parts : List (List ℕ)) → x ≢ 10 → AllByRecursion (Lacks 10) parts → AllByRecursion (Lacks 10) (onto_first x parts)
 onto_lacks x [] differs h = ((differs, tt), tt)
@@ -181,8 +168,6 @@ module _ (all : List (List ℕ)) where
       ((text : List ℕ) → Contains (map (λ (p : Pair). p.0) ps) text → Contains all text) →
       AllZip (IsToldTwice all) (shown (map (λ (p : Pair). p.1) ps)) (shown (map (λ (q : Pair). q.1) qs))
   zipped [] [] e p q stands = tt
-  zipped [] (y ∷ ys) e p q stands = cc
-  zipped (x ∷ xs) [] e p q stands = cc
   zipped (x ∷ xs) (y ∷ ys) e p q stands =
       let head : x.0 ≡ y.0 = cc in
       let tail : map (λ (p : Pair). p.0) xs ≡ map (λ (q : Pair). q.0) ys = cc in
@@ -195,9 +180,9 @@ module _ (all : List (List ℕ)) where
           AllZip (IsToldTwice all) (cond (not a) (x.1 ∷ shown (map (λ (p : Pair). p.1) xs)) (shown (map (λ (p : Pair). p.1) xs)))
           (cond (not b) (y.1 ∷ shown (map (λ (q : Pair). q.1) ys)) (shown (map (λ (q : Pair). q.1) ys)))
       go true true e one rest = rest
-      go true false e one rest = cc
-      go false true e one rest = cc
       go false false e one rest = (one, rest)
+      go more other e one rest = cc
+  zipped xs ys e p q stands = cc
 
 told_lack : (ps : List Pair) → AllByRecursion (Lacks 10) (map (λ (p : Pair). p.0) ps) → AllByRecursion (λ (p : Pair). IsToldAs p.0 p.1) ps →
     AllByRecursion (Lacks 10) (map (λ (p : Pair). p.1) ps)

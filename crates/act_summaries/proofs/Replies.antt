@@ -1,29 +1,18 @@
 -- What the kinds of scripts answer is sayable, and so is what they hold.
-use Rattle.std.proofs.Common.{◌≡◌, ℕ, zero, suc, ◌+◌, ◌-◌, ◌<◌, ◌≤◌, ◌||◌, ◌&&◌, ◌^◌, Bool, true, false, cond, not, List, [], ◌∷◌, ◌++◌, length, take}
-use Rattle.std.proofs.Common.{refl, sym, ap, ◌∙◌, arith, filter, find, slice_get, Option, Some, None, option_map, is_some, Result, Ok, Err, bytes_eq, nat_lt}
-use Rattle.std.proofs.Common.{ℤ, pos, negsuc, length-append}
+use Rattle.act_summaries.proofs.Common.{◌≡◌, ℕ, zero, suc, ◌+◌, ◌-◌, ◌<◌, ◌≤◌, ◌||◌, ◌&&◌, ◌^◌, Bool, true, false, cond, not, List, [], ◌∷◌, ◌++◌, length, take}
+use Rattle.act_summaries.proofs.Common.{refl, sym, ap, ◌∙◌, arith, filter, find, slice_get, Option, Some, None, option_map, is_some, Result, Ok, Err, bytes_eq}
+use Rattle.act_summaries.proofs.Common.{nat_lt, ℤ, pos, negsuc, length-append, AllByRecursion, and_parts, ltb-true, nat_tests, is_good_text, KindState}
+use Rattle.act_summaries.proofs.Common.{CounterAt, TableOf, AccountAt, ItemsOf, OwnAt, Value, Fault, NoMethod, BadArgs, Overflow, NoKey, BadAmount}
+use Rattle.act_summaries.proofs.Common.{Insufficient, NoItems, NoItem, KindFull, Method, Settled, Good, Bad, RunItem, is_in_range, is_storable, need, look_up}
+use Rattle.act_summaries.proofs.Common.{count_value, counter_reply, with_pair, without_key, table_reply, account_reply, item_at, list_reply, reply_of, Answer}
+use Rattle.act_summaries.proofs.Common.{with_value, values_of, step_of_reply, call_reply, step_of_call, after_item, state_after, answers_from, is_sayable}
+use Rattle.act_summaries.proofs.Common.{length-filter_least, All_at}
 use Rattle.std.specs.Prelude.{◌+ℤ◌, ◌-ℤ◌, int_lt, int_le}
-use Rattle.std.specs.List.{AllByRecursion}
-use Rattle.std.proofs.lemmas.Bool.{and_parts, ltb-true}
-use Rattle.std.proofs.lemmas.Bool.Decides.{nat_tests}
 use Rattle.std.proofs.lemmas.Int.{ints}
-use Rattle.act_types.specs.GoodText.{is_good_text}
-use Rattle.act_types.specs.KindState.{KindState, CounterAt, TableOf, AccountAt, ItemsOf, OwnAt}
-use Rattle.act_types.specs.declared.call.Value.{Value}
 use Rattle.act_types.specs.declared.call.Value.TheVariants.{Unit as Nothing, Int, Text}
-use Rattle.act_types.specs.declared.call.Fault.{Fault}
-use Rattle.act_types.specs.declared.call.Fault.TheVariants.{NoMethod, BadArgs, Overflow, NoKey, BadAmount, Insufficient, NoItems, NoItem, KindFull}
-use Rattle.act_types.specs.declared.call.Method.{Method}
 use Rattle.act_types.specs.declared.call.Method.TheVariants.{Add, Get, Put, Del, Size, Deposit, Withdraw, Balance, Push, Pop, At, Len, Terminate}
-use Rattle.act_types.specs.declared.call.Settled.{Settled}
-use Rattle.act_types.specs.declared.call.Settled.TheVariants.{Good, Bad}
-use Rattle.act_rules.specs.declared.history.RunItem.{RunItem}
-use Rattle.act_rules.specs.Kinds.{Reply, is_in_range, is_storable, need, look_up, count_value, counter_reply, value_at, with_pair, without_key, table_reply, account_reply}
-use Rattle.act_rules.specs.Kinds.{item_at, list_reply, reply_of}
-use Rattle.act_rules.specs.RunList.{Answer, with_value, values_of, step_of_reply, call_reply, step_of_call, after_item, state_after, answers_from}
-use Rattle.act_rules.specs.Laws.{is_sayable}
-use Rattle.act_rules.proofs.Lists.{length-filter_least, All_at}
-use Rattle.act_summaries.proofs.Bytes.{Each-append}
+use Rattle.act_rules.specs.Kinds.{Reply, value_at}
+use Rattle.act_summaries.proofs.Bytes.{Each-append, Each-take}
 use Rattle.act_summaries.proofs.Words.{IsGoodArg, IsGoodAnswer, IsGoodPair, IsGoodState, is_known_fault}
 
 abbrev AreSayable : List Value → Type 0
@@ -58,11 +47,6 @@ small_in_range : (n : ℕ) → n ≤ 4096 → is_in_range (pos n) ≡ true
 small_in_range n few = low_in_range n (omega (arith, few))
 
 -- ---- lists
-
-take_good : {A : Type 0} (P : A → Type 0) (n : ℕ) (xs : List A) → AllByRecursion P xs → AllByRecursion P (take n xs)
-take_good P zero xs h = tt
-take_good P (suc n) [] h = tt
-take_good P (suc n) (x ∷ xs) h = (h.0, take_good P n xs h.1)
 
 take_few : {A : Type 0} (n : ℕ) (xs : List A) → length (take n xs) ≤ length xs
 take_few zero xs = omega arith
@@ -179,7 +163,7 @@ list_good items Push (v ∷ []) h s =
 list_good items Push args h s = failed BadArgs refl
 list_good items Pop [] h s =
     look_up_good (ItemsOf (take (length items - 1) items)) NoItems (slice_get items (length items - 1)) refl
-    (take_good (λ (w : Value). is_sayable w ≡ true) (length items - 1) items h.0, omega (arith, take_few (length items - 1) items, h.1))
+    (Each-take (λ (w : Value). is_sayable w ≡ true) (length items - 1) items h.0, omega (arith, take_few (length items - 1) items, h.1))
     (λ v e. All_at (λ (w : Value). is_sayable w ≡ true) items (length items - 1) v h.0 e)
 list_good items Pop args h s = failed BadArgs refl
 list_good items At (Int i ∷ []) h s = look_up_good (ItemsOf items) NoItem (item_at i items) refl h (λ v e. go i v e)

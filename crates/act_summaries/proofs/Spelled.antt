@@ -1,17 +1,14 @@
 -- What a script spells is sayable.
-use Rattle.std.proofs.Common.{◌≡◌, ℕ, zero, suc, ◌+◌, ◌≤◌, ◌==◌, ◌&&◌, ◌^◌, Bool, true, false, cond, List, [], ◌∷◌, ◌++◌, codes}
-use Rattle.std.proofs.Common.{refl, sym, ap, ◌∙◌, subst, arith, find, slice_index, drop, Option, Some, None, Result, Ok, Err, bytes_eq, nat_lt, nat_le, ℤ, pos, neg_ℤ, length}
-use Rattle.std.specs.List.{AllByRecursion, list_all}
+use Rattle.act_summaries.proofs.Common.{◌≡◌, ℕ, zero, suc, ◌+◌, ◌≤◌, ◌==◌, ◌&&◌, ◌^◌, Bool, true, false, cond, List, [], ◌∷◌, ◌++◌, codes, refl, sym, ap, ◌∙◌}
+use Rattle.act_summaries.proofs.Common.{subst, arith, find, slice_index, drop, Option, Some, None, Result, Ok, Err, bytes_eq, nat_lt, nat_le, ℤ, pos, neg_ℤ}
+use Rattle.act_summaries.proofs.Common.{length, AllByRecursion, list_all, and_parts, and_from, ltb-true, leb-true, nat_tests, is_good_text, method_text, Arg}
+use Rattle.act_summaries.proofs.Common.{Plain, Fut, Method, Value, Role, Wrong, is_in_range, is_number, is_caller_number, is_actor_number, is_sayable}
+use Rattle.act_summaries.proofs.Common.{is_sayable_arg, is_sayable_method, Word, ◌>>=◌, or_bad_line, named_by, kind_text, all_kinds, all_methods, is_numeral}
+use Rattle.act_summaries.proofs.Common.{limit_at, is_integer, fits_int, int_value, marked_at, closed_at, each_at, args_at, one_at, two_at, some_callers_at}
+use Rattle.act_summaries.proofs.Common.{limited_at, Form, forms_of, plain_at, is_skipped, words_in, Script, no_lines, role_fault, unless, add_line}
+use Rattle.act_summaries.proofs.Common.{added_unless_skipped, line_added, in_line, spelled_from, lines_in, spelled, is_sayable_role, is_sayable_event}
 use Rattle.std.specs.Str.Parse.{digits_value}
-use Rattle.std.proofs.lemmas.Bool.{and_parts, and_from, ltb-true, leb-true}
-use Rattle.std.proofs.lemmas.Bool.Decides.{nat_tests}
 use Rattle.std.proofs.lemmas.List.Folds.{list_all-append}
-use Rattle.act_types.specs.GoodText.{is_good_text}
-use Rattle.act_types.specs.Texts.{method_text}
-use Rattle.act_types.specs.declared.call.Arg.{Arg}
-use Rattle.act_types.specs.declared.call.Arg.TheVariants.{Plain, Fut}
-use Rattle.act_types.specs.declared.call.Method.{Method}
-use Rattle.act_types.specs.declared.call.Value.{Value}
 use Rattle.act_types.specs.declared.call.Value.TheVariants as value
 use Rattle.act_rules.specs.declared.event.Event.TheVariants as event
 use Rattle.act_rules.specs.declared.script.Line.{Line}
@@ -19,18 +16,10 @@ use Rattle.act_rules.specs.declared.script.Line.TheVariants.{Role as RoleLine, E
 use Rattle.act_rules.specs.declared.script.Mode.{Mode}
 use Rattle.act_rules.specs.declared.script.Mode.TheVariants.{Play, Threads}
 use Rattle.act_rules.specs.declared.script.Step.TheVariants as step
-use Rattle.act_rules.specs.declared.script.Role.{Role}
-use Rattle.act_rules.specs.declared.script.Wrong.{Wrong}
 use Rattle.act_rules.specs.declared.script.Wrong.TheVariants.{BadLine}
-use Rattle.act_rules.specs.Kinds.{is_in_range}
-use Rattle.act_rules.specs.Laws.{is_number, is_caller_number, is_actor_number, is_sayable, is_sayable_arg, is_sayable_method}
-use Rattle.act_rules.specs.Words.{Word, ◌>>=◌, or_bad_line, named_by, kind_text, all_kinds, all_methods, method_at, is_numeral, number_at, limit_at, is_integer, fits_int, int_value}
-use Rattle.act_rules.specs.Words.{int_at, marked_at, closed_at, caller_at, actor_at, text_at, value_at, arg_at}
-use Rattle.act_rules.specs.Grammar.{each_at, args_at, one_at, two_at, some_callers_at, limited_at, naming_at, role_at, submit_at, Form, forms_of, play_forms, thread_forms, form_at, plain_at}
-use Rattle.act_rules.specs.Grammar.{is_skipped, words_in, line_at, Script, no_lines, role_fault, unless, add_line, added_unless_skipped, line_added, in_line, spelled_from, lines_in}
-use Rattle.act_rules.specs.Grammar.{spelled_by, spelled}
+use Rattle.act_rules.specs.Words.{method_at, number_at, int_at, caller_at, actor_at, text_at, value_at, arg_at}
+use Rattle.act_rules.specs.Grammar.{naming_at, role_at, submit_at, play_forms, thread_forms, form_at, line_at, spelled_by}
 use Rattle.act_rules.proofs.Numbers.{chosen}
-use Rattle.act_summaries.specs.Summaries.{is_sayable_role, is_sayable_event}
 use Rattle.act_summaries.proofs.Replies.{low_in_range}
 use Rattle.act_summaries.proofs.Facts.{found}
 use Rattle.act_rules.proofs.Spelling.{parts}
@@ -154,25 +143,19 @@ IsGoodLine (EventLine said) = is_sayable_event said ≡ true
 IsGoodLine (StepLine c said) = Unit {0}
 
 one_good : {A : Type 0} (f : A → Line) (first : Word → Result A Wrong) → ((x : A) → IsGoodLine (f x)) → (words : List Word) (line : Line) → one_at f first words ≡ Ok line → IsGoodLine line
-one_good f first good [] line h = absurd (cc)
 one_good f first good (u ∷ []) line h = let x = parts (first u) _ line h in given IsGoodLine (f x.0) line _ refl x.2 (good x.0)
-one_good f first good (u ∷ v ∷ words) line h = absurd (cc)
+one_good f first good more line h = absurd (cc)
 
 two_good : {A B : Type 0} (f : A → B → Line) (first : Word → Result A Wrong) (second : Word → Result B Wrong) → ((x : A) (y : B) → IsGoodLine (f x y)) →
     (words : List Word) (line : Line) → two_at f first second words ≡ Ok line → IsGoodLine line
-two_good f first second good [] line h = absurd (cc)
-two_good f first second good (u ∷ []) line h = absurd (cc)
 two_good f first second good (u ∷ v ∷ []) line h =
     let x = parts (first u) _ line h in
     let y = parts (second v) _ line x.2 in
     given IsGoodLine (f x.0 y.0) line _ refl y.2 (good x.0 y.0)
-two_good f first second good (u ∷ v ∷ w ∷ words) line h = absurd (cc)
+two_good f first second good more line h = absurd (cc)
 
 submit_good : (words : List Word) (line : Line) → submit_at (λ c a m args. EventLine (event.Submit c a m args)) words ≡ Ok line → IsGoodLine line
 unfolding submit_at
-submit_good [] line h = absurd (cc)
-submit_good (u ∷ []) line h = absurd (cc)
-submit_good (u ∷ v ∷ []) line h = absurd (cc)
 submit_good (u ∷ v ∷ w ∷ words) line h =
     let c = parts (caller_at u) _ line h in
     let a = parts (actor_at v) _ line c.2 in
@@ -180,19 +163,18 @@ submit_good (u ∷ v ∷ w ∷ words) line h =
     let xs = parts (args_at words) _ line m.2 in
     given IsGoodLine (EventLine (event.Submit c.0 a.0 m.0 xs.0)) line _ refl xs.2
     (and_from (is_sayable_method m.0) (list_all is_sayable_arg xs.0) (method_good w m.0 m.1) (each_good arg_at is_sayable_arg arg_good words xs.0 xs.1))
+submit_good more line h = absurd (cc)
 
 -- a step says nothing that could be unsayable here
 step_good : (words : List Word) (line : Line) → submit_at (λ c a m args. StepLine c (step.Submit a m args)) words ≡ Ok line → IsGoodLine line
 unfolding submit_at
-step_good [] line h = absurd (cc)
-step_good (u ∷ []) line h = absurd (cc)
-step_good (u ∷ v ∷ []) line h = absurd (cc)
 step_good (u ∷ v ∷ w ∷ words) line h =
     let c = parts (caller_at u) _ line h in
     let a = parts (actor_at v) _ line c.2 in
     let m = parts (method_at w) _ line a.2 in
     let xs = parts (args_at words) _ line m.2 in
     given IsGoodLine (StepLine c.0 (step.Submit a.0 m.0 xs.0)) line _ refl xs.2 tt
+step_good more line h = absurd (cc)
 
 abbrev AreCallers : List ℕ → Type 0
 AreCallers callers = list_all is_caller_number callers ≡ true
@@ -219,14 +201,13 @@ naming_good (word ∷ words) named h =
 
 role_good : (words : List Word) (role : Role) → role_at all_kinds words ≡ Ok role → is_sayable_role role ≡ true
 unfolding role_at
-role_good [] role h = absurd (cc)
-role_good (u ∷ []) role h = absurd (cc)
 role_good (u ∷ v ∷ words) role h =
     let a = parts (actor_at u) _ role h in
     let k = parts (named_by kind_text all_kinds v) _ role a.2 in
     let named = parts (naming_at words) _ role k.2 in
     given (λ (r : Role). is_sayable_role r ≡ true) (record { actor = a.0; callers = named.0.1; kind = k.0; pending = named.0.0 }) role _ refl named.2
     (and_from (is_actor_number a.0) (list_all is_caller_number named.0.1) (actor_good u a.0 a.1) (naming_good words named.0 named.1))
+role_good more role h = absurd (cc)
 
 abbrev IsGoodForm : Form → Type 0
 IsGoodForm form = (words : List Word) (line : Line) → form.1 words ≡ Ok line → IsGoodLine line

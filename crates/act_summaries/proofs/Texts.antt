@@ -1,19 +1,11 @@
 -- The lines of a summary, and whose they are.
-use Rattle.std.proofs.Common.{◌≡◌, ◌≢◌, ℕ, ◌+◌, ◌<◌, ◌≤◌, Bool, true, false, cond, List, [], ◌∷◌, ◌++◌, codes, decimal}
-use Rattle.std.proofs.Common.{refl, sym, ap, ◌∙◌, arith, append_assoc, map, filter, Option, Some, None, bytes_eq, inl, inr}
-use Rattle.std.specs.List.{AllByRecursion, AllZip, flat_map}
-use Rattle.std.proofs.lemmas.List.{append-nil}
-use Rattle.std.proofs.lemmas.List.Elements.{filter-append}
-use Rattle.std.proofs.lemmas.Grind.{flat_map-append}
-use Rattle.std.proofs.lemmas.Fmt.{decimal_injective}
-use Rattle.act_types.specs.Texts.{space, with_spaces, caller_text, actor_text, method_text, settled_text, answer_text}
-use Rattle.act_rules.specs.declared.history.RunItem.{RunItem}
-use Rattle.act_rules.specs.declared.history.Submission.{Submission}
-use Rattle.act_rules.specs.RunList.{Answer}
-use Rattle.act_rules.specs.Submissions.{kept_at}
-use Rattle.act_rules.specs.History.{History, calls_of, runs_of, kept_of}
-use Rattle.act_rules.specs.Report.{line, numbered_lines, one_to, future_text, kept_text, future_line, future_lines, item_line, actor_lines, stage_of, summary}
-use Rattle.act_summaries.proofs.Bytes.{differ, tails, apart, spaced, spaced_is, Lacks, IsWord, word_lacks, decimal_word, decimal_lacks, Each-append, before, before_cut, before_all, before_same}
+use Rattle.act_summaries.proofs.Common.{◌≡◌, ◌≢◌, ℕ, ◌+◌, ◌<◌, ◌≤◌, Bool, true, false, cond, List, [], ◌∷◌, ◌++◌, codes, decimal, refl, sym, ap, ◌∙◌, arith}
+use Rattle.act_summaries.proofs.Common.{append_assoc, map, filter, Option, Some, None, bytes_eq, inl, inr, AllByRecursion, AllZip, flat_map, append-nil}
+use Rattle.act_summaries.proofs.Common.{filter-append, flat_map-append, decimal_injective, space, with_spaces, caller_text, actor_text, method_text}
+use Rattle.act_summaries.proofs.Common.{settled_text, answer_text, RunItem, Submission, Answer, kept_at, History, calls_of, runs_of, kept_of, line}
+use Rattle.act_summaries.proofs.Common.{numbered_lines, one_to, future_text, kept_text, future_line, future_lines, item_line, actor_lines, stage_of, summary}
+use Rattle.act_summaries.proofs.Bytes.{differ, tails, apart, spaced, spaced_is, Lacks, IsWord, word_lacks, decimal_word, decimal_lacks, Each-append, before}
+use Rattle.act_summaries.proofs.Bytes.{before_cut, before_all, before_same}
 use Rattle.act_summaries.proofs.Marks.{TellsBoth}
 use Rattle.act_summaries.proofs.Owned.{belongs, others, one_of}
 use Rattle.act_summaries.proofs.Reading.{IsToldTwice}
@@ -88,24 +80,16 @@ future_line_is c kept k call =
 
 item_line_is : (a place : ℕ) (item : RunItem) → item_line a place item ≡ line (item_as a place item)
 item_line_is a place item =
+    let at : List ℕ = actor_text a ++ codes "." ++ decimal place in
+    let call : List ℕ = future_text item.caller item.future in
+    let word : List ℕ = method_text item.method in
+    let args : List ℕ = with_spaces (map settled_text item.args) in
     ap line
     (append_assoc (at ++ space ++ call ++ space) word args
     ∙ append_assoc (at ++ space ++ call) space (word ++ args)
     ∙ append_assoc (at ++ space) call (32 ∷ (word ++ args))
     ∙ append_assoc at space (call ++ 32 ∷ (word ++ args))
     ∙ (λ i. place_is a place i ++ 32 ∷ (name_is item.caller item.future i ++ 32 ∷ (word ++ spaced_is (map settled_text item.args) i))))
-  where
-    at : List ℕ
-    at = actor_text a ++ codes "." ++ decimal place
-
-    call : List ℕ
-    call = future_text item.caller item.future
-
-    word : List ℕ
-    word = method_text item.method
-
-    args : List ℕ
-    args = with_spaces (map settled_text item.args)
 
 actor_is : (a : ℕ) (items : List RunItem) (stage : Option (List ℕ)) → actor_lines a items stage ≡ flat_map line (actor_as a items stage)
 actor_is a items None = refl
@@ -224,14 +208,12 @@ owner_same text x y (inr opened) = ap owner opened.left_is ∙ ap (before 46) (b
 pub filtered : (lines : List (List ℕ)) (name : List ℕ) (xs ys : List (List ℕ)) → AllZip (IsToldTwice lines) xs ys →
     AllZip (IsToldTwice lines) (filter (is_of name) xs) (filter (is_of name) ys)
 filtered lines name [] [] all = tt
-filtered lines name [] (y ∷ ys) all = absurd all
-filtered lines name (x ∷ xs) [] all = absurd all
 filtered lines name (x ∷ xs) (y ∷ ys) all =
     go (is_of name x) (is_of name y) (ap (λ (o : List ℕ). bytes_eq o name) (owner_same all.0.text x y all.0.tells)) (filtered lines name xs ys all.1)
   where
     go : (a b : Bool) → a ≡ b → AllZip (IsToldTwice lines) (filter (is_of name) xs) (filter (is_of name) ys) →
         AllZip (IsToldTwice lines) (cond a (x ∷ filter (is_of name) xs) (filter (is_of name) xs)) (cond b (y ∷ filter (is_of name) ys) (filter (is_of name) ys))
     go true true e rest = (all.0, rest)
-    go true false e rest = cc
-    go false true e rest = cc
     go false false e rest = rest
+    go more other e rest = cc
+filtered lines name xs ys all = absurd all

@@ -1,13 +1,7 @@
 -- What fits a history fits it at every number, where nothing is said of others than it can have.
-use Rattle.act_rules.proofs.Common.{◌≡◌, ◌⊎◌, inl, inr, ℕ, ◌≤◌, Bool, false, List, [], map, slice_get, Some, None, Option, is_some, option_map, refl, sym, ap, subst, ◌∙◌, slice_get-map}
-use Rattle.act_rules.proofs.Common.{History, ActorSpec, cast_of, calls_of, runs_of, is_dead, is_retired}
-use Rattle.std.specs.List.{AllZip}
-use Rattle.act_rules.specs.declared.history.RunItem.{RunItem}
-use Rattle.act_rules.specs.declared.history.Submission.{Submission}
-use Rattle.act_rules.proofs.Lists.{option_map-none}
-use Rattle.act_rules.proofs.Kept.{kept_by, kept_at_is}
-use Rattle.act_summaries.specs.Summaries.{kept_for}
-use Rattle.act_summaries.specs.Stems.{Call, Ran, End, IsKeptSo, IsRanSo, IsActorSo, FitHistory}
+use Rattle.act_summaries.proofs.Common.{◌≡◌, ◌⊎◌, inl, inr, ℕ, ◌≤◌, Bool, false, List, [], map, slice_get, Some, None, Option, is_some, option_map, refl, sym}
+use Rattle.act_summaries.proofs.Common.{ap, subst, ◌∙◌, slice_get-map, History, ActorSpec, cast_of, calls_of, runs_of, is_dead, is_retired, AllZip, RunItem}
+use Rattle.act_summaries.proofs.Common.{Submission, option_map-none, kept_by, kept_at_is, kept_for, Call, Ran, End, IsKeptSo, IsRanSo, IsActorSo, FitHistory}
 use Rattle.act_summaries.proofs.Facts.{Facts, IsCallerNumber, cast_good}
 use Rattle.act_summaries.proofs.Alike.{valid_or_none, nothing_ran, not_ended}
 

@@ -1,23 +1,14 @@
 -- What values, methods and answers of scripts are written with: words, and none that is a mark's.
-use Rattle.std.proofs.Common.{◌≡◌, ◌≢◌, ℕ, suc, ◌<◌, ◌≤◌, ◌||◌, ◌&&◌, ◌^◌, Bool, true, false, List, [], ◌∷◌, ◌++◌, codes, length, decimal}
-use Rattle.std.proofs.Common.{refl, sym, ap, ◌∙◌, subst, arith, append_assoc, map, Ok, Err, bytes_eq, nat_lt, nat_le, ℤ, pos, negsuc}
-use Rattle.std.specs.List.{AllByRecursion, list_all}
-use Rattle.std.specs.Fmt.{signed_decimal}
-use Rattle.std.proofs.lemmas.Bool.{and_parts, ltb-true, leb-true}
-use Rattle.act_types.specs.GoodText.{is_good_text, is_good_byte}
-use Rattle.act_types.specs.Texts.{method_text, value_text, fault_text, answer_text, settled_text, state_text, pair_text, with_spaces, space}
-use Rattle.act_types.specs.KindState.{KindState, CounterAt, TableOf, AccountAt, ItemsOf, OwnAt}
-use Rattle.act_types.specs.declared.call.Value.{Value}
+use Rattle.act_summaries.proofs.Common.{◌≡◌, ◌≢◌, ℕ, suc, ◌<◌, ◌≤◌, ◌||◌, ◌&&◌, ◌^◌, Bool, true, false, List, [], ◌∷◌, ◌++◌, codes, length, decimal, refl, sym}
+use Rattle.act_summaries.proofs.Common.{ap, ◌∙◌, subst, arith, append_assoc, map, Ok, Err, bytes_eq, nat_lt, nat_le, ℤ, pos, negsuc, AllByRecursion, list_all}
+use Rattle.act_summaries.proofs.Common.{signed_decimal, and_parts, ltb-true, leb-true, is_good_text, is_good_byte, method_text, value_text, fault_text}
+use Rattle.act_summaries.proofs.Common.{answer_text, settled_text, state_text, pair_text, with_spaces, space, KindState, CounterAt, TableOf, AccountAt, ItemsOf}
+use Rattle.act_summaries.proofs.Common.{OwnAt, Value, Fault, Method, Settled, Good, Bad, Answer, is_sayable, is_sayable_method}
 use Rattle.act_types.specs.declared.call.Value.TheVariants as value
-use Rattle.act_types.specs.declared.call.Fault.{Fault}
 use Rattle.act_types.specs.declared.call.Fault.TheVariants as fault
-use Rattle.act_types.specs.declared.call.Method.{Method}
 use Rattle.act_types.specs.declared.call.Method.TheVariants as method
-use Rattle.act_types.specs.declared.call.Settled.{Settled}
-use Rattle.act_types.specs.declared.call.Settled.TheVariants.{Good, Bad}
-use Rattle.act_rules.specs.RunList.{Answer}
-use Rattle.act_rules.specs.Laws.{is_sayable, is_sayable_method}
-use Rattle.act_summaries.proofs.Bytes.{differ, heads, apart, texts_apart, spaced, spaced_is, IsWord, IsPlain, AreWords, AreDigits, word_plain, Each-append, decimal_word, decimal_digits, signed_word}
+use Rattle.act_summaries.proofs.Bytes.{differ, heads, apart, texts_apart, spaced, spaced_is, IsWord, IsPlain, AreWords, AreDigits, word_plain, Each-append}
+use Rattle.act_summaries.proofs.Bytes.{decimal_word, decimal_digits, signed_word}
 use Rattle.act_summaries.proofs.Marks.{Equals, Live, Retired, word_of, IsNoMark}
 
 -- ---- words that are written out
@@ -148,10 +139,6 @@ answer_no_mark (Err f) h = fault_no_mark f h
 
 -- ---- that the actor died is written as no other answer
 
-abbrev pub is_death : Answer → Bool
-is_death (Err fault.ActorDied) = true
-is_death answer = false
-
 value_alive : (v : Value) → value_text v ≢ codes "ActorDied"
 value_alive value.Unit e = texts_apart (codes "unit") (codes "ActorDied") refl e
 value_alive (value.Text text) e = apart 34 65 (text ++ 34 ∷ []) (codes "ctorDied") refl e
@@ -161,18 +148,10 @@ value_alive (value.Int (negsuc n)) e = apart 45 65 (decimal (suc n)) (codes "cto
 -- a good answer that is written as `ActorDied` is that the actor died
 pub dead_alike : (answer : Answer) → IsGoodAnswer answer → answer_text answer ≡ codes "ActorDied" → answer ≡ Err fault.ActorDied
 dead_alike (Ok v) h e = absurd (value_alive v e)
-dead_alike (Err fault.NoMethod) h e = absurd (texts_apart (codes "NoMethod") (codes "ActorDied") refl e)
-dead_alike (Err fault.BadArgs) h e = absurd (texts_apart (codes "BadArgs") (codes "ActorDied") refl e)
-dead_alike (Err fault.Overflow) h e = absurd (texts_apart (codes "Overflow") (codes "ActorDied") refl e)
-dead_alike (Err fault.NoKey) h e = absurd (texts_apart (codes "NoKey") (codes "ActorDied") refl e)
-dead_alike (Err fault.BadAmount) h e = absurd (texts_apart (codes "BadAmount") (codes "ActorDied") refl e)
-dead_alike (Err fault.Insufficient) h e = absurd (texts_apart (codes "Insufficient") (codes "ActorDied") refl e)
-dead_alike (Err fault.NoItems) h e = absurd (texts_apart (codes "NoItems") (codes "ActorDied") refl e)
-dead_alike (Err fault.NoItem) h e = absurd (texts_apart (codes "NoItem") (codes "ActorDied") refl e)
-dead_alike (Err fault.KindFull) h e = absurd (texts_apart (codes "KindFull") (codes "ActorDied") refl e)
 dead_alike (Err (fault.Dependency k)) h e = absurd (apart 68 65 (codes "ependency(" ++ decimal k ++ codes ")") (codes "ctorDied") refl e)
 dead_alike (Err fault.ActorDied) h e = refl
 dead_alike (Err (fault.Own name)) h e = absurd (let bad : false ≡ true = h in cc)
+dead_alike (Err f) h e = absurd (texts_apart (fault_text f) (codes "ActorDied") refl e)
 
 -- ---- states
 

@@ -1,16 +1,12 @@
 -- Of a plan of which no step is refused, the kill that comes next can be asked.
-use Rattle.act_early.proofs.Common.{◌≡◌, ◌≢◌, ℕ, zero, suc, ◌+◌, ◌-◌, Bool, true, false, cond, List, [], ◌∷◌, length, take, filter, Option, Some, None, refl, ap}
-use Rattle.act_early.proofs.Common.{sym, ◌∙◌, arith, ◌==◌, find, slice_get, is_some, list_any, slice_get_within, Step, Copy, Release, Kill}
-use Rattle.act_early.proofs.Common.{Await, handle_refusal, ActorSpec, History, names, cast_of, is_caller, count_pairs, copies_of, refusal_of, occurrences}
-use Rattle.std.specs.Prelude.{AllPairs}
+use Rattle.act_told_ends.proofs.Common.{◌≡◌, ◌≢◌, ℕ, zero, suc, ◌+◌, ◌-◌, Bool, true, false, cond, List, [], ◌∷◌, length, take, filter, Option, Some, None}
+use Rattle.act_told_ends.proofs.Common.{refl, ap, sym, ◌∙◌, arith, ◌==◌, find, slice_get, is_some, list_any, slice_get_within, Step, Copy, Release, Kill, Await}
+use Rattle.act_told_ends.proofs.Common.{handle_refusal, ActorSpec, History, names, cast_of, is_caller, count_pairs, copies_of, refusal_of, occurrences}
+use Rattle.act_told_ends.proofs.Common.{AllPairs, actors_naming, occurrences-push, named_among, Told, IsWalk, DidFirst, copies, releases}
 use Rattle.act_rules.specs.declared.event.Event.TheVariants as event
 use Rattle.act_rules.specs.declared.outcome.HandleRefusal.{HandleRefusal}
-use Rattle.act_rules.specs.History.{actors_naming}
 use Rattle.act_rules.specs.Plans.{Progress, nothing_done, holds, is_refused, do_step, first_bad, first_bad_from}
 use Rattle.act_rules.proofs.Planned.{names_is}
-use Rattle.act_early.proofs.Counting.{occurrences-push}
-use Rattle.act_early.proofs.Listed.{named_caller}
-use Rattle.act_told_ends.specs.Told.{Told, IsWalk, DidFirst, copies, releases}
 
 -- what a caller did after these steps
 abbrev did : Progress → List Step → Progress
@@ -101,7 +97,7 @@ can_ask casts bound told done h c a steps differ are walk is good next = go (nam
         none (Some refusal) e = cc
 
     go : (b : Bool) → names c (cast_of a h) ≡ b → refusal_of h (event.AskKill c a) ≡ None
-    go true e = let known : is_caller c h ≡ true = named_caller c a h.casts e in rw (known, allowed) refl
+    go true e = let known : is_caller c h ≡ true = named_among c a h.casts e in rw (known, allowed) refl
     go false e =
         let stranger : copies_of c a h ≡ None =
         ap (λ (b : Bool). cond b (Some ((1 + count_pairs c a h.copied) - count_pairs c a h.released)) None) e in

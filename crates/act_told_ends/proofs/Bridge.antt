@@ -1,12 +1,9 @@
 -- Events that end as is told are a play of plans: of the steps that bind a caller, or of what it did.
-use Rattle.act_early.proofs.Common.{◌≡◌, ℕ, Bool, true, false, cond, List, [], ◌∷◌, ◌++◌, map, Option, Some, None, inl, refl, ap, sym, ◌∙◌, subst, append_assoc}
-use Rattle.act_early.proofs.Common.{◌==◌, eqb-true, append-nil, filter_map, cons_option, All-cons, Event, Step, Submit, Copy, Release, Kill, ActorSpec, history, outcomes}
-use Rattle.act_early.proofs.Common.{At, next_step, IsPlay, is_step_by, DoesStepBy, DoesStepsBy, All, IsOk, opening, KeepsToPlans, is_retired}
-use Rattle.act_rules.specs.History.{History}
+use Rattle.act_told_ends.proofs.Common.{◌≡◌, ℕ, Bool, true, false, cond, List, [], ◌∷◌, ◌++◌, map, Option, Some, None, inl, refl, ap, sym, ◌∙◌, subst}
+use Rattle.act_told_ends.proofs.Common.{append_assoc, ◌==◌, eqb-true, append-nil, filter_map, cons_option, All-cons, Event, Step, Submit, Copy, Release, Kill}
+use Rattle.act_told_ends.proofs.Common.{ActorSpec, history, outcomes, At, next_step, IsPlay, is_step_by, DoesStepBy, DoesStepsBy, All, IsOk, opening}
+use Rattle.act_told_ends.proofs.Common.{KeepsToPlans, is_retired, History, list_play, none_others, Told, Leaves, EndsAsTold, told_of}
 use Rattle.act_rules.specs.declared.event.Event.TheVariants as event
-use Rattle.act_early.proofs.Listing.{list_play}
-use Rattle.act_early.proofs.Shifting.{none_others}
-use Rattle.act_told_ends.specs.Told.{Told, Leaves, EndsAsTold, told_of}
 
 -- which step of the caller's the event is
 abbrev step_in : ℕ → Event → Option Step

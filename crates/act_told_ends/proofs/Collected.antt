@@ -1,22 +1,17 @@
 -- A post that the play collects: the walk has its answer, or may collect it.
-use Rattle.act_early.proofs.Common.{◌≡◌, ℕ, Bool, true, false, List, [], ◌∷◌, ◌++◌, length, Option, Some, None, inl, inr, ◌⊎◌, refl, ap, sym, ◌∙◌, subst}
-use Rattle.act_early.proofs.Common.{Contains, slice_get, is_some, RunItem, Submission, Answer, Err, ActorDied, kept_at, ActorSpec, History, names, cast_of}
-use Rattle.act_early.proofs.Common.{is_caller, calls_of, runs_of, kept_of, is_dead, refusal_of, add_event, and_also, slice_get_front, slice_get_last, All_at, IsSoundPost}
-use Rattle.act_early.proofs.Common.{held_submission, At, with_event, IsPlay, Happens, is_reply, Post}
+use Rattle.act_told_ends.proofs.Common.{◌≡◌, ℕ, Bool, true, false, List, [], ◌∷◌, ◌++◌, length, Option, Some, None, inl, inr, ◌⊎◌, refl, ap, sym, ◌∙◌, subst}
+use Rattle.act_told_ends.proofs.Common.{Contains, slice_get, is_some, RunItem, Submission, Answer, Err, ActorDied, kept_at, ActorSpec, History, names, cast_of}
+use Rattle.act_told_ends.proofs.Common.{is_caller, calls_of, runs_of, kept_of, is_dead, refusal_of, add_event, and_also, slice_get_front, slice_get_last}
+use Rattle.act_told_ends.proofs.Common.{All_at, IsSoundPost, held_submission, At, with_event, IsPlay, Happens, is_reply, Post, ReplyPost, DeathPost}
+use Rattle.act_told_ends.proofs.Common.{named_among, death_answers, reply_some, IsWorld, world, Collects, Tells, Hears, MayHear, place_in, stands_in}
 use Rattle.act_rules.specs.declared.event.Event.TheVariants as event
-use Rattle.act_rules.specs.declared.history.Post.TheVariants.{Reply as ReplyPost, Death as DeathPost}
 use Rattle.act_early.proofs.Deaths.{collected_death}
-use Rattle.act_early.proofs.Listed.{named_caller}
-use Rattle.act_early.proofs.Replies.{death_answers, reply_some}
-use Rattle.act_early.proofs.Worlds.{IsWorld, world}
-use Rattle.act_told_ends.specs.Walks.{Collects, Tells, Hears, MayHear}
 use Rattle.act_told_ends.proofs.Lists.{push_at}
 use Rattle.act_told_ends.proofs.Later.{IsLater}
 use Rattle.act_told_ends.proofs.Posted.{CameBy, Replied, Died, came_by, reply_answers}
 use Rattle.act_told_ends.proofs.Covered.{IsCovered, runs_told, runs_covered, calls_covered, dead_covered, cast_same}
 use Rattle.act_told_ends.proofs.Going.{Case, Here, Goal}
 use Rattle.act_told_ends.proofs.Covers.{Near, idle, death_in}
-use Rattle.act_lists.proofs.Lists.{place_in, stands_in}
 
 -- the play once the post was collected
 abbrev with_post : Post → At → At
@@ -155,7 +150,30 @@ death_covered x p c a at has_it = record {
     death d b i (inr last) = subst (λ (post : Post). Contains x.g.collected post) (sym last.1) has_it
 
 may_hear : (x : Case) (p : At) (c a : ℕ) → IsCollecting x p (DeathPost c a) → MayHear x.told c a x.g
-may_hear x p c a t = record { answered = answered; heard = heard }
+may_hear x p c a t =
+    let late_has : Contains late.collected (DeathPost c a) =
+    stands_in late.collected (length h.collected) (DeathPost c a)
+    (slice_get_front q.collected late.collected (length h.collected) (DeathPost c a) t.later.collected (slice_get_last h.collected (DeathPost c a))) in
+    let call_there : (k : ℕ) (call : Submission) → slice_get (x.told.calls c) k ≡ Some call → slice_get (calls_of c late) k ≡ Some call =
+    λ k call e. ap (λ (calls : List Submission). slice_get calls k) (t.here.setting.end.leaves.calls c) ∙ e in
+    let answered : (k : ℕ) (call : Submission) → slice_get (x.told.calls c) k ≡ Some call → call.actor ≡ a → is_some (kept_at (x.told.kept c) k) ≡ true =
+    λ k call e to. let answers = death_answers late c k call (call_there k call e)
+    (subst (λ (b : ℕ). Contains late.collected (DeathPost c b)) (sym to) late_has) in
+    ap (λ (o : Option Answer). is_some o) (ap (λ (kept : List (Option Answer)). kept_at kept k) (sym (t.here.setting.end.leaves.kept c)) ∙ answers.1) in
+    let heard : (k : ℕ) (call : Submission) → slice_get (x.told.calls c) k ≡ Some call → call.actor ≡ a → is_reply (kept_at (x.told.kept c) k) ≡ true
+    → is_some (kept_at (kept_of c x.g) k) ≡ true =
+    λ k call e to reply. let some = reply_some (kept_at (x.told.kept c) k) reply in
+    let kept : kept_at (kept_of c late) k ≡ Some some.0 =
+    ap (λ (kept : List (Option Answer)). kept_at kept k) (t.here.setting.end.leaves.kept c) ∙ some.1 in
+    let is : is_reply (Some some.0) ≡ true = ap is_reply (sym some.1) ∙ reply in
+    let made = ran k call some.0 (call_there k call e) to is (came_by late c k some.0 w.sound kept) in
+    let answers = death_answers q c k made.0 made.1
+    (subst (λ (b : ℕ). Contains q.collected (DeathPost c b)) (sym made.2)
+    (stands_in q.collected (length h.collected) (DeathPost c a) (slice_get_last h.collected (DeathPost c a)))) in
+    let both : Some answers.0 ≡ Some some.0 = sym (t.later.early.kept c k answers.0 answers.1) ∙ kept in
+    let one : answers.0 ≡ some.0 = cc in
+    before k answers.0 (ap (λ (answer : Answer). is_reply (Some answer)) one ∙ is) (came_by q c k answers.0 t.world.sound answers.1) in
+    record { answered = answered; heard = heard }
   where
     h : History
     h = p.history
@@ -168,18 +186,6 @@ may_hear x p c a t = record { answered = answered; heard = heard }
 
     w : IsWorld x.casts late
     w = world x.casts x.plans x.late t.here.setting.end.play
-
-    late_has : Contains late.collected (DeathPost c a)
-    late_has = stands_in late.collected (length h.collected) (DeathPost c a)
-        (slice_get_front q.collected late.collected (length h.collected) (DeathPost c a) t.later.collected (slice_get_last h.collected (DeathPost c a)))
-
-    call_there : (k : ℕ) (call : Submission) → slice_get (x.told.calls c) k ≡ Some call → slice_get (calls_of c late) k ≡ Some call
-    call_there k call e = ap (λ (calls : List Submission). slice_get calls k) (t.here.setting.end.leaves.calls c) ∙ e
-
-    answered : (k : ℕ) (call : Submission) → slice_get (x.told.calls c) k ≡ Some call → call.actor ≡ a → is_some (kept_at (x.told.kept c) k) ≡ true
-    answered k call e to =
-        let answers = death_answers late c k call (call_there k call e) (subst (λ (b : ℕ). Contains late.collected (DeathPost c b)) (sym to) late_has) in
-        ap (λ (o : Option Answer). is_some o) (ap (λ (kept : List (Option Answer)). kept_at kept k) (sym (t.here.setting.end.leaves.kept c)) ∙ answers.1)
 
     -- a reply that the play keeps once the death came was collected before
     before : (k : ℕ) (answer : Answer) → is_reply (Some answer) ≡ true → CameBy q c k answer → is_some (kept_at (kept_of c x.g) k) ≡ true
@@ -207,21 +213,6 @@ may_hear x p c a t = record { answered = answered; heard = heard }
         ap (λ (items : List RunItem). slice_get items place) (sym last) ∙ subst (λ (n : ℕ). slice_get (runs_of n late) place ≡ Some item) actor there in
         held_submission h a c k place item (world x.casts x.plans p t.here.play).sound.order here caller future
 
-    heard : (k : ℕ) (call : Submission) → slice_get (x.told.calls c) k ≡ Some call → call.actor ≡ a → is_reply (kept_at (x.told.kept c) k) ≡ true
-        → is_some (kept_at (kept_of c x.g) k) ≡ true
-    heard k call e to reply =
-        let some = reply_some (kept_at (x.told.kept c) k) reply in
-        let kept : kept_at (kept_of c late) k ≡ Some some.0 =
-        ap (λ (kept : List (Option Answer)). kept_at kept k) (t.here.setting.end.leaves.kept c) ∙ some.1 in
-        let is : is_reply (Some some.0) ≡ true = ap is_reply (sym some.1) ∙ reply in
-        let made = ran k call some.0 (call_there k call e) to is (came_by late c k some.0 w.sound kept) in
-        let answers = death_answers q c k made.0 made.1
-        (subst (λ (b : ℕ). Contains q.collected (DeathPost c b)) (sym made.2)
-        (stands_in q.collected (length h.collected) (DeathPost c a) (slice_get_last h.collected (DeathPost c a)))) in
-        let both : Some answers.0 ≡ Some some.0 = sym (t.later.early.kept c k answers.0 answers.1) ∙ kept in
-        let one : answers.0 ≡ some.0 = cc in
-        before k answers.0 (ap (λ (answer : Answer). is_reply (Some answer)) one ∙ is) (came_by q c k answers.0 t.world.sound answers.1)
-
 death_goes : (x : Case) (p : At) (c a : ℕ) → IsCollecting x p (DeathPost c a) → names c (cast_of a p.history) ≡ true
     → (Contains x.g.collected (DeathPost c a) → ⊥) → Goal x
 death_goes x p c a t named none = go (death_in x.g.posts c a)
@@ -234,7 +225,7 @@ death_goes x p c a t named none = go (death_in x.g.posts c a)
         (cast_same x.casts a p.history x.g (world x.casts x.plans p t.here.play) t.here.setting.world) ∙ named
 
     known : is_caller c x.g ≡ true
-    known = named_caller c a x.g.casts named_here
+    known = named_among c a x.g.casts named_here
 
     dead : is_dead a x.g ≡ true
     dead = dead_covered x.casts x.bound x.told x.done x.plans x.late x.g p a t.here t.sound

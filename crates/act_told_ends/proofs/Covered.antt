@@ -1,23 +1,15 @@
 -- What it means that the walk did all that a play did so far, and what follows of calls, answers and deaths.
-use Rattle.act_early.proofs.Common.{◌≡◌, ℕ, ◌≤◌, true, List, length, take, Option, Some, None, refl, ap, sym, ◌∙◌, subst, cond, ◌+◌, ◌-◌}
-use Rattle.act_early.proofs.Common.{Contains, ◌==◌, ◌||◌, filter, filter_map, find, slice_get, is_some, list_any, RunItem, Submission, Step, Submit}
-use Rattle.act_early.proofs.Common.{Answer, kept_at, has_terminated, ActorSpec, History, names, contains, cast_of, is_caller, count_pairs}
-use Rattle.act_early.proofs.Common.{calls_of, runs_of, kept_of, is_dead, IsPrefix, slice_get_front, limit_of-same}
-use Rattle.act_early.proofs.Common.{Extends, At, steps_of, next_step, IsPlay, slice_get_within}
-use Rattle.act_rules.specs.declared.history.Post.TheVariants.{Reply as ReplyPost, Death as DeathPost}
-use Rattle.act_early.proofs.Worlds.{IsWorld, world, either_of, or_second}
-use Rattle.act_early.proofs.Counting.{done_steps, take-prefix}
-use Rattle.act_early.proofs.Progress.{Follows, follows, submission_in, is_copy_of, is_release_of}
-use Rattle.act_early.proofs.Matching.{IsPrefix-filter_map}
-use Rattle.act_early.proofs.Replies.{death_answers, front_short}
-use Rattle.act_early.proofs.Waiting.{IsAlike}
-use Rattle.act_told_ends.specs.Told.{Told, IsWalk, DidFirst, submission_of, copies, releases}
+use Rattle.act_told_ends.proofs.Common.{◌≡◌, ℕ, ◌≤◌, true, List, length, take, Option, Some, None, refl, ap, sym, ◌∙◌, subst, cond, ◌+◌, ◌-◌, Contains, ◌==◌}
+use Rattle.act_told_ends.proofs.Common.{◌||◌, filter, filter_map, find, slice_get, is_some, list_any, RunItem, Submission, Step, Submit, Answer, kept_at}
+use Rattle.act_told_ends.proofs.Common.{has_terminated, ActorSpec, History, names, contains, cast_of, is_caller, count_pairs, calls_of, runs_of, kept_of}
+use Rattle.act_told_ends.proofs.Common.{is_dead, IsPrefix, slice_get_front, limit_of-same, Extends, At, steps_of, next_step, IsPlay, slice_get_within}
+use Rattle.act_told_ends.proofs.Common.{ReplyPost, DeathPost, IsWorld, world, either_of, or_second, done_steps, take-prefix, Follows, follows, submission_in}
+use Rattle.act_told_ends.proofs.Common.{is_copy_of, is_release_of, IsPrefix-filter_map, death_answers, front_short, IsAlike, Told, IsWalk, DidFirst}
+use Rattle.act_told_ends.proofs.Common.{submission_of, copies, releases, filter_map_alike, front_whole}
 use Rattle.act_told_ends.proofs.Lists.{front_of_front, filter_alike}
 use Rattle.act_told_ends.proofs.Bridge.{IsLate}
 use Rattle.act_told_ends.proofs.Later.{IsLater}
 use Rattle.act_told_ends.proofs.Posted.{RunsPosted, CameBy, Replied, Died, came_by}
-use Rattle.act_lists.proofs.Lists.{filter_map_alike}
-use Rattle.act_rules.proofs.Lists.{front_whole}
 
 -- a walk, and a play that ends as is told
 pub record IsSetting (casts : List ActorSpec) (bound : ℕ → Option (List Step)) (told : Told) (done : ℕ → ℕ) (plans : ℕ → List Step) (late : At)
@@ -136,16 +128,13 @@ kept_covered casts bound told done plans late g p c at k answer e =
 pub dead_covered : (casts : List ActorSpec) (bound : ℕ → Option (List Step)) (told : Told) (done : ℕ → ℕ) (plans : ℕ → List Step) (late : At) (g : History)
     (p : At) (a : ℕ) → IsAt casts bound told done plans late g p → is_dead a p.history ≡ true → is_dead a g ≡ true
 dead_covered casts bound told done plans late g p a at dead =
+    let last : told.runs a ≡ runs_of a p.history = sym (at.setting.end.leaves.runs a) ∙ at.later.early.last a dead in
+    let same : runs_of a p.history ≡ runs_of a g =
+    front_whole (runs_of a p.history) (runs_of a g) (runs_covered casts bound told done plans late g p a at)
+    (subst (λ (items : List RunItem). length (runs_of a g) ≤ length items) last
+    (front_short (runs_of a g) (told.runs a) (at.setting.walk.runs a))) in
     either_of (contains a p.history.killed) (has_terminated (runs_of a p.history)) (is_dead a g ≡ true) dead (at.covered.killed a)
     (λ ended. or_second (contains a g.killed) (has_terminated (runs_of a g)) (ap has_terminated (sym same) ∙ ended))
-  where
-    last : told.runs a ≡ runs_of a p.history
-    last = sym (at.setting.end.leaves.runs a) ∙ at.later.early.last a dead
-
-    same : runs_of a p.history ≡ runs_of a g
-    same = front_whole (runs_of a p.history) (runs_of a g) (runs_covered casts bound told done plans late g p a at)
-        (subst (λ (items : List RunItem). length (runs_of a g) ≤ length items) last
-        (front_short (runs_of a g) (told.runs a) (at.setting.walk.runs a)))
 
 -- ---- the same casts
 
@@ -160,39 +149,29 @@ caller_same casts c h g w v = ap (λ (l : List ActorSpec). list_any (λ (cast : 
 pub bound_alike : (casts : List ActorSpec) (bound : ℕ → Option (List Step)) (told : Told) (done : ℕ → ℕ) (plans : ℕ → List Step) (late : At) (g : History)
     (p : At) (c : ℕ) (steps : List Step) (step : Step) → IsSetting casts bound told done plans late g → IsPlay casts plans p → bound c ≡ Some steps
     → next_step plans c p ≡ Some step → steps_of c p ≡ done c → IsAlike c p.history g
-bound_alike casts bound told done plans late g p c steps step s play is next level = record {
-  caller = caller_same casts c p.history g w s.world;
-  calls = first.calls ∙ sym (f.calls ∙ ap (filter_map submission_in) own ∙ filter_map_alike submission_in submission_of (take (done c) steps) same_submission);
-  copies = λ a.
-      ap (λ (l : List ActorSpec). copies_from l a (count_pairs c a g.copied) (count_pairs c a g.released)) (s.world.casts ∙ sym w.casts)
-      ∙ ap (λ (n : ℕ). copies_from p.history.casts a n (count_pairs c a g.released)) (copied a)
-      ∙ ap (λ (n : ℕ). copies_from p.history.casts a (count_pairs c a p.history.copied) n) (released a);
-  limit = λ a. limit_of-same p.history g c a (s.world.casts ∙ sym w.casts);
-}
-  where
-    w : IsWorld casts p.history
-    w = world casts plans p play
-
-    f : Follows plans c p
-    f = follows casts plans p play c
-
-    first : DidFirst c (done c) steps g
-    first = s.walk.steps c steps is
-
-    own : done_steps plans c p ≡ take (done c) steps
-    own = ap (take (steps_of c p)) (s.end.own c steps is) ∙ ap (λ (n : ℕ). take n steps) level
-
-    copies_from : List ActorSpec → ℕ → ℕ → ℕ → Option ℕ
-    copies_from l a made gone = cond (names c (find (λ (cast : ActorSpec). cast.actor == a) l)) (Some ((1 + made) - gone)) None
-
-    copied : (a : ℕ) → count_pairs c a g.copied ≡ count_pairs c a p.history.copied
-    copied a = first.copied a ∙ sym (f.copied a ∙ ap (λ (l : List Step). length (filter (is_copy_of a) l)) own
-        ∙ ap (λ (l : List Step). length l) (filter_alike (is_copy_of a) (copies a) (take (done c) steps) (same_copy a)))
-
-    there : slice_get steps (done c) ≡ Some step
-    there = subst (λ (n : ℕ). slice_get steps n ≡ Some step) level (subst (λ (l : List Step). slice_get l (steps_of c p) ≡ Some step) (s.end.own c steps is) next)
-
-    released : (a : ℕ) → count_pairs c a g.released ≡ count_pairs c a p.history.released
-    released a = first.released a (slice_get_within steps (done c) step there)
-        ∙ sym (f.released a step next ∙ ap (λ (l : List Step). length (filter (is_release_of a) l)) own
-        ∙ ap (λ (l : List Step). length l) (filter_alike (is_release_of a) (releases a) (take (done c) steps) (same_release a)))
+bound_alike casts bound told done plans late g p c steps step s play is next level =
+    let w : IsWorld casts p.history = world casts plans p play in
+    let f : Follows plans c p = follows casts plans p play c in
+    let first : DidFirst c (done c) steps g = s.walk.steps c steps is in
+    let own : done_steps plans c p ≡ take (done c) steps = ap (take (steps_of c p)) (s.end.own c steps is) ∙ ap (λ (n : ℕ). take n steps) level in
+    let copies_from : List ActorSpec → ℕ → ℕ → ℕ → Option ℕ =
+    λ l a made gone. cond (names c (find (λ (cast : ActorSpec). cast.actor == a) l)) (Some ((1 + made) - gone)) None in
+    let copied : (a : ℕ) → count_pairs c a g.copied ≡ count_pairs c a p.history.copied =
+    λ a. first.copied a ∙ sym (f.copied a ∙ ap (λ (l : List Step). length (filter (is_copy_of a) l)) own
+    ∙ ap (λ (l : List Step). length l) (filter_alike (is_copy_of a) (copies a) (take (done c) steps) (same_copy a))) in
+    let there : slice_get steps (done c) ≡ Some step =
+    subst (λ (n : ℕ). slice_get steps n ≡ Some step) level (subst (λ (l : List Step). slice_get l (steps_of c p) ≡ Some step) (s.end.own c steps is) next) in
+    let released : (a : ℕ) → count_pairs c a g.released ≡ count_pairs c a p.history.released =
+    λ a. first.released a (slice_get_within steps (done c) step there)
+    ∙ sym (f.released a step next ∙ ap (λ (l : List Step). length (filter (is_release_of a) l)) own
+    ∙ ap (λ (l : List Step). length l) (filter_alike (is_release_of a) (releases a) (take (done c) steps) (same_release a))) in
+    record {
+      caller = caller_same casts c p.history g w s.world;
+      calls = first.calls ∙ sym
+          (f.calls ∙ ap (filter_map submission_in) own ∙ filter_map_alike submission_in submission_of (take (done c) steps) same_submission);
+      copies = λ a.
+          ap (λ (l : List ActorSpec). copies_from l a (count_pairs c a g.copied) (count_pairs c a g.released)) (s.world.casts ∙ sym w.casts)
+          ∙ ap (λ (n : ℕ). copies_from p.history.casts a n (count_pairs c a g.released)) (copied a)
+          ∙ ap (λ (n : ℕ). copies_from p.history.casts a (count_pairs c a p.history.copied) n) (released a);
+      limit = λ a. limit_of-same p.history g c a (s.world.casts ∙ sym w.casts);
+    }

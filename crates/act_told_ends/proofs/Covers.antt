@@ -1,22 +1,15 @@
 -- One step or event of the play: the walk did it, too, or may go on.
-use Rattle.act_early.proofs.Common.{◌≡◌, ℕ, zero, suc, ◌+◌, ◌<◌, ◌≤◌, Bool, true, false, cond, List, [], ◌∷◌, ◌++◌, length, Option, Some, None, inl, inr, ◌⊎◌, refl, ap, sym}
-use Rattle.act_early.proofs.Common.{◌∙◌, subst, arith, Contains, ◌==◌, ◌||◌, slice_get, filter_map, cases_lt, append-nil, eqb-true, eq-eqb, RunItem}
-use Rattle.act_early.proofs.Common.{Submission, Step, Submit, Kill, History, under, contains}
-use Rattle.act_early.proofs.Common.{calls_of, runs_of, is_dead, next_item, has_terminated, refusal_of, add_event, after_run}
-use Rattle.act_early.proofs.Common.{IsPrefix, slice_get_front, slice_get_last, under-push, length_push, At, steps_of}
-use Rattle.act_early.proofs.Common.{next_step, taken, skipped, with_event, after_step, MayTake, is_kill_of, Post}
+use Rattle.act_told_ends.proofs.Common.{◌≡◌, ℕ, zero, suc, ◌+◌, ◌<◌, ◌≤◌, Bool, true, false, cond, List, [], ◌∷◌, ◌++◌, length, Option, Some, None, inl, inr}
+use Rattle.act_told_ends.proofs.Common.{◌⊎◌, refl, ap, sym, ◌∙◌, subst, arith, Contains, ◌==◌, ◌||◌, slice_get, filter_map, cases_lt, append-nil, eqb-true}
+use Rattle.act_told_ends.proofs.Common.{eq-eqb, RunItem, Submission, Step, Submit, Kill, History, under, contains, calls_of, runs_of, is_dead, next_item}
+use Rattle.act_told_ends.proofs.Common.{has_terminated, refusal_of, add_event, after_run, IsPrefix, slice_get_front, slice_get_last, under-push, length_push}
+use Rattle.act_told_ends.proofs.Common.{At, steps_of, next_step, taken, skipped, with_event, after_step, MayTake, is_kill_of, Post, ReplyPost, DeathPost}
+use Rattle.act_told_ends.proofs.Common.{occurrences-push, step_runs, step_kills, submission_in, submitted_one, contains_push, either_of, or_second, DoesWithout}
+use Rattle.act_told_ends.proofs.Common.{place_in, stands_in, front_whole}
 use Rattle.act_rules.specs.declared.event.Event.TheVariants as event
-use Rattle.act_rules.specs.declared.history.Post.TheVariants.{Reply as ReplyPost, Death as DeathPost}
-use Rattle.act_early.proofs.Counting.{occurrences-push}
-use Rattle.act_early.proofs.Earlier.{step_runs, step_kills}
-use Rattle.act_early.proofs.Progress.{submission_in, submitted_one}
-use Rattle.act_early.proofs.Worlds.{contains_push, either_of, or_second}
-use Rattle.act_told_ends.specs.Walks.{DoesWithout}
 use Rattle.act_told_ends.proofs.Later.{IsLater}
 use Rattle.act_told_ends.proofs.Covered.{IsCovered, runs_covered, dead_covered}
 use Rattle.act_told_ends.proofs.Going.{Case, Here, Goal, run_goes, kill_goes, submits, asks, steps_on, kill_asked}
-use Rattle.act_lists.proofs.Lists.{place_in, stands_in}
-use Rattle.act_rules.proofs.Lists.{front_whole}
 
 -- the walk did all that the play did so far, or may go on
 abbrev pub Near : Case → At → Type 0

@@ -1,11 +1,6 @@
 -- What a walk decides that can't go on.
-use Rattle.act_early.proofs.Common.{ℕ, List, Option, None, inl, inr, ◌⊎◌, IsOk, All, Event, Step, ActorSpec, History, opening, history}
-use Rattle.act_rules.specs.Rules.{outcomes}
-use Rattle.act_told_ends.specs.Told.{Told, EndsAsTold}
-use Rattle.act_told_ends.specs.Walks.{MayGoOn, IsThrough}
-use Rattle.act_told_ends.specs.Walked.{IsWalked}
-use Rattle.act_told_ends.specs.Retiring.{MayRetire}
-use Rattle.act_told_ends.specs.Resting.{IsResting, IsEndTold}
+use Rattle.act_told_ends.proofs.Common.{ℕ, List, Option, None, inl, inr, ◌⊎◌, IsOk, All, Event, Step, ActorSpec, History, opening, history, outcomes, Told}
+use Rattle.act_told_ends.proofs.Common.{EndsAsTold, MayGoOn, IsThrough, IsWalked, MayRetire, IsResting, IsEndTold}
 use Rattle.act_told_ends.proofs.Stepped.{goes_on}
 use Rattle.act_told_ends.proofs.Resting.{at_the_end}
 

@@ -1,12 +1,9 @@
 -- A walk to an end that is told, at which a reply is lost and the actor lives on: the definitions compute to it.
-use Rattle.act_early.proofs.Common.{◌≡◌, ℕ, List, [], ◌∷◌, Option, Some, None, refl, Event, RunItem, Submission, Step, ActorSpec, History, opening, history}
-use Rattle.act_early.proofs.Common.{add_event}
+use Rattle.act_told_ends.proofs.Common.{◌≡◌, ℕ, List, [], ◌∷◌, Option, Some, None, refl, Event, RunItem, Submission, Step, ActorSpec, History, opening, history}
+use Rattle.act_told_ends.proofs.Common.{add_event, Told, told_of, Calls, Sends, Delivers, Runs, Collects, IsThrough, IsWalked, Begins, GoesOn}
 use Rattle.act_types.specs.KindState.{ItemsOf}
 use Rattle.act_types.specs.declared.call.Method.TheVariants as method
 use Rattle.act_rules.specs.declared.event.Event.TheVariants as event
-use Rattle.act_told_ends.specs.Told.{Told, told_of}
-use Rattle.act_told_ends.specs.Walks.{Calls, Sends, Delivers, Runs, Collects, IsThrough}
-use Rattle.act_told_ends.specs.Walked.{IsWalked, Begins, GoesOn}
 
 -- one actor, which two callers may call, each with one call that has no answer
 abbrev casts : List ActorSpec

@@ -1,35 +1,23 @@
 -- What the play does next and the walk didn't do yet may be done in the walk.
-use Rattle.act_early.proofs.Common.{◌≡◌, ℕ, zero, suc, ◌+◌, ◌-◌, ◌<◌, ◌≤◌, Bool, true, false, cond, List, [], ◌∷◌, ◌++◌, length, take, Option, Some, None, inl, inr}
-use Rattle.act_early.proofs.Common.{◌⊎◌, refl, ap, sym, ◌∙◌, subst, arith, ◌||◌, not, map, slice_get, option_map, is_some, list_all, list_any, cases_lt, nat_lt, nat_tests}
-use Rattle.act_early.proofs.Common.{slice_get_within, Arg, Method, Settled, Letter, RunItem, Submission, Step, Submit, Kill, Answer, NoCaller, Sending, SubmitRefusal}
-use Rattle.act_early.proofs.Common.{has_terminated, calls_to, kept_at, is_known, settle, needs, send_refusal, submit_refusal, limit_refusal, handle_refusal}
-use Rattle.act_early.proofs.Common.{ActorSpec, History, contains, names, cast_of, is_caller, count_pairs, calls_of, copies_of, limit_of, runs_of, kept_of, is_dead}
-use Rattle.act_early.proofs.Common.{is_retired, is_ended, has_letter, ran_count, next_item, items_of, refusal_of, add_event, unanswered}
-use Rattle.act_early.proofs.Common.{letter_actor, was_sent, deliver_refusal, under-push, eq-eqb, slice_get_front, slice_get_last, calls_to_grow, option_map-none}
-use Rattle.act_early.proofs.Common.{option_or-none, option_or-none_second, needs-none, run_needs, copies_named, arguments_stay, calls_to-at, limit_of-same, IsPrefix, At, steps_of}
-use Rattle.act_early.proofs.Common.{next_step, MayTake, is_kill_of}
-use Rattle.std.specs.Option.{option_or}
-use Rattle.std.specs.Prelude.{nat_le}
-use Rattle.act_rules.specs.Submissions.{is_earlier, copies_held}
+use Rattle.act_told_ends.proofs.Common.{◌≡◌, ℕ, zero, suc, ◌+◌, ◌-◌, ◌<◌, ◌≤◌, Bool, true, false, cond, List, [], ◌∷◌, ◌++◌, length, take, Option, Some, None}
+use Rattle.act_told_ends.proofs.Common.{inl, inr, ◌⊎◌, refl, ap, sym, ◌∙◌, subst, arith, ◌||◌, not, map, slice_get, option_map, is_some, list_all, list_any}
+use Rattle.act_told_ends.proofs.Common.{cases_lt, nat_lt, nat_tests, slice_get_within, Arg, Method, Settled, Letter, RunItem, Submission, Step, Submit, Kill}
+use Rattle.act_told_ends.proofs.Common.{Answer, NoCaller, Sending, SubmitRefusal, has_terminated, calls_to, kept_at, is_known, settle, needs, send_refusal}
+use Rattle.act_told_ends.proofs.Common.{submit_refusal, limit_refusal, handle_refusal, ActorSpec, History, contains, names, cast_of, is_caller, count_pairs}
+use Rattle.act_told_ends.proofs.Common.{calls_of, copies_of, limit_of, runs_of, kept_of, is_dead, is_retired, is_ended, has_letter, ran_count, next_item}
+use Rattle.act_told_ends.proofs.Common.{items_of, refusal_of, add_event, unanswered, letter_actor, was_sent, deliver_refusal, under-push, eq-eqb}
+use Rattle.act_told_ends.proofs.Common.{slice_get_front, slice_get_last, calls_to_grow, option_map-none, option_or-none, option_or-none_second, needs-none}
+use Rattle.act_told_ends.proofs.Common.{run_needs, copies_named, arguments_stay, calls_to-at, limit_of-same, IsPrefix, At, steps_of, next_step, MayTake}
+use Rattle.act_told_ends.proofs.Common.{is_kill_of, option_or, nat_le, is_earlier, copies_held, CallLetter, SubmitRefused, Handle, NoSuchActor, NoCopy}
+use Rattle.act_told_ends.proofs.Common.{TooManyArgs, BadFuture, TooManyCalls, IsWorld, world, take_needs, or_second, either_of, not_so, IsReady, ready}
+use Rattle.act_told_ends.proofs.Common.{front_short, next_unanswered, IsAlike, may_take, Told, IsWalk, MayGoOn, Calls, Asks, Steps, Sends, Delivers, Runs}
+use Rattle.act_told_ends.proofs.Common.{TakesKill, letter_of, letter_place, front_whole}
 use Rattle.act_rules.specs.declared.event.Event.TheVariants as event
-use Rattle.act_rules.specs.declared.history.Letter.TheVariants.{Call as CallLetter}
-use Rattle.act_rules.specs.declared.outcome.WorldRefusal.TheVariants.{Submit as SubmitRefused, Handle}
-use Rattle.act_rules.specs.declared.outcome.SubmitRefusal.TheVariants.{NoActor as NoSuchActor, NoHandle as NoCopy, TooManyArgs, BadFuture, TooManyCalls}
 use Rattle.act_rules.proofs.Ended.{not_terminated}
 use Rattle.act_rules.proofs.Retired.{submit_needs}
-use Rattle.act_early.proofs.Worlds.{IsWorld, world, take_needs, or_second}
-use Rattle.act_early.proofs.Items.{IsReady, ready}
-use Rattle.act_early.proofs.Replies.{front_short}
-use Rattle.act_early.proofs.Unanswered.{next_unanswered}
-use Rattle.act_early.proofs.Waiting.{IsAlike, may_take}
-use Rattle.act_told_ends.specs.Told.{Told, IsWalk}
-use Rattle.act_told_ends.specs.Walks.{MayGoOn, Calls, Asks, Steps, Sends, Delivers, Runs, TakesKill, letter_of}
 use Rattle.act_told_ends.proofs.Lists.{fronts_same}
 use Rattle.act_told_ends.proofs.Later.{IsLater}
-use Rattle.act_told_ends.proofs.Covered.{IsAt, calls_told, calls_covered, runs_covered, kept_covered, cast_same, caller_same}
-use Rattle.act_told_ends.proofs.Covered.{bound_alike}
-use Rattle.act_rules.proofs.Letters.{letter_place}
-use Rattle.act_rules.proofs.Lists.{front_whole}
+use Rattle.act_told_ends.proofs.Covered.{IsAt, calls_told, calls_covered, runs_covered, kept_covered, cast_same, caller_same, bound_alike}
 
 -- a walk, and the play that it is held against
 pub record Case : Type 0 where
@@ -181,16 +169,12 @@ kill_goes x p a at may dead last alive =
     let cast : is_some (cast_of a x.g) ≡ true =
     ap (λ (o : Option ActorSpec). is_some o) (cast_same x.casts a p.history x.g w at.setting.world) ∙ needed.0 in
     let live = lives x a at.setting.walk alive in
-    let asked : contains a x.g.asked ≡ true = first (contains a x.g.asked) (is_dead a x.g) (at.covered.asked a needed.2 dead) alive in
+    let asked = either_of (contains a x.g.asked) (is_dead a x.g) (contains a x.g.asked ≡ true) (at.covered.asked a needed.2 dead) (λ e. e)
+    (λ gone. absurd (not_so (is_dead a x.g) gone alive)) in
     let short = front_short (runs_of a p.history) (runs_of a x.g) (runs_covered x.casts x.bound x.told x.done x.plans x.late x.g p a at) in
     TakesKill a dead
     (front_whole (runs_of a x.g) (x.told.runs a) (at.setting.walk.runs a) (subst (λ (items : List RunItem). length items ≤ length (runs_of a x.g)) (sym last) short))
     (rw (cast, live, asked) refl)
-  where
-    first : (y z : Bool) → (y || z) ≡ true → z ≡ false → y ≡ true
-    first true z e f = refl
-    first false true e f = cc
-    first false false e f = cc
 
 -- ---- a caller that isn't bound
 
@@ -202,24 +186,20 @@ with_copy : (b : Bool) (o : Option ℕ) (n count : ℕ) (args : List Arg) (limit
     → needs b NoCaller (option_map SubmitRefused (option_or (submit_refusal o count args) limit)) ≡ None
     → needs b NoCaller (option_map SubmitRefused (option_or (submit_refusal (Some (suc n)) count args) limit)) ≡ None
 with_copy b o n count args limit e =
+    let rest : Option SubmitRefusal =
+    needs (nat_le (length args) 4) TooManyArgs (needs (list_all (is_earlier count) args) BadFuture (needs (nat_lt count 65536) TooManyCalls None)) in
+    let copied : submit_refusal o count args ≡ None → submit_refusal (Some (suc n)) count args ≡ None =
+    λ e. let first = needs-none (is_some o) NoSuchActor (needs (nat_lt 0 (copies_held o)) NoCopy rest) e in
+    let second = needs-none (nat_lt 0 (copies_held o)) NoCopy rest first.1 in
+    let some : nat_lt 0 (suc n) ≡ true = grind (arith, nat_tests) in
+    rw some second.1 in
     let known = needs-none b NoCaller (option_map SubmitRefused (option_or (submit_refusal o count args) limit)) e in
     let none = option_map-none SubmitRefused (option_or (submit_refusal o count args) limit) known.1 in
     let own = option_or-none (submit_refusal o count args) limit none in
     let limited = option_or-none_second (submit_refusal o count args) limit none in
-    allowed b (submit_refusal (Some (suc n)) count args) limit known.0 (copied own) limited
-  where
-    rest : Option SubmitRefusal
-    rest = needs (nat_le (length args) 4) TooManyArgs (needs (list_all (is_earlier count) args) BadFuture (needs (nat_lt count 65536) TooManyCalls None))
-
-    copied : submit_refusal o count args ≡ None → submit_refusal (Some (suc n)) count args ≡ None
-    copied e =
-        let first = needs-none (is_some o) NoSuchActor (needs (nat_lt 0 (copies_held o)) NoCopy rest) e in
-        let second = needs-none (nat_lt 0 (copies_held o)) NoCopy rest first.1 in
-        let some : nat_lt 0 (suc n) ≡ true = grind (arith, nat_tests) in
-        rw some second.1
-
-    allowed : (b : Bool) (o p : Option SubmitRefusal) → b ≡ true → o ≡ None → p ≡ None → needs b NoCaller (option_map SubmitRefused (option_or o p)) ≡ None
-    allowed b o p x y z = rw (x, y, z) refl
+    let one = known.0 in
+    let two = copied own in
+    rw (one, two, limited) refl
 
 -- the walk with the handles of the play
 abbrev held_as : History → History → History
@@ -228,31 +208,22 @@ held_as h g = record g { copied = h.copied; released = h.released }
 may_submit : (x : Case) (p : At) (c a n : ℕ) (method : Method) (args : List Arg) → Here x p → refusal_of p.history (event.Submit c a method args) ≡ None
     → calls_of c x.g ≡ calls_of c p.history → copies_of c a x.g ≡ Some (suc n) → refusal_of x.g (event.Submit c a method args) ≡ None
 may_submit x p c a n method args at may same holds =
-    ap (λ (o : Option ℕ). needs (is_caller c g) NoCaller (option_map SubmitRefused (option_or (submit_refusal o (length (calls_of c g)) args)
-    (limit_refusal (limit_of c a g) (unanswered c a g))))) holds
-    ∙ with_copy (is_caller c g) (copies_of c a (held_as h g)) n (length (calls_of c g)) args (limit_refusal (limit_of c a g) (unanswered c a g))
-    (may_take c (Submit a method args) h (held_as h g) alike (kept_covered x.casts x.bound x.told x.done x.plans x.late x.g p c at) may)
-  where
-    h : History
-    h = p.history
-
-    g : History
-    g = x.g
-
-    w : IsWorld x.casts h
-    w = world x.casts x.plans p at.play
-
-    casts : g.casts ≡ h.casts
-    casts = at.setting.world.casts ∙ sym w.casts
-
-    alike : IsAlike c h (held_as h g)
-    alike = record {
+    let h = p.history in
+    let g = x.g in
+    let w : IsWorld x.casts h = world x.casts x.plans p at.play in
+    let casts : g.casts ≡ h.casts = at.setting.world.casts ∙ sym w.casts in
+    let alike : IsAlike c h (held_as h g) =
+    record {
       caller = caller_same x.casts c h g w at.setting.world;
       calls = same;
       copies = λ b. ap (λ (o : Option ActorSpec). cond (names c o) (Some ((1 + count_pairs c b h.copied) - count_pairs c b h.released)) None)
           (cast_same x.casts b h g w at.setting.world);
       limit = λ b. limit_of-same h g c b casts;
-    }
+    } in
+    ap (λ (o : Option ℕ). needs (is_caller c g) NoCaller (option_map SubmitRefused (option_or (submit_refusal o (length (calls_of c g)) args)
+    (limit_refusal (limit_of c a g) (unanswered c a g))))) holds
+    ∙ with_copy (is_caller c g) (copies_of c a (held_as h g)) n (length (calls_of c g)) args (limit_refusal (limit_of c a g) (unanswered c a g))
+    (may_take c (Submit a method args) h (held_as h g) alike (kept_covered x.casts x.bound x.told x.done x.plans x.late x.g p c at) may)
 
 pub submits : (x : Case) (p : At) (c a : ℕ) (method : Method) (args : List Arg) → Here x p → x.bound c ≡ None
     → refusal_of p.history (event.Submit c a method args) ≡ None → IsLater (add_event p.history (event.Submit c a method args)) x.late.history

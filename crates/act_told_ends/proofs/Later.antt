@@ -1,8 +1,6 @@
 -- What stays while a play goes on: also calls, and what was collected.
-use Rattle.act_early.proofs.Common.{◌≡◌, ℕ, Event, Step, Submit, Copy, Release, Kill, Await, History, calls_of, refusal_of, add_event, IsPrefix}
-use Rattle.act_early.proofs.Common.{None, added_grows, calls_grow, whole_front, front_trans, IsSound, MayTake, after_step}
-use Rattle.act_rules.specs.declared.event.Event.TheVariants as event
-use Rattle.act_early.proofs.Earlier.{IsEarlier, earlier_same, earlier_trans, earlier_event}
+use Rattle.act_told_ends.proofs.Common.{◌≡◌, ℕ, Event, Step, Await, History, calls_of, refusal_of, add_event, IsPrefix, None, added_grows, calls_grow}
+use Rattle.act_told_ends.proofs.Common.{whole_front, front_trans, IsSound, MayTake, after_step, IsEarlier, earlier_same, earlier_trans, earlier_event, event_of}
 
 pub record IsLater (h g : History) : Type 0 where
   pub early : IsEarlier h g
@@ -28,8 +26,5 @@ later_event h other sound may =
     record { early = earlier_event h other sound may; calls = λ c. calls_grow c h (add_event h other) grows; collected = grows.collected }
 
 pub later_step : (c : ℕ) (step : Step) (h : History) → IsSound h → MayTake c step h → IsLater h (after_step c step h)
-later_step c (Submit a method args) h sound may = later_event h (event.Submit c a method args) sound may
-later_step c (Copy a) h sound may = later_event h (event.Copy c a) sound may
-later_step c (Release a) h sound may = later_event h (event.Release c a) sound may
-later_step c (Kill a) h sound may = later_event h (event.AskKill c a) sound may
 later_step c (Await k) h sound may = later_same h
+later_step c step h sound may = later_event h (event_of c step) sound may

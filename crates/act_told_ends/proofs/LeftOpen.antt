@@ -1,18 +1,12 @@
 -- What callers keep where they collected more replies.
-use Rattle.act_early.proofs.Common.{◌≡◌, ℕ, ◌≤◌, Bool, true, false, cond, List, [], ◌∷◌, ◌++◌, length, map, Option, Some, None, inl, inr, ◌⊎◌, refl, ap, sym}
-use Rattle.act_early.proofs.Common.{◌∙◌, subst, arith, Contains, ◌==◌, ◌&&◌, filter, filter_map, slice_get, is_some, is_none, Ok, Err, eqb-true, and_parts}
-use Rattle.act_early.proofs.Common.{append-nil, filter_map-append, Contains-append_left, Contains-append_right, ActorDied, Arg, Settled, RunItem, Submission}
-use Rattle.act_early.proofs.Common.{Post, Answer, calls_to, kept_at, settle, ActorSpec, History, runs_of, calls_of, kept_of, answer_in, answer_of, is_item_of}
-use Rattle.act_early.proofs.Common.{unanswered, kept_at_is, kept_by, slice_get_front, IsSound}
-use Rattle.act_types.specs.declared.call.Arg.TheVariants.{Plain, Fut}
-use Rattle.act_types.specs.declared.call.Settled.TheVariants.{Bad}
-use Rattle.act_rules.specs.Submissions.{settled_future}
-use Rattle.act_rules.specs.declared.history.Post.TheVariants.{Reply as ReplyPost, Death as DeathPost}
-use Rattle.act_told_ends.specs.Told.{Told, Leaves}
-use Rattle.act_told_ends.specs.LeftOpen.{MayStandForKept, IsReplyForDeath}
+use Rattle.act_told_ends.proofs.Common.{◌≡◌, ℕ, ◌≤◌, Bool, true, false, cond, List, [], ◌∷◌, ◌++◌, length, map, Option, Some, None, inl, inr, ◌⊎◌, refl, ap}
+use Rattle.act_told_ends.proofs.Common.{sym, ◌∙◌, subst, arith, Contains, ◌==◌, ◌&&◌, filter, filter_map, slice_get, is_some, is_none, Ok, Err, eqb-true}
+use Rattle.act_told_ends.proofs.Common.{and_parts, append-nil, filter_map-append, Contains-append_left, Contains-append_right, ActorDied, Arg, Settled, RunItem}
+use Rattle.act_told_ends.proofs.Common.{Submission, Post, Answer, calls_to, kept_at, settle, ActorSpec, History, runs_of, calls_of, kept_of, answer_in}
+use Rattle.act_told_ends.proofs.Common.{answer_of, is_item_of, unanswered, kept_at_is, kept_by, slice_get_front, IsSound, Plain, Fut, Bad, settled_future}
+use Rattle.act_told_ends.proofs.Common.{ReplyPost, DeathPost, Told, Leaves, MayStandForKept, IsReplyForDeath, place_in, stands_in, filter_map_alike}
 use Rattle.act_told_ends.proofs.Later.{IsLater}
 use Rattle.act_told_ends.proofs.Lists.{push_at, first_in, some_first}
-use Rattle.act_lists.proofs.Lists.{place_in, stands_in, filter_map_alike}
 
 -- what some events left, and answers that may stand for those
 pub record Open : Type 0 where
@@ -115,17 +109,15 @@ IsNoneOfThose x h c k = (a place : ℕ) (item : RunItem) → slice_get (runs_of 
 put_none : (x : Open) (h : History) (c k b : ℕ) → IsLater h x.last → IsNoneOfThose x h c k → (p : Post) → IsPut x p → answer_in h c k b p ≡ None
 put_none x h c k b later none (DeathPost d a) put = absurd put
 put_none x h c k b later none (ReplyPost d a place) (item, at, caller, is) =
+    let both : (d == c) ≡ true → is_item_of c k (slice_get (runs_of a h) place) ≡ true → ⊥ =
+    λ mine e. let there = item_there c k (slice_get (runs_of a h) place) e in
+    let told : slice_get (x.told.runs a) place ≡ Some there.0 = ap (λ (l : List RunItem). slice_get l place) (sym (x.leaves.runs a))
+    ∙ slice_get_front (runs_of a h) (runs_of a x.last) place there.0 (later.early.runs a) there.1 in
+    let one : there.0 ≡ item = let e : Some there.0 ≡ Some item = sym told ∙ at in cc in
+    none a place there.0 there.1 there.2 there.3
+    (subst (λ (j : ℕ). is_replaced x c j ≡ true) (ap (λ (i : RunItem). i.future) (sym one) ∙ there.3)
+    (subst (λ (e : ℕ). is_replaced x e item.future ≡ true) (eqb-true d c mine) is)) in
     ap (λ (y : Bool). cond y (answer_of a place h) None) (both_false (d == c) (is_item_of c k (slice_get (runs_of a h) place)) both)
-  where
-    both : (d == c) ≡ true → is_item_of c k (slice_get (runs_of a h) place) ≡ true → ⊥
-    both mine e =
-        let there = item_there c k (slice_get (runs_of a h) place) e in
-        let told : slice_get (x.told.runs a) place ≡ Some there.0 = ap (λ (l : List RunItem). slice_get l place) (sym (x.leaves.runs a))
-        ∙ slice_get_front (runs_of a h) (runs_of a x.last) place there.0 (later.early.runs a) there.1 in
-        let one : there.0 ≡ item = let e : Some there.0 ≡ Some item = sym told ∙ at in cc in
-        none a place there.0 there.1 there.2 there.3
-        (subst (λ (j : ℕ). is_replaced x c j ≡ true) (ap (λ (i : RunItem). i.future) (sym one) ∙ there.3)
-        (subst (λ (e : ℕ). is_replaced x e item.future ≡ true) (eqb-true d c mine) is))
 
 pub kept_same : (x : Open) (h : History) (posts : List Post) (c k : ℕ) → IsLater h x.last → IsMore x h.collected posts → IsNoneOfThose x h c k
     → kept_at (kept_of c (with_collected h posts)) k ≡ kept_at (kept_of c h) k
@@ -204,14 +196,13 @@ pub settled_same : (x : Open) (h : History) (posts : List Post) (c : ℕ) (args 
     → map (settle (kept_of c (with_collected h posts))) args ≡ map (settle (kept_of c h)) args
 settled_same x h posts c [] later more failed = refl
 settled_same x h posts c (arg ∷ args) later more failed =
+    let later_one : (j : ℕ) → Contains (map (settle (kept_of c h)) args) (Bad j) → Contains (map (settle (kept_of c h)) (arg ∷ args)) (Bad j) =
+    λ j has. Contains-append_right (settle (kept_of c h) arg ∷ []) (map (settle (kept_of c h)) args) (Bad j) has in
     ap (λ (s : Settled). s ∷ map (settle (kept_of c g)) args) (one arg (λ j e is. failed j (0, omega arith, e) is))
     ∙ ap (λ (l : List Settled). settle (kept_of c h) arg ∷ l) (settled_same x h posts c args later more (λ j has is. failed j (later_one j has) is))
   where
     g : History
     g = with_collected h posts
-
-    later_one : (j : ℕ) → Contains (map (settle (kept_of c h)) args) (Bad j) → Contains (map (settle (kept_of c h)) (arg ∷ args)) (Bad j)
-    later_one j has = Contains-append_right (settle (kept_of c h) arg ∷ []) (map (settle (kept_of c h)) args) (Bad j) has
 
     one : (arg : Arg) → ((j : ℕ) → settle (kept_of c h) arg ≡ Bad j → is_replaced x c j ≡ true → settled_future j (kept_at (kept_of c g) j) ≡ Bad j)
         → settle (kept_of c g) arg ≡ settle (kept_of c h) arg

@@ -1,19 +1,14 @@
 -- Where replies may stand for deaths that are told, some events end with them.
-use Rattle.act_early.proofs.Common.{◌≡◌, ℕ, Bool, true, false, cond, List, [], ◌∷◌, ◌++◌, length, map, Option, Some, None, inl, inr, refl, ap, sym, ◌∙◌}
-use Rattle.act_early.proofs.Common.{subst, append_assoc, append-nil, All, All-cons, All-nil, All-append, Contains, slice_get, is_some, IsOk, Event, RunItem}
-use Rattle.act_early.proofs.Common.{Step, Release, Kill, Await, Answer, kept_at, ActorSpec, History, opening, calls_of, runs_of, kept_of}
-use Rattle.act_early.proofs.Common.{is_dead, is_retired, next_item, refusal_of, add_event, outcomes, Outcome, after, after_all, history, after_all-append}
-use Rattle.act_early.proofs.Common.{outcomes-append, IsSound, sound_step, world_sound, after_all_keeps, added_grows, is_step_by, AreOthers, DoesStepBy}
-use Rattle.act_early.proofs.Common.{DoesStepsBy}
+use Rattle.act_told_ends.proofs.Common.{◌≡◌, ℕ, Bool, true, false, cond, List, [], ◌∷◌, ◌++◌, length, map, Option, Some, None, inl, inr, refl, ap, sym, ◌∙◌}
+use Rattle.act_told_ends.proofs.Common.{subst, append_assoc, append-nil, All, All-cons, All-nil, All-append, Contains, slice_get, is_some, IsOk, Event, RunItem}
+use Rattle.act_told_ends.proofs.Common.{Step, Release, Kill, Await, Answer, kept_at, ActorSpec, History, opening, calls_of, runs_of, kept_of, is_dead}
+use Rattle.act_told_ends.proofs.Common.{is_retired, next_item, refusal_of, add_event, outcomes, Outcome, after, after_all, history, after_all-append}
+use Rattle.act_told_ends.proofs.Common.{outcomes-append, IsSound, sound_step, world_sound, after_all_keeps, added_grows, is_step_by, AreOthers, DoesStepBy}
+use Rattle.act_told_ends.proofs.Common.{Post, DeathPost, same_kept, kept_long, none_others, others_first, others_rest, Told, EndsAsTold, MayStandForKept}
+use Rattle.act_told_ends.proofs.Common.{with_kept}
 use Rattle.act_rules.specs.declared.event.Event.TheVariants as event
-use Rattle.act_rules.specs.declared.history.Post.{Post}
-use Rattle.act_rules.specs.declared.history.Post.TheVariants.{Death as DeathPost}
-use Rattle.act_early.proofs.Ending.{same_kept, kept_long}
-use Rattle.act_early.proofs.Shifting.{none_others, others_first, others_rest}
-use Rattle.act_told_ends.specs.Told.{Told, EndsAsTold}
-use Rattle.act_told_ends.specs.LeftOpen.{MayStandForKept, with_kept}
 use Rattle.act_told_ends.proofs.Later.{IsLater, later_same, later_trans}
-use Rattle.act_told_ends.proofs.Standing.{first_ok, rest_ok, after_is, front_ok, all_later, history_more}
+use Rattle.act_told_ends.proofs.Along.{first_ok, rest_ok, after_is, all_later, IsSplit, split_front, split_later, does_all}
 use Rattle.act_told_ends.proofs.Sent.{none_sent}
 use Rattle.act_told_ends.proofs.LeftOpen.{Open, is_replaced, replaced, unreplaced, more_none, with_collected, kept_unreplaced, kept_more}
 use Rattle.act_told_ends.proofs.LeftOpenEvents.{IsBeside}
@@ -41,6 +36,17 @@ along : (x : Open) (h : History) (posts : List Post) (events : List Event) → I
     → IsLater (after_all h events) x.last → IsAlong x h posts events
 along x h posts [] b ok later = record { ok = All-nil IsOk; next = posts; left = refl; beside = b }
 along x h posts (other ∷ events) b ok later =
+    let g = with_collected h posts in
+    let own : List Event = other ∷ extra x h other in
+    let may : refusal_of h other ≡ None = first_ok h other events ok in
+    let is : after h other ≡ add_event h other = after_is h other may in
+    let sound_next : IsSound (after h other) = subst (λ (k : History). IsSound k) (sym is) (sound_step h other b.sound may) in
+    let next_later : IsLater (add_event h other) x.last =
+    subst (λ (k : History). IsLater k x.last) is
+    (later_trans (after h other) (after_all (after h other) events) x.last (all_later (after h other) events sound_next (rest_ok h other events ok)) later) in
+    let one : Goes x h posts other (extra x h other) (add_event h other) = event_goes x h posts other b may next_later in
+    let there : after_all g own ≡ with_collected (after h other) one.after = one.left ∙ ap (λ (k : History). with_collected k one.after) (sym is) in
+    let beside_next : IsBeside x (after h other) one.after = subst (λ (k : History). IsBeside x k one.after) (sym is) one.beside in
     let rest = along x (after h other) one.after events beside_next (rest_ok h other events ok) later in
     record {
       ok = subst (λ (l : List Outcome). All IsOk l) (sym (outcomes-append g own (put_all x (after h other) events)))
@@ -51,34 +57,6 @@ along x h posts (other ∷ events) b ok later =
           ∙ ap (λ (k : History). after_all k (put_all x (after h other) events)) there ∙ rest.left;
       beside = rest.beside;
     }
-  where
-    g : History
-    g = with_collected h posts
-
-    own : List Event
-    own = other ∷ extra x h other
-
-    may : refusal_of h other ≡ None
-    may = first_ok h other events ok
-
-    is : after h other ≡ add_event h other
-    is = after_is h other may
-
-    sound_next : IsSound (after h other)
-    sound_next = subst (λ (k : History). IsSound k) (sym is) (sound_step h other b.sound may)
-
-    next_later : IsLater (add_event h other) x.last
-    next_later = subst (λ (k : History). IsLater k x.last) is
-        (later_trans (after h other) (after_all (after h other) events) x.last (all_later (after h other) events sound_next (rest_ok h other events ok)) later)
-
-    one : Goes x h posts other (extra x h other) (add_event h other)
-    one = event_goes x h posts other b may next_later
-
-    there : after_all g own ≡ with_collected (after h other) one.after
-    there = one.left ∙ ap (λ (k : History). with_collected k one.after) (sym is)
-
-    beside_next : IsBeside x (after h other) one.after
-    beside_next = subst (λ (k : History). IsBeside x k one.after) (sym is) one.beside
 
 -- ---- a bound caller's steps
 
@@ -104,24 +82,6 @@ others_put x c h (other ∷ events) others = All-append (λ (o : Event). is_step
 abbrev before_of : Open → List Event → List Event
 before_of x before = put_all x (opening x.casts) before
 
--- these are the first of the events that were done
-record AreFirst (x : Open) (before events : List Event) : Type 0 where
-  ok : All IsOk (outcomes (opening x.casts) (before ++ events))
-  later : IsLater (history x.casts (before ++ events)) x.last
-
-first_later : (x : Open) (before events : List Event) → AreFirst x before events → IsLater (history x.casts before) x.last
-first_later x before events s = later_trans (history x.casts before) (after_all (history x.casts before) events) x.last
-    (all_later (history x.casts before) events (world_sound x.casts before) (front_ok (opening x.casts) before events s.ok).1)
-    (subst (λ (g : History). IsLater g x.last) (history_more x.casts before events) s.later)
-
-first_more : (x : Open) (before more events : List Event) → AreFirst x before (more ++ events) → AreFirst x (before ++ more) events
-first_more x before more events s =
-    let joined : before ++ (more ++ events) ≡ (before ++ more) ++ events = sym (append_assoc before more events) in
-    record {
-      ok = subst (λ (l : List Event). All IsOk (outcomes (opening x.casts) l)) joined s.ok;
-      later = subst (λ (l : List Event). IsLater (history x.casts l) x.last) joined s.later;
-    }
-
 opens_beside : (x : Open) → IsLater (opening x.casts) x.last → IsBeside x (opening x.casts) []
 opens_beside x later = record {
   sound = world_sound x.casts [];
@@ -133,18 +93,16 @@ opens_beside x later = record {
   given = λ c k a place item put e. cc;
 }
 
-first_along : (x : Open) (before events : List Event) → AreFirst x before events → IsAlong x (opening x.casts) [] before
-first_along x before events s = along x (opening x.casts) [] before (opens_beside x opens) ok (first_later x before events s)
-  where
-    ok : All IsOk (outcomes (opening x.casts) before)
-    ok = (front_ok (opening x.casts) before events s.ok).0
-
-    opens : IsLater (opening x.casts) x.last
-    opens = later_trans (opening x.casts) (history x.casts before) x.last (all_later (opening x.casts) before (world_sound x.casts []) ok)
-        (first_later x before events s)
+first_along : (x : Open) (before events : List Event) → IsSplit x.casts x.last before events → IsAlong x (opening x.casts) [] before
+first_along x before events s =
+    let ok : All IsOk (outcomes (opening x.casts) before) = split_front x.casts x.last before events s in
+    let opens : IsLater (opening x.casts) x.last =
+    later_trans (opening x.casts) (history x.casts before) x.last (all_later (opening x.casts) before (world_sound x.casts []) ok)
+    (split_later x.casts x.last before events s) in
+    along x (opening x.casts) [] before (opens_beside x opens) ok (split_later x.casts x.last before events s)
 
 -- one step of a bound caller
-does_one : (x : Open) (c : ℕ) (step : Step) (before done events : List Event) → AreFirst x before events → DoesStepBy x.casts c step before done
+does_one : (x : Open) (c : ℕ) (step : Step) (before done events : List Event) → IsSplit x.casts x.last before events → DoesStepBy x.casts c step before done
     → DoesStepBy x.casts c step (before_of x before) (put_all x (history x.casts before) done)
 does_one x c (Kill a) before done events s (inl asked) = inl (ap (put_all x (history x.casts before)) asked)
 does_one x c (Kill a) before done events s (inr dead) =
@@ -161,71 +119,33 @@ does_one x c (Await k) before done events s does =
     )
 does_one x c step before done events s does = ap (put_all x (history x.casts before)) does
 
-before_more : (x : Open) (before more : List Event) → before_of x (before ++ more) ≡ before_of x before ++ put_all x (history x.casts before) more
-before_more x before more = put_all-append x (opening x.casts) before more
-
-does_all : (x : Open) (c : ℕ) (steps : List Step) (before events : List Event) → AreFirst x before events → DoesStepsBy x.casts c steps before events
-    → DoesStepsBy x.casts c steps (before_of x before) (put_all x (history x.casts before) events)
-does_all x c [] before events s does = others_put x c (history x.casts before) events does
-does_all x c (step ∷ steps) before events s (first, done, later, split, others, does, rest) = (
-  first_there,
-  done_there,
-  later_there,
-  ap (put_all x h) split ∙ put_all-append x h (first ++ done) later
-      ∙ ap (λ (l : List Event). l ++ put_all x (after_all h (first ++ done)) later) (put_all-append x h first done)
-      ∙ ap (λ (l : List Event). (first_there ++ l) ++ put_all x (after_all h (first ++ done)) later) done_is
-      ∙ ap (λ (g : History). (first_there ++ done_there) ++ put_all x g later) (sym end_is),
-  others_put x c h first others,
-  subst (λ (l : List Event). DoesStepBy x.casts c step l done_there) (before_more x before first)
-      (does_one x c step (before ++ first) done (done ++ later) one does),
-  subst (λ (l : List Event). DoesStepsBy x.casts c steps l later_there)
-      (before_more x (before ++ first) done ∙ ap (λ (l : List Event). l ++ done_there) (before_more x before first))
-      (does_all x c steps ((before ++ first) ++ done) later (first_more x (before ++ first) done later one) rest),
-)
-  where
-    h : History
-    h = history x.casts before
-
-    first_there : List Event
-    first_there = put_all x h first
-
-    done_there : List Event
-    done_there = put_all x (history x.casts (before ++ first)) done
-
-    later_there : List Event
-    later_there = put_all x (history x.casts ((before ++ first) ++ done)) later
-
-    done_is : put_all x (after_all h first) done ≡ done_there
-    done_is = ap (λ (g : History). put_all x g done) (sym (history_more x.casts before first))
-
-    end_is : history x.casts ((before ++ first) ++ done) ≡ after_all h (first ++ done)
-    end_is = ap (history x.casts) (append_assoc before first done) ∙ history_more x.casts before (first ++ done)
-
-    one : AreFirst x (before ++ first) (done ++ later)
-    one = first_more x before first (done ++ later) (subst (λ (l : List Event). AreFirst x before l) (split ∙ append_assoc first done later) s)
-
 -- ---- the law
 
 -- where some events end as is told, some end with any answers that may stand for those that are told
 pub may_be_replies : (casts : List ActorSpec) (bound : ℕ → Option (List Step)) (told : Told) (kept : ℕ → List (Option Answer)) (events : List Event)
     → EndsAsTold casts bound told events → MayStandForKept casts told kept → (others : List Event) × EndsAsTold casts bound (with_kept kept told) others
-may_be_replies casts bound told kept events ends stand = (
-  before_of x events,
-  record {
-    accepted = all.ok;
-    leaves = record {
-      calls = λ c. ap (calls_of c) all.left ∙ ends.leaves.calls c;
-      kept = λ c. ap (kept_of c) all.left ∙ same_kept (kept_of c g) (kept c) (long c) (at c);
-      runs = λ a. ap (runs_of a) all.left ∙ ends.leaves.runs a;
-      dead = λ a. ap (is_dead a) all.left ∙ ends.leaves.dead a;
-    };
-    retired = λ a. ap (is_retired a) all.left ∙ ends.retired a;
-    does = λ c steps is. (
-      (ends.does c steps is).0,
-      does_all x c (steps ++ map (λ a. Release a) (ends.does c steps is).0) [] events whole (ends.does c steps is).1,
-    );
-  },
-)
+may_be_replies casts bound told kept events ends stand =
+    let whole : IsSplit casts h [] events = record { ok = ends.accepted; later = later_same h } in
+    let long : (c : ℕ) → length (kept_of c g) ≡ length (kept c) =
+    λ c. kept_long c g h refl ∙ ap (λ (l : List (Option Answer)). length l) (ends.leaves.kept c) ∙ sym (stand c).0 in (
+      before_of x events,
+      record {
+        accepted = all.ok;
+        leaves = record {
+          calls = λ c. ap (calls_of c) all.left ∙ ends.leaves.calls c;
+          kept = λ c. ap (kept_of c) all.left ∙ same_kept (kept_of c g) (kept c) (long c) (at c);
+          runs = λ a. ap (runs_of a) all.left ∙ ends.leaves.runs a;
+          dead = λ a. ap (is_dead a) all.left ∙ ends.leaves.dead a;
+        };
+        retired = λ a. ap (is_retired a) all.left ∙ ends.retired a;
+        does = λ c steps is. (
+          (ends.does c steps is).0,
+          does_all casts h (put_all x) c (put_all-append x) (others_put x c)
+              (λ step before done rest s does. does_one x c step before done (done ++ rest) s does)
+              (steps ++ map (λ a. Release a) (ends.does c steps is).0) [] events whole (ends.does c steps is).1,
+        );
+      },
+    )
   where
     h : History
     h = history casts events
@@ -236,9 +156,6 @@ may_be_replies casts bound told kept events ends stand = (
     x : Open
     x = record { casts = casts; told = told; kept = kept; last = h; opened = opened; sound = world_sound casts events; leaves = ends.leaves; stand = stand }
 
-    whole : AreFirst x [] events
-    whole = record { ok = ends.accepted; later = later_same h }
-
     all : IsAlong x (opening casts) [] events
     all = first_along x events [] (record {
       ok = subst (λ (l : List Event). All IsOk (outcomes (opening casts) l)) (sym (append-nil events)) ends.accepted;
@@ -247,9 +164,6 @@ may_be_replies casts bound told kept events ends stand = (
 
     g : History
     g = with_collected h all.next
-
-    long : (c : ℕ) → length (kept_of c g) ≡ length (kept c)
-    long c = kept_long c g h refl ∙ ap (λ (l : List (Option Answer)). length l) (ends.leaves.kept c) ∙ sym (stand c).0
 
     at : (c k : ℕ) → kept_at (kept_of c g) k ≡ kept_at (kept c) k
     at c k = go (is_replaced x c k) refl

@@ -1,23 +1,16 @@
 -- An event where more replies were collected: it is accepted, too, and leaves the same but for these.
-use Rattle.act_early.proofs.Common.{◌≡◌, ℕ, Bool, true, false, cond, List, [], ◌∷◌, length, map, Option, Some, None, refl, ap, sym, ◌∙◌, subst, arith, ◌||◌}
-use Rattle.act_early.proofs.Common.{not, nat_lt, slice_get, option_map, is_some, list_all, and_parts, and_from, nat_tests, Arg, Method, Settled, Event}
-use Rattle.act_early.proofs.Common.{RunItem, Submission, Post, Letter, Answer, NoCaller, Sending, SubmitRefusal, PendingLimit, calls_to, kept_at, is_known}
-use Rattle.act_early.proofs.Common.{settle, needs, send_refusal, submit_refusal, limit_refusal, History, is_caller, calls_of, copies_of, limit_of, runs_of}
-use Rattle.act_early.proofs.Common.{kept_of, has_letter, ran_count, run_item, next_item, refusal_of, add_event, after_run, and_also, unanswered, call_letter}
-use Rattle.act_early.proofs.Common.{was_sent, deliver_refusal, needs-none, option_map-none, option_or-none, option_or-none_second, slice_get_front}
-use Rattle.act_early.proofs.Common.{run_stands, kept_step, added_grows, IsSound, sound_step, IsNext, next_item_is, Contains, Ok, Err, answers_are}
-use Rattle.std.specs.Option.{option_or}
-use Rattle.act_rules.specs.Submissions.{settled_future}
-use Rattle.act_types.specs.declared.call.Arg.TheVariants.{Plain, Fut}
-use Rattle.act_types.specs.declared.call.Settled.TheVariants.{Bad}
+use Rattle.act_told_ends.proofs.Common.{◌≡◌, ℕ, Bool, true, false, cond, List, [], ◌∷◌, length, map, Option, Some, None, refl, ap, sym, ◌∙◌, subst, arith, ◌||◌}
+use Rattle.act_told_ends.proofs.Common.{not, nat_lt, slice_get, option_map, is_some, list_all, and_parts, and_from, nat_tests, Arg, Method, Settled, Event}
+use Rattle.act_told_ends.proofs.Common.{RunItem, Submission, Post, Letter, Answer, NoCaller, Sending, SubmitRefusal, PendingLimit, calls_to, kept_at, is_known}
+use Rattle.act_told_ends.proofs.Common.{settle, needs, send_refusal, submit_refusal, limit_refusal, History, is_caller, calls_of, copies_of, limit_of, runs_of}
+use Rattle.act_told_ends.proofs.Common.{kept_of, has_letter, ran_count, run_item, next_item, refusal_of, add_event, after_run, and_also, unanswered}
+use Rattle.act_told_ends.proofs.Common.{call_letter, was_sent, deliver_refusal, needs-none, option_map-none, option_or-none, option_or-none_second}
+use Rattle.act_told_ends.proofs.Common.{slice_get_front, run_stands, kept_step, added_grows, IsSound, sound_step, IsNext, next_item_is, Contains, Ok, Err}
+use Rattle.act_told_ends.proofs.Common.{answers_are, option_or, settled_future, Plain, Fut, Bad, CallLetter, SubmitRefused, NotReady, Answered}
 use Rattle.act_rules.specs.declared.event.Event.TheVariants as event
-use Rattle.act_rules.specs.declared.history.Letter.TheVariants.{Call as CallLetter}
-use Rattle.act_rules.specs.declared.outcome.WorldRefusal.TheVariants.{Submit as SubmitRefused}
-use Rattle.act_rules.specs.declared.outcome.SendRefusal.TheVariants.{NotReady, Answered}
 use Rattle.act_told_ends.proofs.Later.{IsLater}
 use Rattle.act_told_ends.proofs.Sent.{AreSent, sent_step, was_mailed}
-use Rattle.act_told_ends.proofs.LeftOpen.{Open, is_replaced, replaced, IsMore, more_both, with_collected, kept_same, kept_more}
-use Rattle.act_told_ends.proofs.LeftOpen.{unanswered_less, settled_same}
+use Rattle.act_told_ends.proofs.LeftOpen.{Open, is_replaced, replaced, IsMore, more_both, with_collected, kept_same, kept_more, unanswered_less, settled_same}
 use Rattle.act_rules.proofs.Events.{run_collected}
 
 -- more replies were collected, and by now each that stands for a death of a call that ran
@@ -35,19 +28,16 @@ pub record IsBeside (x : Open) (h : History) (posts : List Post) : Type 0 where
 
 submit_may : (x : Open) (h : History) (posts : List Post) (c a : ℕ) (method : Method) (args : List Arg) → IsMore x h.collected posts
     → refusal_of h (event.Submit c a method args) ≡ None → refusal_of (with_collected h posts) (event.Submit c a method args) ≡ None
-submit_may x h posts c a method args more may = allowed (is_caller c h) own known.0
+submit_may x h posts c a method args more may =
+    let own : Option SubmitRefusal = submit_refusal (copies_of c a h) (length (calls_of c h)) args in
+    let known : (is_caller c h ≡ true) × (option_map SubmitRefused (option_or own (limit_refusal (limit_of c a h) (unanswered c a h))) ≡ None) =
+    needs-none (is_caller c h) NoCaller (option_map SubmitRefused (option_or own (limit_refusal (limit_of c a h) (unanswered c a h)))) may in
+    let none : option_or own (limit_refusal (limit_of c a h) (unanswered c a h)) ≡ None =
+    option_map-none SubmitRefused (option_or own (limit_refusal (limit_of c a h) (unanswered c a h))) known.1 in
+    allowed (is_caller c h) own known.0
     (option_or-none own (limit_refusal (limit_of c a h) (unanswered c a h)) none)
     (limited (limit_of c a h) (option_or-none_second own (limit_refusal (limit_of c a h) (unanswered c a h)) none))
   where
-    own : Option SubmitRefusal
-    own = submit_refusal (copies_of c a h) (length (calls_of c h)) args
-
-    known : (is_caller c h ≡ true) × (option_map SubmitRefused (option_or own (limit_refusal (limit_of c a h) (unanswered c a h))) ≡ None)
-    known = needs-none (is_caller c h) NoCaller (option_map SubmitRefused (option_or own (limit_refusal (limit_of c a h) (unanswered c a h)))) may
-
-    none : option_or own (limit_refusal (limit_of c a h) (unanswered c a h)) ≡ None
-    none = option_map-none SubmitRefused (option_or own (limit_refusal (limit_of c a h) (unanswered c a h))) known.1
-
     limited : (o : Option ℕ) → limit_refusal o (unanswered c a h) ≡ None → limit_refusal o (unanswered c a (with_collected h posts)) ≡ None
     limited None e = refl
     limited (Some limit) e =
@@ -203,23 +193,20 @@ pub beside_next : (x : Open) (h : History) (posts : List Post) (other : Event) �
     → IsLater (add_event h other) x.last → ((a place : ℕ) (item : RunItem) → slice_get (runs_of a (add_event h other)) place ≡ Some item
     → is_replaced x item.caller item.future ≡ true → slice_get (runs_of a h) place ≡ Some item)
     → IsBeside x (add_event h other) (next_posts h posts other)
-beside_next x h posts other b may later old = record {
-  sound = sound_step h other b.sound may;
-  sent = sent_step h other b.sent may;
-  opened = (added_grows h other).casts ∙ b.opened;
-  later = later;
-  other = subst (λ (k : History). IsSound k) there.left (sound_step g other b.other there.may);
-  more = there.more;
-  given = λ c k a place item put at caller future. given_stays x g (with_collected (add_event h other) (next_posts h posts other)) other c k b.other there.may
-      there.left put (b.given c k a place item put (old a place item at (turned c k item caller future put)) caller future);
-}
-  where
-    g : History
-    g = with_collected h posts
-
-    there : IsThere x h posts other
-    there = event_there x h posts other b may later
-
-    turned : (c k : ℕ) (item : RunItem) → item.caller ≡ c → item.future ≡ k → is_replaced x c k ≡ true → is_replaced x item.caller item.future ≡ true
-    turned c k item caller future put = subst (λ (j : ℕ). is_replaced x item.caller j ≡ true) (sym future)
-        (subst (λ (d : ℕ). is_replaced x d k ≡ true) (sym caller) put)
+beside_next x h posts other b may later old =
+    let g = with_collected h posts in
+    let there : IsThere x h posts other = event_there x h posts other b may later in
+    let turned : (c k : ℕ) (item : RunItem) → item.caller ≡ c → item.future ≡ k → is_replaced x c k ≡ true → is_replaced x item.caller item.future ≡ true =
+    λ c k item caller future put. subst (λ (j : ℕ). is_replaced x item.caller j ≡ true) (sym future)
+    (subst (λ (d : ℕ). is_replaced x d k ≡ true) (sym caller) put) in
+    record {
+      sound = sound_step h other b.sound may;
+      sent = sent_step h other b.sent may;
+      opened = (added_grows h other).casts ∙ b.opened;
+      later = later;
+      other = subst (λ (k : History). IsSound k) there.left (sound_step g other b.other there.may);
+      more = there.more;
+      given = λ c k a place item put at caller future. given_stays x g
+          (with_collected (add_event h other) (next_posts h posts other)) other c k b.other there.may
+          there.left put (b.given c k a place item put (old a place item at (turned c k item caller future put)) caller future);
+    }

@@ -1,24 +1,20 @@
 -- Once a call ran whose reply stands for a death, its reply is collected.
-use Rattle.act_early.proofs.Common.{◌≡◌, ℕ, Bool, true, false, cond, List, [], ◌∷◌, ◌++◌, length, All, All-cons, All-nil, IsOk, Option, Some, None, inl, inr}
-use Rattle.act_early.proofs.Common.{◌⊎◌, refl, ap, sym, ◌∙◌, subst, ◌==◌, filter_map, slice_get, option_map, option_and_then, find, eq-eqb, and_from}
-use Rattle.act_early.proofs.Common.{append-nil, filter_map-append, Event, RunItem, Submission, Post, Answer, KindState, answer_at, kept_at, ActorSpec}
-use Rattle.act_early.proofs.Common.{History, opening, opening_of, calls_of, runs_of, kept_of, next_item, answer_in, answer_of, is_item_of, ran_count}
-use Rattle.act_early.proofs.Common.{refusal_of, add_event, after_run, and_also, after, after_all, outcome_by, outcome_of, outcomes, under-push}
-use Rattle.act_early.proofs.Common.{slice_get_last, slice_get_front, run_stands, run_needs, next_item_caller, kept_at_is, kept_by, answer_at-front}
-use Rattle.act_early.proofs.Common.{answer_in_stays, added_grows, filter_map-same, All_weaker, IsSound, sound_step, IsSoundPost, one_place, IsNext}
-use Rattle.act_early.proofs.Common.{next_item_is, calls_to-at, Grows}
+use Rattle.act_told_ends.proofs.Common.{◌≡◌, ℕ, Bool, true, false, cond, List, [], ◌∷◌, ◌++◌, length, All, All-cons, All-nil, IsOk, Option, Some, None, refl}
+use Rattle.act_told_ends.proofs.Common.{ap, sym, ◌∙◌, subst, ◌==◌, filter_map, slice_get, option_map, option_and_then, find, eq-eqb, and_from}
+use Rattle.act_told_ends.proofs.Common.{filter_map-append, Event, RunItem, Submission, Post, Answer, KindState, answer_at, kept_at, ActorSpec, History, opening}
+use Rattle.act_told_ends.proofs.Common.{opening_of, calls_of, runs_of, kept_of, next_item, answer_in, answer_of, is_item_of, ran_count, refusal_of, add_event}
+use Rattle.act_told_ends.proofs.Common.{after_run, and_also, after, after_all, outcome_by, outcome_of, outcomes, slice_get_last, slice_get_front, run_stands}
+use Rattle.act_told_ends.proofs.Common.{run_needs, next_item_caller, kept_at_is, kept_by, answer_at-front, answer_in_stays, added_grows, filter_map-same}
+use Rattle.act_told_ends.proofs.Common.{All_weaker, IsSound, sound_step, IsSoundPost, one_place, IsNext, next_item_is, calls_to-at, Grows, ReplyPost}
+use Rattle.act_told_ends.proofs.Common.{WorldRefusal, next_unanswered, IsReplyForDeath, not_so}
 use Rattle.act_rules.specs.declared.event.Event.TheVariants as event
-use Rattle.act_rules.specs.declared.history.Post.TheVariants.{Reply as ReplyPost}
-use Rattle.act_rules.specs.declared.outcome.WorldRefusal.{WorldRefusal}
-use Rattle.act_early.proofs.Unanswered.{next_unanswered}
-use Rattle.act_told_ends.specs.LeftOpen.{IsReplyForDeath}
 use Rattle.act_told_ends.proofs.Later.{IsLater}
-use Rattle.act_told_ends.proofs.Lists.{push_at}
-use Rattle.act_told_ends.proofs.Standing.{after_is}
+use Rattle.act_told_ends.proofs.Along.{after_is}
 use Rattle.act_told_ends.proofs.Sent.{AreSent, sent_step}
 use Rattle.act_told_ends.proofs.LeftOpen.{Open, is_replaced, replaced, IsPut, more_put, with_collected, answer_same}
 use Rattle.act_told_ends.proofs.LeftOpenEvents.{IsBeside, event_there, next_posts, next_same, given_stays, beside_next}
 use Rattle.act_told_ends.proofs.Resting.{collect_may}
+use Rattle.act_told_ends.proofs.Posted.{ran_each}
 
 -- ---- what is done then
 
@@ -100,41 +96,36 @@ is_put x h posts a c item r = (
 -- its reply is the answer that stands for the death
 own_answer : (x : Open) (h : History) (posts : List Post) (a c : ℕ) (item : RunItem) (r : IsRunOf x h posts a c item)
     → answer_of a (length (runs_of a h)) (ran h a c item) ≡ kept_at (x.kept c) item.future
-own_answer x h posts a c item r = go (opening_of a (ran h a c item)) ∙ opens ∙ sym there ∙ told ∙ reply.3.is ∙ sym reply.2
+own_answer x h posts a c item r =
+    let caller : item.caller ≡ c = next_item_caller a c h item r.is in
+    let reply : IsReplyForDeath x.casts x.told x.kept c item.future = replaced x c item.future r.put in
+    -- the call ran there
+    let same : (reply.3.actor ≡ a) × (reply.3.place ≡ n) =
+    one_place x.last c item.future a n reply.3.actor reply.3.place item reply.3.item x.sound.order (item_told x h posts a c item r) caller refl
+    (ap (λ (l : List RunItem). slice_get l reply.3.place) (x.leaves.runs reply.3.actor) ∙ reply.3.at) reply.3.caller reply.3.future in
+    let opens : option_and_then (λ (state : KindState). answer_at state (runs_of a x.last) n) (opening_of a (ran h a c item))
+    ≡ option_and_then (λ (state : KindState). answer_at state (runs_of a x.last) n) (opening_of a (opening x.casts)) =
+    ap (λ (casts : List ActorSpec). option_and_then (λ (state : KindState). answer_at state (runs_of a x.last) n)
+    (option_map (λ (cast : ActorSpec). cast.opening) (find (λ (cast : ActorSpec). cast.actor == a) casts))) r.beside.opened in
+    let there : option_and_then (λ (state : KindState). answer_at state (runs_of reply.3.actor x.last) reply.3.place)
+    (opening_of reply.3.actor (opening x.casts))
+    ≡ option_and_then (λ (state : KindState). answer_at state (runs_of a x.last) n) (opening_of a (opening x.casts)) =
+    ap (λ (b : ℕ). option_and_then (λ (state : KindState). answer_at state (runs_of b x.last) reply.3.place) (opening_of b (opening x.casts))) same.0
+    ∙ ap (λ (place : ℕ). option_and_then (λ (state : KindState). answer_at state (runs_of a x.last) place) (opening_of a (opening x.casts))) same.1 in
+    let told : option_and_then (λ (state : KindState). answer_at state (runs_of reply.3.actor x.last) reply.3.place)
+    (opening_of reply.3.actor (opening x.casts))
+    ≡ option_and_then (λ (state : KindState). answer_at state (x.told.runs reply.3.actor) reply.3.place) (opening_of reply.3.actor (opening x.casts)) =
+    ap (λ (l : List RunItem). option_and_then (λ (state : KindState). answer_at state l reply.3.place) (opening_of reply.3.actor (opening x.casts)))
+    (x.leaves.runs reply.3.actor) in
+    go (opening_of a (ran h a c item)) ∙ opens ∙ sym there ∙ told ∙ reply.3.is ∙ sym reply.2
   where
     n : ℕ
     n = length (runs_of a h)
-
-    caller : item.caller ≡ c
-    caller = next_item_caller a c h item r.is
-
-    reply : IsReplyForDeath x.casts x.told x.kept c item.future
-    reply = replaced x c item.future r.put
-
-    -- the call ran there
-    same : (reply.3.actor ≡ a) × (reply.3.place ≡ n)
-    same = one_place x.last c item.future a n reply.3.actor reply.3.place item reply.3.item x.sound.order (item_told x h posts a c item r) caller refl
-        (ap (λ (l : List RunItem). slice_get l reply.3.place) (x.leaves.runs reply.3.actor) ∙ reply.3.at) reply.3.caller reply.3.future
 
     go : (o : Option KindState) → option_and_then (λ (state : KindState). answer_at state (runs_of a (ran h a c item)) n) o
         ≡ option_and_then (λ (state : KindState). answer_at state (runs_of a x.last) n) o
     go None = refl
     go (Some state) = sym (answer_at-front state (runs_of a (ran h a c item)) (runs_of a x.last) n item (r.later.early.runs a) (run_stands a h.ran item))
-
-    opens : option_and_then (λ (state : KindState). answer_at state (runs_of a x.last) n) (opening_of a (ran h a c item))
-        ≡ option_and_then (λ (state : KindState). answer_at state (runs_of a x.last) n) (opening_of a (opening x.casts))
-    opens = ap (λ (casts : List ActorSpec). option_and_then (λ (state : KindState). answer_at state (runs_of a x.last) n)
-        (option_map (λ (cast : ActorSpec). cast.opening) (find (λ (cast : ActorSpec). cast.actor == a) casts))) r.beside.opened
-
-    there : option_and_then (λ (state : KindState). answer_at state (runs_of reply.3.actor x.last) reply.3.place) (opening_of reply.3.actor (opening x.casts))
-        ≡ option_and_then (λ (state : KindState). answer_at state (runs_of a x.last) n) (opening_of a (opening x.casts))
-    there = ap (λ (b : ℕ). option_and_then (λ (state : KindState). answer_at state (runs_of b x.last) reply.3.place) (opening_of b (opening x.casts))) same.0
-        ∙ ap (λ (place : ℕ). option_and_then (λ (state : KindState). answer_at state (runs_of a x.last) place) (opening_of a (opening x.casts))) same.1
-
-    told : option_and_then (λ (state : KindState). answer_at state (runs_of reply.3.actor x.last) reply.3.place) (opening_of reply.3.actor (opening x.casts))
-        ≡ option_and_then (λ (state : KindState). answer_at state (x.told.runs reply.3.actor) reply.3.place) (opening_of reply.3.actor (opening x.casts))
-    told = ap (λ (l : List RunItem). option_and_then (λ (state : KindState). answer_at state l reply.3.place) (opening_of reply.3.actor (opening x.casts)))
-        (x.leaves.runs reply.3.actor)
 
 -- it is kept once it is collected
 own_kept : (x : Open) (h : History) (posts : List Post) (a c : ℕ) (item : RunItem) → IsRunOf x h posts a c item
@@ -192,22 +183,24 @@ own_kept x h posts a c item r left =
 -- the run of such a call, and the collecting of its reply
 run_goes : (x : Open) (h : History) (posts : List Post) (a c : ℕ) (item : RunItem) → IsRunOf x h posts a c item
     → Goes x h posts (event.Run a c) (event.Collect (length h.posts) ∷ []) (ran h a c item)
-run_goes x h posts a c item r = record {
-  ok = one_ok g (event.Run a c) (event.Collect (length h.posts) ∷ []) may_run
-      (subst (λ (k : History). All IsOk (outcomes k (event.Collect (length h.posts) ∷ []))) (sym is_one)
-      (one_ok one (event.Collect (length h.posts)) [] may_collect (All-nil IsOk)));
-  after = posts ++ own_post h a c ∷ [];
-  left = ap (λ (k : History). after k (event.Collect (length h.posts))) is_one ∙ after_is one (event.Collect (length h.posts)) may_collect ∙ left_two;
-  beside = record {
-    sound = subst (λ (k : History). IsSound k) is_ran (sound_step h (event.Run a c) r.beside.sound r.may);
-    sent = subst (λ (k : History). AreSent k) is_ran (sent_step h (event.Run a c) r.beside.sent r.may);
-    opened = r.beside.opened;
-    later = r.later;
-    other = subst (λ (k : History). IsSound k) left_two (sound_step one (event.Collect (length h.posts)) sound_one may_collect);
-    more = more_put x h.collected posts (own_post h a c) (is_put x h posts a c item r) r.beside.more;
-    given = given;
-  };
-}
+run_goes x h posts a c item r =
+    let is_one : after g (event.Run a c) ≡ one = after_is g (event.Run a c) may_run ∙ left_one in
+    record {
+      ok = one_ok g (event.Run a c) (event.Collect (length h.posts) ∷ []) may_run
+          (subst (λ (k : History). All IsOk (outcomes k (event.Collect (length h.posts) ∷ []))) (sym is_one)
+          (one_ok one (event.Collect (length h.posts)) [] may_collect (All-nil IsOk)));
+      after = posts ++ own_post h a c ∷ [];
+      left = ap (λ (k : History). after k (event.Collect (length h.posts))) is_one ∙ after_is one (event.Collect (length h.posts)) may_collect ∙ left_two;
+      beside = record {
+        sound = subst (λ (k : History). IsSound k) is_ran (sound_step h (event.Run a c) r.beside.sound r.may);
+        sent = subst (λ (k : History). AreSent k) is_ran (sent_step h (event.Run a c) r.beside.sent r.may);
+        opened = r.beside.opened;
+        later = r.later;
+        other = subst (λ (k : History). IsSound k) left_two (sound_step one (event.Collect (length h.posts)) sound_one may_collect);
+        more = more_put x h.collected posts (own_post h a c) (is_put x h posts a c item r) r.beside.more;
+        given = given;
+      };
+    }
   where
     g : History
     g = with_collected h posts
@@ -230,9 +223,6 @@ run_goes x h posts a c item r = record {
     left_one : add_event g (event.Run a c) ≡ one
     left_one = ap (after_run a c g) (next_same x h posts a c r.beside later ∙ r.is)
 
-    is_one : after g (event.Run a c) ≡ one
-    is_one = after_is g (event.Run a c) may_run ∙ left_one
-
     sound_one : IsSound one
     sound_one = subst (λ (k : History). IsSound k) left_one (sound_step g (event.Run a c) r.beside.other may_run)
 
@@ -250,47 +240,24 @@ run_goes x h posts a c item r = record {
     given : (d k b place : ℕ) (other : RunItem) → is_replaced x d k ≡ true → slice_get (runs_of b (ran h a c item)) place ≡ Some other → other.caller ≡ d
         → other.future ≡ k → kept_at (kept_of d two) k ≡ kept_at (x.kept d) k
     given d k b place other put at caller future =
-        go (a == b) refl (sym (ap (λ (l : List RunItem). slice_get l place) (under-push b a h.ran item)) ∙ at)
-      where
-        new : other ≡ item → kept_at (kept_of d two) k ≡ kept_at (x.kept d) k
-        new same =
-            let who : c ≡ d = sym (next_item_caller a c h item r.is) ∙ ap (λ (i : RunItem). i.caller) (sym same) ∙ caller in
-            let what : item.future ≡ k = ap (λ (i : RunItem). i.future) (sym same) ∙ future in
-            subst (λ (e : ℕ). kept_at (kept_of e two) k ≡ kept_at (x.kept e) k) who
-            (subst (λ (j : ℕ). kept_at (kept_of c two) j ≡ kept_at (x.kept c) j) what (own_kept x h posts a c item r left_one))
-
-        either : (slice_get (runs_of b h) place ≡ Some other) ⊎ ((place ≡ length (runs_of b h)) × (other ≡ item))
-            → kept_at (kept_of d two) k ≡ kept_at (x.kept d) k
-        either (inl there) = stays d k put (r.beside.given d k b place other put there caller future)
-        either (inr last) = new last.1
-
-        go : (same : Bool) → (a == b) ≡ same → slice_get (runs_of b h ++ cond same (item ∷ []) []) place ≡ Some other
-            → kept_at (kept_of d two) k ≡ kept_at (x.kept d) k
-        go false is e = either (inl (ap (λ (l : List RunItem). slice_get l place) (sym (append-nil (runs_of b h))) ∙ e))
-        go true is e = either (push_at (runs_of b h) item other place e)
+        ran_each (λ (b place : ℕ) (other : RunItem). other.caller ≡ d → other.future ≡ k → kept_at (kept_of d two) k ≡ kept_at (x.kept d) k) h a c item
+        (λ b place other there caller future. stays d k put (r.beside.given d k b place other put there caller future))
+        (λ caller future.
+        subst (λ (e : ℕ). kept_at (kept_of e two) k ≡ kept_at (x.kept e) k) (sym (next_item_caller a c h item r.is) ∙ caller)
+        (subst (λ (j : ℕ). kept_at (kept_of c two) j ≡ kept_at (x.kept c) j) future (own_kept x h posts a c item r left_one)))
+        b place other at caller future
 
 -- ---- each event
 
 run_plain : (x : Open) (h : History) (posts : List Post) (a c : ℕ) (item : RunItem) → IsBeside x h posts → refusal_of h (event.Run a c) ≡ None
     → next_item a c h ≡ Some item → is_replaced x c item.future ≡ false → IsLater (add_event h (event.Run a c)) x.last
     → Goes x h posts (event.Run a c) [] (add_event h (event.Run a c))
-run_plain x h posts a c item b may is not later = plain x h posts (event.Run a c) b may later (λ d place other at put. go d place other put (a == d) refl
-    (sym (ap (λ (l : List RunItem). slice_get l place) (under-push d a h.ran item))
-    ∙ subst (λ (o : Option RunItem). slice_get (runs_of d (after_run a c h o)) place ≡ Some other) is at))
-  where
-    go : (d place : ℕ) (other : RunItem) → is_replaced x other.caller other.future ≡ true → (same : Bool) → (a == d) ≡ same
-        → slice_get (runs_of d h ++ cond same (item ∷ []) []) place ≡ Some other → slice_get (runs_of d h) place ≡ Some other
-    go d place other put false e at = ap (λ (l : List RunItem). slice_get l place) (sym (append-nil (runs_of d h))) ∙ at
-    go d place other put true e at = either (push_at (runs_of d h) item other place at)
-      where
-        either : (slice_get (runs_of d h) place ≡ Some other) ⊎ ((place ≡ length (runs_of d h)) × (other ≡ item)) → slice_get (runs_of d h) place ≡ Some other
-        either (inl there) = there
-        either (inr last) =
-            let one : is_replaced x item.caller item.future ≡ true = subst (λ (i : RunItem). is_replaced x i.caller i.future ≡ true) last.1 put in
-            let two : is_replaced x c item.future ≡ true =
-            subst (λ (e : ℕ). is_replaced x e item.future ≡ true) (next_item_caller a c h item is) one in
-            let bad : true ≡ false = sym two ∙ not in
-            cc
+run_plain x h posts a c item b may is not later = plain x h posts (event.Run a c) b may later (λ d place other at.
+    ran_each (λ (d place : ℕ) (other : RunItem). is_replaced x other.caller other.future ≡ true → slice_get (runs_of d h) place ≡ Some other) h a c item
+    (λ d place other there put. there)
+    (λ put. absurd (not_so (is_replaced x c item.future)
+    (subst (λ (e : ℕ). is_replaced x e item.future ≡ true) (next_item_caller a c h item is) put) not))
+    d place other (subst (λ (o : Option RunItem). slice_get (runs_of d (after_run a c h o)) place ≡ Some other) is at))
 
 pub event_goes : (x : Open) (h : History) (posts : List Post) (other : Event) → IsBeside x h posts → refusal_of h other ≡ None
     → IsLater (add_event h other) x.last → Goes x h posts other (extra x h other) (add_event h other)

@@ -1,3 +1,4 @@
+pub mod Common
 pub mod Lists
 pub mod Bridge
 pub mod Later
@@ -12,6 +13,7 @@ pub mod Walked
 pub mod Stepped
 pub mod Twins
 pub mod Swapped
+pub mod Along
 pub mod Standing
 pub mod Resting
 pub mod Example

@@ -1,8 +1,7 @@
 -- Fronts of one list, what stands in a list, and what a pushed list holds.
-use Rattle.act_early.proofs.Common.{◌≡◌, ℕ, zero, suc, ◌≤◌, Bool, cond, List, [], ◌∷◌, ◌++◌, length, take, Option, Some, None, inl, inr, ◌⊎◌}
-use Rattle.act_early.proofs.Common.{refl, ap, sym, ◌∙◌, subst, slice_get, filter, filter_map, cons_option, IsPrefix}
-use Rattle.act_early.proofs.Counting.{take-prefix}
-use Rattle.act_early.proofs.Items.{take-front}
+use Rattle.act_told_ends.proofs.Common.{◌≡◌, ℕ, zero, suc, ◌≤◌, Bool, cond, List, [], ◌∷◌, ◌++◌, length, take, Option, Some, None, inl, inr, ◌⊎◌, refl, ap, sym}
+use Rattle.act_told_ends.proofs.Common.{◌∙◌, subst, slice_get, filter, filter_map, cons_option, IsPrefix, take-prefix, take-front, slice_get_pushed, stands_in}
+use Rattle.act_told_ends.proofs.Common.{gives_first}
 
 -- ---- fronts of one list
 
@@ -19,14 +18,7 @@ fronts_same {A = A} xs ys zs f g e = sym (take-front xs zs f) ∙ ap (λ (n : �
 
 -- what stands in a pushed list stood there, or is what was pushed
 pub push_at : {A : Type 0} (xs : List A) (x y : A) (i : ℕ) → slice_get (xs ++ x ∷ []) i ≡ Some y → (slice_get xs i ≡ Some y) ⊎ ((i ≡ length xs) × (y ≡ x))
-push_at [] x y zero e = inr (refl, cc)
-push_at [] x y (suc i) e = absurd cc
-push_at (z ∷ xs) x y zero e = inl e
-push_at {A = A} (z ∷ xs) x y (suc i) e = go (push_at xs x y i e)
-  where
-    go : (slice_get xs i ≡ Some y) ⊎ ((i ≡ length xs) × (y ≡ x)) → (slice_get xs i ≡ Some y) ⊎ ((suc i ≡ suc (length xs)) × (y ≡ x))
-    go (inl at) = inl at
-    go (inr last) = inr (ap suc last.0, last.1)
+push_at xs x y i e = elim (slice_get_pushed xs x i y e) [ inl old ↦ inl old | inr new ↦ inr (new.0, sym new.1) ]
 
 -- the first thing that a list gives is given by one that stands in it
 pub first_in : {A B : Type 0} (f : A → Option B) (xs : List A) (y : B) → slice_get (filter_map f xs) 0 ≡ Some y
@@ -42,17 +34,7 @@ first_in {A = A} {B = B} f (x ∷ xs) y e = go (f x) refl (first_in f xs y) e
 -- where one gives something, some first does
 pub some_first : {A B : Type 0} (f : A → Option B) (xs : List A) (i : ℕ) (x : A) (y : B) → slice_get xs i ≡ Some x → f x ≡ Some y
     → (z : B) × (slice_get (filter_map f xs) 0 ≡ Some z)
-some_first f [] i x y e gives = cc
-some_first {A = A} {B = B} f (w ∷ xs) zero x y e gives = go (f w) (ap f (let same : w ≡ x = cc in same) ∙ gives)
-  where
-    go : (o : Option B) → o ≡ Some y → (z : B) × (slice_get (cons_option o (filter_map f xs)) 0 ≡ Some z)
-    go None e = cc
-    go (Some first) e = (first, refl)
-some_first {A = A} {B = B} f (w ∷ xs) (suc i) x y e gives = go (f w) (some_first f xs i x y e gives)
-  where
-    go : (o : Option B) → (z : B) × (slice_get (filter_map f xs) 0 ≡ Some z) → (z : B) × (slice_get (cons_option o (filter_map f xs)) 0 ≡ Some z)
-    go None rest = rest
-    go (Some first) rest = (first, refl)
+some_first f xs i x y at gives = gives_first f xs x y (stands_in xs i x at) gives
 
 -- ---- the same test, the same choice
 

@@ -1,14 +1,13 @@
 -- Each run has its reply posted; what is collected answers, and what is kept was collected.
-use Rattle.act_early.proofs.Common.{◌≡◌, ◌≢◌, ℕ, Bool, true, false, cond, List, [], ◌∷◌, ◌++◌, length, Option, Some, None, refl, ap, sym, ◌∙◌, subst, arith}
-use Rattle.act_early.proofs.Common.{inl, inr, ◌⊎◌, Contains, ◌==◌, ◌&&◌, slice_get, option_map, option_and_then, Err, eqb-true, eq-eqb, and_parts, and_from}
-use Rattle.act_early.proofs.Common.{slice_get_within, append-nil, Contains-append_left, Contains-append_right, ActorDied, Event, RunItem, Post, Submission}
-use Rattle.act_early.proofs.Common.{Answer, answer_at, answers_from, KindState, kept_at, ActorSpec, History, opening, names, callers_in, cast_of, contains, runs_of}
-use Rattle.act_early.proofs.Common.{calls_of, kept_of, opening_of, answer_of, answer_in, is_item_of, next_item, add_event, after_run}
-use Rattle.act_early.proofs.Common.{under-push, kept_at_is, kept_by, length-answers_from, element, IsKept, after_all_keeps, history, IsPrefix, IsSound}
-use Rattle.act_early.proofs.Common.{IsSoundPost, held_submission, next_item_caller, is_reply, AllNamed, answer_alive, under, All_at, added_grows}
+use Rattle.act_told_ends.proofs.Common.{◌≡◌, ◌≢◌, ℕ, Bool, true, false, cond, List, [], ◌∷◌, ◌++◌, length, Option, Some, None, refl, ap, sym, ◌∙◌, subst, arith}
+use Rattle.act_told_ends.proofs.Common.{inl, inr, Contains, ◌==◌, ◌&&◌, slice_get, option_map, option_and_then, Err, eqb-true, eq-eqb, and_parts, and_from}
+use Rattle.act_told_ends.proofs.Common.{slice_get_within, append-nil, Contains-append_left, Contains-append_right, ActorDied, Event, RunItem, Post, Submission}
+use Rattle.act_told_ends.proofs.Common.{Answer, answer_at, answers_from, KindState, kept_at, ActorSpec, History, opening, names, callers_in, cast_of, contains}
+use Rattle.act_told_ends.proofs.Common.{runs_of, calls_of, kept_of, opening_of, answer_of, answer_in, is_item_of, next_item, add_event, after_run, under-push}
+use Rattle.act_told_ends.proofs.Common.{kept_at_is, kept_by, length-answers_from, element, IsKept, after_all_keeps, history, IsPrefix, IsSound, IsSoundPost}
+use Rattle.act_told_ends.proofs.Common.{held_submission, next_item_caller, is_reply, AllNamed, answer_alive, under, All_at, added_grows, ReplyPost, DeathPost}
+use Rattle.act_told_ends.proofs.Common.{reply_died}
 use Rattle.act_rules.specs.declared.event.Event.TheVariants as event
-use Rattle.act_rules.specs.declared.history.Post.TheVariants.{Reply as ReplyPost, Death as DeathPost}
-use Rattle.act_early.proofs.Replies.{reply_died}
 use Rattle.act_told_ends.proofs.Lists.{push_at, first_in, some_first}
 use Rattle.act_lists.proofs.Options.{cond_gives}
 use Rattle.act_rules.proofs.RanAll.{named_call}
@@ -26,32 +25,28 @@ more_posted h g posted ran more a place item at =
     (Contains-append_left h.posts more.0 (ReplyPost item.caller a place)
     (posted a place item (subst (λ (l : List (ℕ × RunItem)). slice_get (under a l) place ≡ Some item) ran at)))
 
-run_posted : (h : History) (b c : ℕ) (item : RunItem) → RunsPosted h → item.caller ≡ c → RunsPosted (after_run b c h (Some item))
-run_posted h b c item posted mine a place other at = go (b == a) refl (sym (ap (λ (l : List RunItem). slice_get l place) (under-push a b h.ran item)) ∙ at)
+-- after a run, what holds of each call that ran before, and of this one, holds of each
+pub ran_each : (P : ℕ → ℕ → RunItem → Type 0) (h : History) (b c : ℕ) (item : RunItem)
+    → ((a place : ℕ) (other : RunItem) → slice_get (runs_of a h) place ≡ Some other → P a place other) → P b (length (runs_of b h)) item
+    → (a place : ℕ) (other : RunItem) → slice_get (runs_of a (after_run b c h (Some item))) place ≡ Some other → P a place other
+ran_each P h b c item old new a place other at = go (b == a) refl (sym (ap (λ (l : List RunItem). slice_get l place) (under-push a b h.ran item)) ∙ at)
   where
-    new : Post
-    new = ReplyPost c b (length (runs_of b h))
+    go : (same : Bool) → (b == a) ≡ same → slice_get (runs_of a h ++ cond same (item ∷ []) []) place ≡ Some other → P a place other
+    go false is e = old a place other (ap (λ (l : List RunItem). slice_get l place) (sym (append-nil (runs_of a h))) ∙ e)
+    go true is e = elim (push_at (runs_of a h) item other place e) [
+      | inl there ↦ old a place other there
+      | inr last ↦
+          subst (λ (i : RunItem). P a place i) (sym last.1)
+          (subst (λ (n : ℕ). P a n item) (sym last.0) (subst (λ (x : ℕ). P x (length (runs_of x h)) item) (eqb-true b a is) new))
+    ]
 
-    old : slice_get (runs_of a h) place ≡ Some other → Contains (h.posts ++ new ∷ []) (ReplyPost other.caller a place)
-    old there = Contains-append_left h.posts (new ∷ []) (ReplyPost other.caller a place) (posted a place other there)
-
-    go : (same : Bool) → (b == a) ≡ same → slice_get (runs_of a h ++ cond same (item ∷ []) []) place ≡ Some other
-        → Contains (h.posts ++ new ∷ []) (ReplyPost other.caller a place)
-    go false is e = old (ap (λ (l : List RunItem). slice_get l place) (sym (append-nil (runs_of a h))) ∙ e)
-    go true is e = either (push_at (runs_of a h) item other place e)
-      where
-        same : b ≡ a
-        same = eqb-true b a is
-
-        either : (slice_get (runs_of a h) place ≡ Some other) ⊎ ((place ≡ length (runs_of a h)) × (other ≡ item))
-            → Contains (h.posts ++ new ∷ []) (ReplyPost other.caller a place)
-        either (inl there) = old there
-        either (inr last) =
-            let caller : c ≡ other.caller = sym mine ∙ sym (ap (λ (i : RunItem). i.caller) last.1) in
-            let post : new ≡ ReplyPost other.caller a place =
-            ap (λ (x : ℕ). ReplyPost x b (length (runs_of b h))) caller ∙ ap (λ (x : ℕ). ReplyPost other.caller x (length (runs_of x h))) same
-            ∙ ap (ReplyPost other.caller a) (sym last.0) in
-            subst (λ (p : Post). Contains (h.posts ++ new ∷ []) p) post (Contains-append_right h.posts (new ∷ []) new (0, omega arith, refl))
+run_posted : (h : History) (b c : ℕ) (item : RunItem) → RunsPosted h → item.caller ≡ c → RunsPosted (after_run b c h (Some item))
+run_posted h b c item posted mine =
+    let new = ReplyPost c b (length (runs_of b h)) in
+    ran_each (λ (a place : ℕ) (other : RunItem). Contains (h.posts ++ new ∷ []) (ReplyPost other.caller a place)) h b c item
+    (λ a place other at. Contains-append_left h.posts (new ∷ []) (ReplyPost other.caller a place) (posted a place other at))
+    (subst (λ (d : ℕ). Contains (h.posts ++ new ∷ []) (ReplyPost d b (length (runs_of b h)))) (sym mine)
+    (Contains-append_right h.posts (new ∷ []) new (0, omega arith, refl)))
 
 -- each accepted event keeps that of each call that ran the reply is posted
 pub posted_step : IsKept RunsPosted

@@ -1,45 +1,13 @@
 -- From a walk that is through to the end that is told.
-use Rattle.act_early.proofs.Common.{◌≡◌, ℕ, true, false, List, [], ◌∷◌, ◌++◌, Option, Some, None, inl, inr, ◌⊎◌, refl, ap, sym, ◌∙◌, subst, All, IsOk, All-append}
-use Rattle.act_early.proofs.Common.{All-cons, All-nil, ◌==◌, slice_get, is_some, eqb-true, Event, WorldRefusal, Step, Submit, Copy, Release, Kill, Await, Post, ActorSpec}
-use Rattle.act_early.proofs.Common.{History, opening, contains, is_retired, refusal_of, add_event, Outcome, outcome_by, after_by, outcome_of, outcomes, after_all, history}
-use Rattle.act_early.proofs.Common.{after_all-append, outcomes-append, MayTake, after_step}
+use Rattle.act_told_ends.proofs.Common.{◌≡◌, ℕ, true, false, List, [], Option, Some, None, inl, inr, ◌⊎◌, refl, ap, sym, ◌∙◌, subst, IsOk, All-nil, ◌==◌}
+use Rattle.act_told_ends.proofs.Common.{slice_get, is_some, eqb-true, Event, Step, Submit, Release, Post, ActorSpec, History, contains, is_retired, refusal_of}
+use Rattle.act_told_ends.proofs.Common.{history, contains_push, either_of, step_keeps, Told, Leaves, EndsAsTold, MayGoOn, Calls, Asks, Steps, DoesWithout}
+use Rattle.act_told_ends.proofs.Common.{Sends, Delivers, Runs, Collects, TakesKill, Tells, Hears, IsWalked, Begins, GoesOn, Mails, Brings, gone_on, MayRetire}
+use Rattle.act_told_ends.proofs.Common.{LetsGo, Notes, Retires, RetiredAsTold, IsResting, Through, Rests, IsEndTold, rested}
 use Rattle.act_rules.specs.declared.event.Event.TheVariants as event
-use Rattle.act_early.proofs.Worlds.{contains_push, either_of}
-use Rattle.act_told_ends.specs.Told.{Told, Leaves, EndsAsTold}
-use Rattle.act_told_ends.specs.Walks.{MayGoOn, Calls, Asks, Steps, DoesWithout, Sends, Delivers, Runs, Collects, TakesKill, Tells, Hears}
-use Rattle.act_told_ends.specs.Walked.{IsWalked, Begins, GoesOn, Mails, Brings, gone_on}
-use Rattle.act_told_ends.specs.Retiring.{MayRetire, LetsGo, Notes, Retires, RetiredAsTold}
-use Rattle.act_told_ends.specs.Resting.{IsResting, Through, Rests, IsEndTold, rested}
 use Rattle.act_told_ends.proofs.Retiring.{retire_on}
 use Rattle.act_told_ends.proofs.Stepped.{is_one}
-
--- accepted events left it
-pub record IsLeft (casts : List ActorSpec) (h : History) : Type 0 where
-  pub events : List Event
-  pub accepted : All IsOk (outcomes (opening casts) events)
-  pub left : h ≡ history casts events
-
-one_more : (casts : List ActorSpec) (h : History) (other : Event) → IsLeft casts h → refusal_of h other ≡ None → IsLeft casts (add_event h other)
-one_more casts h other before may = record {
-  events = before.events ++ other ∷ [];
-  accepted = subst (λ (l : List Outcome). All IsOk l)
-      (sym (outcomes-append (opening casts) before.events (other ∷ [])
-      ∙ ap (λ (g : History). outcomes (opening casts) before.events ++ outcome_of g other ∷ []) (sym before.left)))
-      (All-append IsOk (outcomes (opening casts) before.events) (outcome_of h other ∷ []) before.accepted
-      (All-cons IsOk (outcome_of h other) [] ok (All-nil IsOk)));
-  left = sym (after_all-append (opening casts) before.events (other ∷ []) ∙ ap (λ (g : History). after_all g (other ∷ [])) (sym before.left)
-      ∙ ap (after_by h other) may);
-}
-  where
-    ok : IsOk (outcome_of h other)
-    ok = subst (λ (o : Option WorldRefusal). IsOk (outcome_by h other o)) (sym may) refl
-
-step_more : (casts : List ActorSpec) (c : ℕ) (step : Step) (h : History) → IsLeft casts h → MayTake c step h → IsLeft casts (after_step c step h)
-step_more casts c (Submit a method args) h before may = one_more casts h (event.Submit c a method args) before may
-step_more casts c (Copy a) h before may = one_more casts h (event.Copy c a) before may
-step_more casts c (Release a) h before may = one_more casts h (event.Release c a) before may
-step_more casts c (Kill a) h before may = one_more casts h (event.AskKill c a) before may
-step_more casts c (Await k) h before may = before
+use Rattle.act_early.proofs.Accepted.{IsLeft, one_more}
 
 -- a post that stands may be collected
 pub collect_may : (h : History) (j : ℕ) (post : Post) → slice_get h.posts j ≡ Some post → refusal_of h (event.Collect j) ≡ None
@@ -49,7 +17,7 @@ thing_more : (casts : List ActorSpec) (bound : ℕ → Option (List Step)) (told
     → IsLeft casts h → IsLeft casts (gone_on bound told done h thing).1
 thing_more casts bound told done h (Calls c call free next may) left = one_more casts h (event.Submit c call.actor call.method call.args) left may
 thing_more casts bound told done h (Asks c a free dead yet may) left = one_more casts h (event.AskKill c a) left may
-thing_more casts bound told done h (Steps c steps step is next may) left = step_more casts c step h left may
+thing_more casts bound told done h (Steps c steps step is next may) left = step_keeps (IsLeft casts) (one_more casts) c step h left may
 thing_more casts bound told done h (DoesWithout c a steps is next dead) left = left
 thing_more casts bound told done h (Sends a item next unsent may) left = one_more casts h (event.Send item.caller item.future) left may
 thing_more casts bound told done h (Delivers a i item next yet at may) left = one_more casts h (event.Deliver i) left may

@@ -1,23 +1,17 @@
 -- An actor that is told retired can retire once all else is done.
-use Rattle.act_early.proofs.Common.{◌≡◌, ℕ, zero, suc, Bool, true, false, List, [], ◌∷◌, length, Option, Some, None, inl, inr, ◌⊎◌, refl, ap, sym}
-use Rattle.act_early.proofs.Common.{◌∙◌, subst, arith, All, IsOk, ◌==◌, ◌||◌, find, is_some, nat_lt, nat_tests, list_all, AllByRecursion, eq-eqb}
-use Rattle.act_early.proofs.Common.{length-map, and_from, Event, Letter, RunItem, Submission, Step, ActorSpec, History, opening, contains, names, cast_of}
-use Rattle.act_early.proofs.Common.{callers_in, is_caller, calls_of, copies_of, runs_of, ran_count, items_of, is_dead, is_retired, is_ended, is_done, is_drained}
-use Rattle.act_early.proofs.Common.{has_letter, calls_to, handle_refusal, deliver_refusal, outcomes, history, ran_all, summary, At, IsPlay, both_ways}
-use Rattle.act_rules.specs.declared.history.Letter.TheVariants.{Note as NoteLetter}
-use Rattle.act_early.proofs.Listed.{all_actors, all_listed, named_caller}
-use Rattle.act_early.proofs.Notes.{notes_sent, NotesSent}
+use Rattle.act_told_ends.proofs.Common.{◌≡◌, ℕ, zero, suc, Bool, true, false, List, [], ◌∷◌, length, Option, Some, None, inl, inr, ◌⊎◌, refl, ap, sym, or_left}
+use Rattle.act_told_ends.proofs.Common.{◌∙◌, subst, arith, All, IsOk, ◌==◌, ◌||◌, find, is_some, nat_lt, nat_tests, list_all, AllByRecursion, eq-eqb, or_right}
+use Rattle.act_told_ends.proofs.Common.{length-map, and_from, Event, Letter, RunItem, Submission, Step, ActorSpec, History, opening, contains, names, cast_of}
+use Rattle.act_told_ends.proofs.Common.{callers_in, is_caller, calls_of, copies_of, runs_of, ran_count, items_of, is_dead, is_retired, is_ended, is_done}
+use Rattle.act_told_ends.proofs.Common.{is_drained, has_letter, calls_to, handle_refusal, deliver_refusal, outcomes, history, ran_all, summary, At, IsPlay}
+use Rattle.act_told_ends.proofs.Common.{both_ways, NoteLetter, named_among, notes_sent, NotesSent, IsWorld, world, Told, Leaves, EndsAsTold, IsThrough}
+use Rattle.act_told_ends.proofs.Common.{MayRetire, LetsGo, Notes, Retires, IsToRetire, RetiredAsTold, last_note, letter_place}
+use Rattle.act_early.proofs.Listed.{all_actors, all_listed, cast_listed}
 use Rattle.act_early.proofs.Told.{same_told}
-use Rattle.act_early.proofs.Worlds.{IsWorld, world}
-use Rattle.act_early.proofs.Retires.{cast_listed}
-use Rattle.act_told_ends.specs.Told.{Told, Leaves, EndsAsTold}
-use Rattle.act_told_ends.specs.Walks.{IsThrough}
-use Rattle.act_told_ends.specs.Retiring.{MayRetire, LetsGo, Notes, Retires, IsToRetire, RetiredAsTold, last_note}
 use Rattle.act_told_ends.proofs.Bridge.{IsLate, late_play, free_play}
 use Rattle.act_told_ends.proofs.Covered.{cast_same}
 use Rattle.act_told_ends.proofs.Going.{has_copies, may_deliver}
 use Rattle.act_told_ends.proofs.Through.{world_of}
-use Rattle.act_rules.proofs.Letters.{letter_place}
 
 -- a play that ends as is told, and a walk that is through
 record IsRest (casts : List ActorSpec) (bound : ℕ → Option (List Step)) (told : Told) (plans : ℕ → List Step) (late : At) (g : History) : Type 0 where
@@ -54,7 +48,7 @@ one_caller : (casts : List ActorSpec) (bound : ℕ → Option (List Step)) (told
 one_caller casts bound told plans late g c a r to named = copies (has_copies c a g named)
   where
     known : is_caller c g ≡ true
-    known = named_caller c a g.casts named
+    known = named_among c a g.casts named
 
     letter : Letter
     letter = last_note c a g
@@ -79,17 +73,9 @@ each_caller : (casts : List ActorSpec) (bound : ℕ → Option (List Step)) (tol
     → (list_all (λ c. is_done c a g) cs ≡ true) ⊎ MayRetire told g
 each_caller casts bound told plans late g a r to [] named = inl refl
 each_caller casts bound told plans late g a r to (c ∷ cs) named =
-    both (one_caller casts bound told plans late g c a r to (named c (first (c == c) (eq-eqb c c refl))))
-    (each_caller casts bound told plans late g a r to cs (λ d has. named d (later (c == d) has)))
+    both (one_caller casts bound told plans late g c a r to (named c (or_left (c == c) (contains c cs) (eq-eqb c c refl))))
+    (each_caller casts bound told plans late g a r to cs (λ d has. named d (or_right (c == d) (contains d cs) has)))
   where
-    first : (y : Bool) → y ≡ true → (y || contains c cs) ≡ true
-    first true e = refl
-    first false e = cc
-
-    later : {z : Bool} → (y : Bool) → z ≡ true → (y || z) ≡ true
-    later true e = refl
-    later false e = e
-
     both : (is_done c a g ≡ true) ⊎ MayRetire told g → (list_all (λ c. is_done c a g) cs ≡ true) ⊎ MayRetire told g
         → (list_all (λ c. is_done c a g) (c ∷ cs) ≡ true) ⊎ MayRetire told g
     both (inr goal) rest = inr goal
@@ -139,24 +125,22 @@ pub retire_on : (casts : List ActorSpec) (bound : ℕ → Option (List Step)) (t
     → EndsAsTold casts bound told events → All IsOk (outcomes (opening casts) walk) → Leaves told (history casts walk)
     → ((a : ℕ) → is_retired a (history casts walk) ≡ true → told.retired a ≡ true)
     → RetiredAsTold told (history casts walk) ⊎ MayRetire told (history casts walk)
-retire_on casts bound told events walk ends accepted leaves only = go (all_so casts bound told found.0 found.1 g (all_actors casts) r)
+retire_on casts bound told events walk ends accepted leaves only =
+    let played : (plans : ℕ → List Step) × (at : At) × IsPlay casts plans at × (at.history ≡ g) = free_play casts walk accepted in
+    let r : IsRest casts bound told found.0 found.1 g =
+    record {
+      end = found.2;
+      left = leaves;
+      world = world_of casts walk;
+      notes = subst (λ (h : History). NotesSent h) played.3 (notes_sent casts played.0 played.1 played.2);
+    } in
+    go (all_so casts bound told found.0 found.1 g (all_actors casts) r)
   where
     g : History
     g = history casts walk
 
     found : (plans : ℕ → List Step) × (late : At) × IsLate casts bound told plans late
     found = late_play casts bound told events ends
-
-    played : (plans : ℕ → List Step) × (at : At) × IsPlay casts plans at × (at.history ≡ g)
-    played = free_play casts walk accepted
-
-    r : IsRest casts bound told found.0 found.1 g
-    r = record {
-      end = found.2;
-      left = leaves;
-      world = world_of casts walk;
-      notes = subst (λ (h : History). NotesSent h) played.3 (notes_sent casts played.0 played.1 played.2);
-    }
 
     listed : (a : ℕ) → told.retired a ≡ true → contains a (all_actors casts) ≡ true
     listed a e =

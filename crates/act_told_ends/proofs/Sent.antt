@@ -1,15 +1,12 @@
 -- Each call that ran was sent.
-use Rattle.act_early.proofs.Common.{◌≡◌, ℕ, ◌+◌, Bool, true, false, cond, List, [], ◌∷◌, ◌++◌, length, map, Option, Some, None, inl, inr, ◌⊎◌}
-use Rattle.act_early.proofs.Common.{refl, ap, sym, ◌∙◌, subst, arith, ◌==◌, slice_get, option_map, append-nil, eqb-true, eq-eqb, AllByRecursion}
-use Rattle.act_early.proofs.Common.{RunItem, Submission, Letter, calls_to, number_of, History, opening, under, calls_of, runs_of, has_letter}
-use Rattle.act_early.proofs.Common.{ran_count, items_of, next_item, add_event, after_run, and_also, call_letter, under-push, IsKept, IsPrefix, added_grows}
-use Rattle.act_early.proofs.Common.{IsNext, next_item_is, numbered, numbers, has_letter-sound, held_call, held_submission, map-slice_get, rank, IsSound}
-use Rattle.act_early.proofs.Common.{slice_get_front, slice_get-filter, slice_get-map, slice_get-enumerate_from, ActorSpec, All_more, All_weaker}
+use Rattle.act_told_ends.proofs.Common.{◌≡◌, ℕ, ◌+◌, true, List, map, Option, Some, None, refl, ap, sym, ◌∙◌, subst, arith, ◌==◌, slice_get, option_map, eq-eqb}
+use Rattle.act_told_ends.proofs.Common.{AllByRecursion, RunItem, Submission, Letter, calls_to, number_of, History, opening, under, calls_of, runs_of}
+use Rattle.act_told_ends.proofs.Common.{has_letter, ran_count, items_of, next_item, add_event, after_run, and_also, call_letter, IsKept, IsPrefix, added_grows}
+use Rattle.act_told_ends.proofs.Common.{IsNext, next_item_is, numbered, numbers, has_letter-sound, held_call, held_submission, map-slice_get, rank, IsSound}
+use Rattle.act_told_ends.proofs.Common.{slice_get_front, slice_get-filter, slice_get-map, slice_get-enumerate_from, ActorSpec, All_more, All_weaker, CallLetter}
+use Rattle.act_told_ends.proofs.Common.{number_is, has_front, has_letter-at}
 use Rattle.act_rules.specs.declared.event.Event.TheVariants as event
-use Rattle.act_rules.specs.declared.history.Letter.TheVariants.{Call as CallLetter}
-use Rattle.act_early.proofs.Unanswered.{number_is}
-use Rattle.act_told_ends.proofs.Lists.{push_at}
-use Rattle.act_rules.proofs.Letters.{has_front, has_letter-at}
+use Rattle.act_told_ends.proofs.Posted.{ran_each}
 
 -- each letter that arrived was sent, and so was that of each call that ran
 pub record AreSent (h : History) : Type 0 where
@@ -30,27 +27,15 @@ more_sent h g sent mail arrived ran = record {
 }
 
 run_sent : (h : History) (b c : ℕ) (item : RunItem) → AreSent h → IsNext b c h item → AreSent (after_run b c h (Some item))
-run_sent h b c item sent next = record { arrived = sent.arrived; ran = ran }
-  where
+run_sent h b c item sent next =
     -- the letter of what runs has arrived
-    own : has_letter (CallLetter item.caller b item.number) h.mail ≡ true
-    own = subst (λ (i : RunItem). has_letter (CallLetter i.caller b i.number) h.mail ≡ true) next.is
-        (has_letter-sound (In h.mail) (CallLetter c b (ran_count c b h)) h.arrived sent.arrived next.arrived)
-
-    ran : (a place : ℕ) (other : RunItem) → slice_get (runs_of a (after_run b c h (Some item))) place ≡ Some other
-        → has_letter (CallLetter other.caller a other.number) h.mail ≡ true
-    ran a place other at = go (b == a) refl (sym (ap (λ (l : List RunItem). slice_get l place) (under-push a b h.ran item)) ∙ at)
-      where
-        go : (same : Bool) → (b == a) ≡ same → slice_get (runs_of a h ++ cond same (item ∷ []) []) place ≡ Some other
-            → has_letter (CallLetter other.caller a other.number) h.mail ≡ true
-        go false is e = sent.ran a place other (ap (λ (l : List RunItem). slice_get l place) (sym (append-nil (runs_of a h))) ∙ e)
-        go true is e = either (push_at (runs_of a h) item other place e)
-          where
-            either : (slice_get (runs_of a h) place ≡ Some other) ⊎ ((place ≡ length (runs_of a h)) × (other ≡ item))
-                → has_letter (CallLetter other.caller a other.number) h.mail ≡ true
-            either (inl there) = sent.ran a place other there
-            either (inr last) = subst (λ (i : RunItem). has_letter (CallLetter i.caller a i.number) h.mail ≡ true) (sym last.1)
-                (subst (λ (x : ℕ). has_letter (CallLetter item.caller x item.number) h.mail ≡ true) (eqb-true b a is) own)
+    let own : has_letter (CallLetter item.caller b item.number) h.mail ≡ true =
+    subst (λ (i : RunItem). has_letter (CallLetter i.caller b i.number) h.mail ≡ true) next.is
+    (has_letter-sound (In h.mail) (CallLetter c b (ran_count c b h)) h.arrived sent.arrived next.arrived) in
+    record {
+      arrived = sent.arrived;
+      ran = ran_each (λ (a place : ℕ) (other : RunItem). has_letter (CallLetter other.caller a other.number) h.mail ≡ true) h b c item sent.ran own;
+    }
 
 -- each accepted event keeps that the letters that arrived, and those of the calls that ran, were sent
 pub sent_step : IsKept AreSent
@@ -75,19 +60,17 @@ none_sent casts = record { arrived = tt; ran = λ a place item e. cc }
 number_held : (h : History) (a c k place : ℕ) (item : RunItem) → IsSound h → slice_get (runs_of a h) place ≡ Some item → item.caller ≡ c
     → item.future ≡ k → number_of a k (calls_of c h) ≡ item.number
 number_held h a c k place item sound at caller future =
+    let mine : slice_get (items_of c (runs_of a h)) (rank c place (runs_of a h)) ≡ Some item =
+    slice_get-filter (λ (i : RunItem). i.caller == c) (runs_of a h) place item at (eq-eqb item.caller c caller) in
+    let all : slice_get (numbers a (calls_of c h)) (rank c place (runs_of a h)) ≡ Some (numbered item) =
+    slice_get_front (map numbered (items_of c (runs_of a h))) (numbers a (calls_of c h)) (rank c place (runs_of a h)) (numbered item) (sound.order a c)
+    (slice_get-map numbered (items_of c (runs_of a h)) (rank c place (runs_of a h)) ∙ ap (option_map numbered) mine) in
     let m = rank c place (runs_of a h) in
     let other = map-slice_get (λ (s : ℕ × Submission). s.0) (calls_to a (calls_of c h)) m k (held_call h a c k place item sound.order at caller future) in
     ap (λ (j : ℕ). number_of a j (calls_of c h)) (sym other.2) ∙ number_is a m (calls_of c h) other.0 other.1
     ∙ sym (counted (slice_get (map (λ (call : ℕ × Submission). call.0) (calls_to a (calls_of c h))) m)
     (sym (slice_get-enumerate_from 0 (map (λ (call : ℕ × Submission). call.0) (calls_to a (calls_of c h))) m) ∙ all))
   where
-    mine : slice_get (items_of c (runs_of a h)) (rank c place (runs_of a h)) ≡ Some item
-    mine = slice_get-filter (λ (i : RunItem). i.caller == c) (runs_of a h) place item at (eq-eqb item.caller c caller)
-
-    all : slice_get (numbers a (calls_of c h)) (rank c place (runs_of a h)) ≡ Some (numbered item)
-    all = slice_get_front (map numbered (items_of c (runs_of a h))) (numbers a (calls_of c h)) (rank c place (runs_of a h)) (numbered item) (sound.order a c)
-        (slice_get-map numbered (items_of c (runs_of a h)) (rank c place (runs_of a h)) ∙ ap (option_map numbered) mine)
-
     counted : (o : Option ℕ) → ◌≡◌ {A = Option (ℕ × ℕ)} (option_map (λ (x : ℕ). (0 + rank c place (runs_of a h), x)) o) (Some (numbered item))
         → item.number ≡ rank c place (runs_of a h)
     counted None e = cc
@@ -99,18 +82,12 @@ number_held h a c k place item sound at caller future =
 pub was_mailed : (h : History) (a c k place : ℕ) (item : RunItem) (call : Submission) → IsSound h → AreSent h → slice_get (runs_of a h) place ≡ Some item
     → item.caller ≡ c → item.future ≡ k → slice_get (calls_of c h) k ≡ Some call → has_letter (call_letter c k call h) h.mail ≡ true
 was_mailed h a c k place item call sound sent at caller future there =
+    let held : (other : Submission) × (slice_get (calls_of c h) k ≡ Some other) × (other.actor ≡ a) =
+    held_submission h a c k place item sound.order at caller future in
+    let one : held.0 ≡ call = let e : Some held.0 ≡ Some call = sym held.1 ∙ there in cc in
+    let actor : a ≡ call.actor = sym held.2 ∙ ap (λ (s : Submission). s.actor) one in
+    let letter : CallLetter item.caller a item.number ≡ call_letter c k call h =
+    ap (λ (x : ℕ). CallLetter x a item.number) caller
+    ∙ ap (CallLetter c a) (sym (number_held h a c k place item sound at caller future))
+    ∙ ap (λ (b : ℕ). CallLetter c b (number_of b k (calls_of c h))) actor in
     subst (λ (letter : Letter). has_letter letter h.mail ≡ true) letter (sent.ran a place item at)
-  where
-    held : (other : Submission) × (slice_get (calls_of c h) k ≡ Some other) × (other.actor ≡ a)
-    held = held_submission h a c k place item sound.order at caller future
-
-    one : held.0 ≡ call
-    one = let e : Some held.0 ≡ Some call = sym held.1 ∙ there in cc
-
-    actor : a ≡ call.actor
-    actor = sym held.2 ∙ ap (λ (s : Submission). s.actor) one
-
-    letter : CallLetter item.caller a item.number ≡ call_letter c k call h
-    letter = ap (λ (x : ℕ). CallLetter x a item.number) caller
-        ∙ ap (CallLetter c a) (sym (number_held h a c k place item sound at caller future))
-        ∙ ap (λ (b : ℕ). CallLetter c b (number_of b k (calls_of c h))) actor

@@ -1,40 +1,31 @@
 -- A step in a walk, and all that may be done next.
-use Rattle.act_early.proofs.Common.{◌≡◌, ℕ, ◌+◌, ◌-◌, ◌<◌, ◌≤◌, Bool, true, false, cond, List, [], ◌∷◌, ◌++◌, length, take, Option, Some, None, inl, inr, ◌⊎◌, refl}
-use Rattle.act_early.proofs.Common.{ap, sym, ◌∙◌, subst, arith, ◌==◌, ◌||◌, filter, filter_map, find, slice_get, list_any, list_any-append, filter_map-append}
-use Rattle.act_early.proofs.Common.{append-nil, eqb-true, eq-eqb, slice_get_within, Event, RunItem, Post, Submission, Step, Submit, Copy, Release, Kill}
-use Rattle.act_early.proofs.Common.{Await, Answer, kept_at, has_terminated, ActorSpec, History, opening, under, names, contains, cast_of, count_pairs}
-use Rattle.act_early.proofs.Common.{calls_of, copies_of, runs_of, kept_of, is_dead, refusal_of, add_event, under-push, IsPrefix, slice_get_front, front_next, Grows}
-use Rattle.act_early.proofs.Common.{added_grows, calls_grow, At, MayTake, after_step, is_kill_of, steps_of}
+use Rattle.act_told_ends.proofs.Common.{◌≡◌, ℕ, ◌+◌, ◌-◌, ◌<◌, ◌≤◌, Bool, true, false, cond, List, [], ◌∷◌, ◌++◌, length, take, Option, Some, None, inl, inr}
+use Rattle.act_told_ends.proofs.Common.{◌⊎◌, refl, ap, sym, ◌∙◌, subst, arith, ◌==◌, ◌||◌, filter, filter_map, find, slice_get, list_any, list_any-append}
+use Rattle.act_told_ends.proofs.Common.{filter_map-append, append-nil, eqb-true, eq-eqb, slice_get_within, Event, RunItem, Post, Submission, Step, Submit, Kill}
+use Rattle.act_told_ends.proofs.Common.{Await, Answer, kept_at, has_terminated, ActorSpec, History, opening, under, names, contains, cast_of, count_pairs}
+use Rattle.act_told_ends.proofs.Common.{calls_of, copies_of, runs_of, kept_of, is_dead, refusal_of, add_event, under-push, IsPrefix, slice_get_front}
+use Rattle.act_told_ends.proofs.Common.{front_next, Grows, added_grows, calls_grow, At, MayTake, after_step, is_kill_of, steps_of, take-at, take-past}
+use Rattle.act_told_ends.proofs.Common.{past_none, take-prefix, step_runs, step_kills, IsPrefix-filter_map, follows, submission_in, is_copy_of, is_release_of}
+use Rattle.act_told_ends.proofs.Common.{submitted_one, copied_one, released_one, counted, front_short, IsWorld, either_of, or_second, step_keeps, world_step}
+use Rattle.act_told_ends.proofs.Common.{event_of, or_last, opened_none, Told, IsWalk, DidFirst, EndsAsTold, submission_of, copies, releases, MayGoOn, Calls}
+use Rattle.act_told_ends.proofs.Common.{Asks, Steps, DoesWithout, Sends, Delivers, Runs, Collects, TakesKill, Tells, Hears, IsThrough, IsWalked, Begins, GoesOn}
+use Rattle.act_told_ends.proofs.Common.{Mails, Brings, gone_on, one_step_more, filter_map_alike, front_whole}
 use Rattle.act_rules.proofs.Growth.{after_run_grows}
 use Rattle.act_rules.specs.declared.event.Event.TheVariants as event
-use Rattle.act_early.proofs.Counting.{take-at, take-past, past_none, take-prefix}
-use Rattle.act_early.proofs.Earlier.{step_runs, step_kills}
-use Rattle.act_early.proofs.Matching.{IsPrefix-filter_map}
-use Rattle.act_early.proofs.Progress.{follows, submission_in, is_copy_of, is_release_of, submitted_one, copied_one, released_one, counted}
-use Rattle.act_early.proofs.Replies.{front_short}
-use Rattle.act_early.proofs.Worlds.{IsWorld, either_of, or_second, step_keeps, world_step}
-use Rattle.act_early.proofs.Notes.{opened_none}
-use Rattle.act_told_ends.specs.Told.{Told, IsWalk, DidFirst, EndsAsTold, submission_of, copies, releases}
-use Rattle.act_told_ends.specs.Walks.{MayGoOn, Calls, Asks, Steps, DoesWithout, Sends, Delivers, Runs, Collects, TakesKill, Tells, Hears, IsThrough}
-use Rattle.act_told_ends.specs.Walked.{IsWalked, Begins, GoesOn, Mails, Brings, gone_on, one_step_more}
 use Rattle.act_told_ends.proofs.Lists.{filter_alike}
 use Rattle.act_told_ends.proofs.Bridge.{IsLate, late_play}
 use Rattle.act_told_ends.proofs.Posted.{RunsPosted, CameBy, Replied, Died, came_by, posted_step, all_posted}
 use Rattle.act_told_ends.proofs.Covered.{same_submission, same_copy, same_release}
 use Rattle.act_told_ends.proofs.Covers.{step_collects, step_asks}
 use Rattle.act_told_ends.proofs.Through.{world_of, stuck_in}
-use Rattle.act_told_ends.proofs.Walked.{IsGoing, new_kept, old_reply, told_death, hear_more, still_killed, quiet_going, kill_going, run_going, reply_going, death_going}
-use Rattle.act_lists.proofs.Lists.{filter_map_alike}
-use Rattle.act_rules.proofs.Lists.{front_whole}
+use Rattle.act_told_ends.proofs.Walked.{IsGoing, new_kept, old_reply, told_death, hear_more, still_killed, quiet_going, kill_going, run_going, reply_going}
+use Rattle.act_told_ends.proofs.Walked.{death_going}
 
 -- ---- what a step leaves as it was
 
 step_grows : (c : ℕ) (step : Step) (h : History) → Grows h (after_step c step h)
-step_grows c (Submit a method args) h = added_grows h (event.Submit c a method args)
-step_grows c (Copy a) h = added_grows h (event.Copy c a)
-step_grows c (Release a) h = added_grows h (event.Release c a)
-step_grows c (Kill a) h = added_grows h (event.AskKill c a)
 step_grows c (Await k) h = after_run_grows 0 0 h None
+step_grows c step h = added_grows h (event_of c step)
 
 step_retired : (c : ℕ) (step : Step) (h : History) → (after_step c step h).retired ≡ h.retired
 step_retired c (Submit a method args) h = refl
@@ -55,90 +46,70 @@ still_asked c a step h (inr dead) = inr (step_dead c a step h ∙ dead)
 
 -- another's step adds nothing
 did_other : (c d n : ℕ) (step : Step) (steps : List Step) (h : History) → (c == d) ≡ false → DidFirst d n steps h → DidFirst d n steps (after_step c step h)
-did_other c d n step steps h differ first = record {
-  calls = submitted_one c d step h ∙ ap (λ (y : Bool). calls_of d h ++ filter_map submission_in (cond y (step ∷ []) [])) differ
-      ∙ append-nil (calls_of d h) ∙ first.calls;
-  copied = λ a. copied_one c d a step h
-      ∙ ap (λ (y : Bool). count_pairs d a h.copied + length (filter (is_copy_of a) (cond y (step ∷ []) []))) differ ∙ no_more (count_pairs d a h.copied)
-      ∙ first.copied a;
-  released = λ a lt. released_one c d a step h
-      ∙ ap (λ (y : Bool). count_pairs d a h.released + length (filter (is_release_of a) (cond y (step ∷ []) []))) differ ∙ no_more (count_pairs d a h.released)
-      ∙ first.released a lt;
-  asked = λ a e. still_asked c a step h (first.asked a e);
-}
-  where
-    no_more : (m : ℕ) → m + 0 ≡ m
-    no_more m = omega arith
+did_other c d n step steps h differ first =
+    let no_more : (m : ℕ) → m + 0 ≡ m = λ m. omega arith in
+    record {
+      calls = submitted_one c d step h ∙ ap (λ (y : Bool). calls_of d h ++ filter_map submission_in (cond y (step ∷ []) [])) differ
+          ∙ append-nil (calls_of d h) ∙ first.calls;
+      copied = λ a. copied_one c d a step h
+          ∙ ap (λ (y : Bool). count_pairs d a h.copied + length (filter (is_copy_of a) (cond y (step ∷ []) []))) differ ∙ no_more (count_pairs d a h.copied)
+          ∙ first.copied a;
+      released = λ a lt. released_one c d a step h
+          ∙ ap (λ (y : Bool). count_pairs d a h.released + length (filter (is_release_of a) (cond y (step ∷ []) []))) differ
+          ∙ no_more (count_pairs d a h.released)
+          ∙ first.released a lt;
+      asked = λ a e. still_asked c a step h (first.asked a e);
+    }
 
 -- one's own adds what it says
 did_own : (c n : ℕ) (step : Step) (steps : List Step) (h : History) → slice_get steps n ≡ Some step → DidFirst c n steps h
     → DidFirst c (n + 1) steps (after_step c step h)
-did_own c n step steps h at first = record {
-  calls = submitted_one c c step h ∙ ap (λ (y : Bool). calls_of c h ++ filter_map submission_in (cond y (step ∷ []) [])) mine
-      ∙ ap (λ (l : List Submission). calls_of c h ++ l) (filter_map_alike submission_in submission_of (step ∷ []) same_submission)
-      ∙ ap (λ (l : List Submission). l ++ filter_map submission_of (step ∷ [])) first.calls
-      ∙ sym (filter_map-append submission_of (take n steps) (step ∷ [])) ∙ ap (filter_map submission_of) (sym all);
-  copied = λ a. copied_one c c a step h
-      ∙ ap (λ (y : Bool). count_pairs c a h.copied + length (filter (is_copy_of a) (cond y (step ∷ []) []))) mine
-      ∙ ap (λ (l : List Step). count_pairs c a h.copied + length l) (filter_alike (is_copy_of a) (copies a) (step ∷ []) (same_copy a))
-      ∙ counted (copies a) (take n steps) (step ∷ []) (take (n + 1) steps) (count_pairs c a h.copied) (first.copied a) all;
-  released = λ a lt. released_one c c a step h
-      ∙ ap (λ (y : Bool). count_pairs c a h.released + length (filter (is_release_of a) (cond y (step ∷ []) []))) mine
-      ∙ ap (λ (l : List Step). count_pairs c a h.released + length l) (filter_alike (is_release_of a) (releases a) (step ∷ []) (same_release a))
-      ∙ counted (releases a) (take n steps) (step ∷ []) (take (n + 1) steps) (count_pairs c a h.released) (first.released a within) all;
-  asked = λ a e. either_of (list_any (is_kill_of a) (take n steps)) (is_kill_of a step)
-      ((contains a (after_step c step h).asked ≡ true) ⊎ (is_dead a (after_step c step h) ≡ true))
-      (sym (asked_by a) ∙ e) (λ old. still_asked c a step h (first.asked a old))
-      (λ new. inl (step_asks c a step h ∙ or_second (contains a h.asked) (is_kill_of a step) new));
-}
-  where
-    mine : (c == c) ≡ true
-    mine = eq-eqb c c refl
-
-    all : take (n + 1) steps ≡ take n steps ++ step ∷ []
-    all = take-at steps n step at
-
-    within : n < length steps
-    within = slice_get_within steps n step at
-
-    last : (y z : Bool) → (y || (z || false)) ≡ (y || z)
-    last true z = refl
-    last false true = refl
-    last false false = refl
-
-    asked_by : (a : ℕ) → list_any (is_kill_of a) (take (n + 1) steps) ≡ (list_any (is_kill_of a) (take n steps) || is_kill_of a step)
-    asked_by a = ap (list_any (is_kill_of a)) all ∙ list_any-append (is_kill_of a) (take n steps) (step ∷ [])
-        ∙ last (list_any (is_kill_of a) (take n steps)) (is_kill_of a step)
+did_own c n step steps h at first =
+    let mine : (c == c) ≡ true = eq-eqb c c refl in
+    let all : take (n + 1) steps ≡ take n steps ++ step ∷ [] = take-at steps n step at in
+    let within : n < length steps = slice_get_within steps n step at in
+    let asked_by : (a : ℕ) → list_any (is_kill_of a) (take (n + 1) steps) ≡ (list_any (is_kill_of a) (take n steps) || is_kill_of a step) =
+    λ a. ap (list_any (is_kill_of a)) all ∙ list_any-append (is_kill_of a) (take n steps) (step ∷ [])
+    ∙ or_last (list_any (is_kill_of a) (take n steps)) (is_kill_of a step) in
+    record {
+      calls = submitted_one c c step h ∙ ap (λ (y : Bool). calls_of c h ++ filter_map submission_in (cond y (step ∷ []) [])) mine
+          ∙ ap (λ (l : List Submission). calls_of c h ++ l) (filter_map_alike submission_in submission_of (step ∷ []) same_submission)
+          ∙ ap (λ (l : List Submission). l ++ filter_map submission_of (step ∷ [])) first.calls
+          ∙ sym (filter_map-append submission_of (take n steps) (step ∷ [])) ∙ ap (filter_map submission_of) (sym all);
+      copied = λ a. copied_one c c a step h
+          ∙ ap (λ (y : Bool). count_pairs c a h.copied + length (filter (is_copy_of a) (cond y (step ∷ []) []))) mine
+          ∙ ap (λ (l : List Step). count_pairs c a h.copied + length l) (filter_alike (is_copy_of a) (copies a) (step ∷ []) (same_copy a))
+          ∙ counted (copies a) (take n steps) (step ∷ []) (take (n + 1) steps) (count_pairs c a h.copied) (first.copied a) all;
+      released = λ a lt. released_one c c a step h
+          ∙ ap (λ (y : Bool). count_pairs c a h.released + length (filter (is_release_of a) (cond y (step ∷ []) []))) mine
+          ∙ ap (λ (l : List Step). count_pairs c a h.released + length l) (filter_alike (is_release_of a) (releases a) (step ∷ []) (same_release a))
+          ∙ counted (releases a) (take n steps) (step ∷ []) (take (n + 1) steps) (count_pairs c a h.released) (first.released a within) all;
+      asked = λ a e. either_of (list_any (is_kill_of a) (take n steps)) (is_kill_of a step)
+          ((contains a (after_step c step h).asked ≡ true) ⊎ (is_dead a (after_step c step h) ≡ true))
+          (sym (asked_by a) ∙ e) (λ old. still_asked c a step h (first.asked a old))
+          (λ new. inl (step_asks c a step h ∙ or_second (contains a h.asked) (is_kill_of a step) new));
+    }
 
 -- a kill of a dead actor that it does without adds nothing
 did_without : (c n a : ℕ) (steps : List Step) (h : History) → slice_get steps n ≡ Some (Kill a) → is_dead a h ≡ true → DidFirst c n steps h
     → DidFirst c (n + 1) steps h
-did_without c n a steps h at dead first = record {
-  calls = first.calls ∙ sym (append-nil (filter_map submission_of (take n steps))) ∙ sym (filter_map-append submission_of (take n steps) (Kill a ∷ []))
-      ∙ ap (filter_map submission_of) (sym all);
-  copied = λ b. no_more (count_pairs c b h.copied)
-      ∙ counted (copies b) (take n steps) (Kill a ∷ []) (take (n + 1) steps) (count_pairs c b h.copied) (first.copied b) all;
-  released = λ b lt. no_more (count_pairs c b h.released)
-      ∙ counted (releases b) (take n steps) (Kill a ∷ []) (take (n + 1) steps) (count_pairs c b h.released)
-      (first.released b (slice_get_within steps n (Kill a) at)) all;
-  asked = λ b e. either_of (list_any (is_kill_of b) (take n steps)) (a == b) ((contains b h.asked ≡ true) ⊎ (is_dead b h ≡ true))
-      (sym (asked_by b) ∙ e) (first.asked b) (λ same. inr (subst (λ (m : ℕ). is_dead m h ≡ true) (eqb-true a b same) dead));
-}
-  where
-    all : take (n + 1) steps ≡ take n steps ++ Kill a ∷ []
-    all = take-at steps n (Kill a) at
-
-    no_more : (m : ℕ) → m ≡ m + 0
-    no_more m = omega arith
-
-    last : (y z : Bool) → (y || (z || false)) ≡ (y || z)
-    last true z = refl
-    last false true = refl
-    last false false = refl
-
-    asked_by : (b : ℕ) → list_any (is_kill_of b) (take (n + 1) steps) ≡ (list_any (is_kill_of b) (take n steps) || (a == b))
-    asked_by b = ap (list_any (is_kill_of b)) all ∙ list_any-append (is_kill_of b) (take n steps) (Kill a ∷ [])
-        ∙ last (list_any (is_kill_of b) (take n steps)) (a == b)
+did_without c n a steps h at dead first =
+    let all : take (n + 1) steps ≡ take n steps ++ Kill a ∷ [] = take-at steps n (Kill a) at in
+    let no_more : (m : ℕ) → m ≡ m + 0 = λ m. omega arith in
+    let asked_by : (b : ℕ) → list_any (is_kill_of b) (take (n + 1) steps) ≡ (list_any (is_kill_of b) (take n steps) || (a == b)) =
+    λ b. ap (list_any (is_kill_of b)) all ∙ list_any-append (is_kill_of b) (take n steps) (Kill a ∷ [])
+    ∙ or_last (list_any (is_kill_of b) (take n steps)) (a == b) in
+    record {
+      calls = first.calls ∙ sym (append-nil (filter_map submission_of (take n steps))) ∙ sym (filter_map-append submission_of (take n steps) (Kill a ∷ []))
+          ∙ ap (filter_map submission_of) (sym all);
+      copied = λ b. no_more (count_pairs c b h.copied)
+          ∙ counted (copies b) (take n steps) (Kill a ∷ []) (take (n + 1) steps) (count_pairs c b h.copied) (first.copied b) all;
+      released = λ b lt. no_more (count_pairs c b h.released)
+          ∙ counted (releases b) (take n steps) (Kill a ∷ []) (take (n + 1) steps) (count_pairs c b h.released)
+          (first.released b (slice_get_within steps n (Kill a) at)) all;
+      asked = λ b e. either_of (list_any (is_kill_of b) (take n steps)) (a == b) ((contains b h.asked ≡ true) ⊎ (is_dead b h ≡ true))
+          (sym (asked_by b) ∙ e) (first.asked b) (λ same. inr (subst (λ (m : ℕ). is_dead m h ≡ true) (eqb-true a b same) dead));
+    }
 
 -- a bound caller is another one than one that isn't
 unbound_differs : (bound : ℕ → Option (List Step)) (c d : ℕ) (steps : List Step) → bound c ≡ None → bound d ≡ Some steps → (c == d) ≡ false
@@ -169,40 +140,47 @@ none_added bound c d p step free none = go (c == d) refl
 copies_same_by : (d a : ℕ) (h g : History) → g.casts ≡ h.casts → count_pairs d a h.copied ≡ count_pairs d a g.copied
     → count_pairs d a h.released ≡ count_pairs d a g.released → copies_of d a h ≡ copies_of d a g
 copies_same_by d a h g casts copied released =
+    let copies_from : List ActorSpec → ℕ → ℕ → Option ℕ =
+    λ l made gone. cond (names d (find (λ (cast : ActorSpec). cast.actor == a) l)) (Some ((1 + made) - gone)) None in
     ap (λ (n : ℕ). copies_from h.casts n (count_pairs d a h.released)) copied ∙ ap (copies_from h.casts (count_pairs d a g.copied)) released
     ∙ ap (λ (l : List ActorSpec). copies_from l (count_pairs d a g.copied) (count_pairs d a g.released)) (sym casts)
-  where
-    copies_from : List ActorSpec → ℕ → ℕ → Option ℕ
-    copies_from l made gone = cond (names d (find (λ (cast : ActorSpec). cast.actor == a) l)) (Some ((1 + made) - gone)) None
 
 step_going : (casts : List ActorSpec) (bound : ℕ → Option (List Step)) (told : Told) (done next_done : ℕ → ℕ) (h : History) (c : ℕ) (step : Step)
     → IsGoing casts bound told done h → MayTake c step h → IsGood bound told next_done c step h → IsGoing casts bound told next_done (after_step c step h)
-step_going casts bound told done next_done h c step w may good = record {
-  walk = record {
-    calls = calls;
-    runs = λ a. subst (λ (l : List (ℕ × RunItem)). IsPrefix (under a l) (told.runs a)) (sym (step_runs c step h)) (w.walk.runs a);
-    kept = new_kept casts bound told done h g w grows (λ d k answer none e. new d k answer none (came_by g d k answer v.sound e));
-    dead = λ a e. w.walk.dead a (ap (contains a) (sym (step_kills c step h)) ∙ e);
-    last = λ a e. ap (λ (l : List (ℕ × RunItem)). under a l) (step_runs c step h)
-        ∙ w.walk.last a (ap (contains a) (sym (step_kills c step h)) ∙ e);
-    steps = good.did;
-    holds = λ d a free gone. whole d (w.walk.holds d a free (held d a free ∙ gone));
-    asks = λ d a free gone dead. step_asks c a step h ∙ ap (λ (y : Bool). y || is_kill_of a step) (w.walk.asks d a free (held d a free ∙ gone) dead);
-    live = step_retired c step h ∙ w.walk.live;
-  };
-  world = v;
-  posted = step_keeps RunsPosted posted_step c step h w.posted may;
-  heard = λ i d a at. hear_more told d a h g grows w.world.sound (w.heard i d a (ap (λ (l : List Post). slice_get l i) (sym (step_collects c step h)) ∙ at));
-}
+step_going casts bound told done next_done h c step w may good =
+    let grows : Grows h g = step_grows c step h in
+    let v : IsWorld casts g = step_keeps (IsWorld casts) (world_step casts) c step h w.world may in
+    -- who had made all calls has
+    let whole : (d : ℕ) → calls_of d h ≡ told.calls d → calls_of d g ≡ told.calls d =
+    λ d all. front_whole (calls_of d g) (told.calls d) (calls d)
+    (subst (λ (l : List Submission). length l ≤ length (calls_of d g)) all (front_short (calls_of d h) (calls_of d g) (calls_grow d h g grows))) in
+    let no_more : (m n : ℕ) → n ≡ 0 → m ≡ m + n = λ m n none. omega (arith, none) in
+    let held : (d a : ℕ) → bound d ≡ None → copies_of d a h ≡ copies_of d a g =
+    λ d a free. copies_same_by d a h g grows.casts
+    (no_more (count_pairs d a h.copied) _ (none_added bound c d (is_copy_of a) step free (λ own. good.no_copy own a)) ∙ sym (copied_one c d a step h))
+    (no_more (count_pairs d a h.released) _ (none_added bound c d (is_release_of a) step free (λ own. good.no_release own a))
+    ∙ sym (released_one c d a step h)) in
+    record {
+      walk = record {
+        calls = calls;
+        runs = λ a. subst (λ (l : List (ℕ × RunItem)). IsPrefix (under a l) (told.runs a)) (sym (step_runs c step h)) (w.walk.runs a);
+        kept = new_kept casts bound told done h g w grows (λ d k answer none e. new d k answer none (came_by g d k answer v.sound e));
+        dead = λ a e. w.walk.dead a (ap (contains a) (sym (step_kills c step h)) ∙ e);
+        last = λ a e. ap (λ (l : List (ℕ × RunItem)). under a l) (step_runs c step h)
+            ∙ w.walk.last a (ap (contains a) (sym (step_kills c step h)) ∙ e);
+        steps = good.did;
+        holds = λ d a free gone. whole d (w.walk.holds d a free (held d a free ∙ gone));
+        asks = λ d a free gone dead. step_asks c a step h ∙ ap (λ (y : Bool). y || is_kill_of a step) (w.walk.asks d a free (held d a free ∙ gone) dead);
+        live = step_retired c step h ∙ w.walk.live;
+      };
+      world = v;
+      posted = step_keeps RunsPosted posted_step c step h w.posted may;
+      heard = λ i d a at. hear_more told d a h g grows w.world.sound
+          (w.heard i d a (ap (λ (l : List Post). slice_get l i) (sym (step_collects c step h)) ∙ at));
+    }
   where
     g : History
     g = after_step c step h
-
-    grows : Grows h g
-    grows = step_grows c step h
-
-    v : IsWorld casts g
-    v = step_keeps (IsWorld casts) (world_step casts) c step h w.world may
 
     calls : (d : ℕ) → IsPrefix (calls_of d g) (told.calls d)
     calls d = go (c == d) refl
@@ -223,40 +201,22 @@ step_going casts bound told done next_done h c step w may good = record {
         (slice_get_front (calls_of d g) (told.calls d) k call (calls d) at) refl none
         ∙ ap (λ (x : Answer). Some x) (sym died)
 
-    -- who had made all calls has
-    whole : (d : ℕ) → calls_of d h ≡ told.calls d → calls_of d g ≡ told.calls d
-    whole d all = front_whole (calls_of d g) (told.calls d) (calls d)
-        (subst (λ (l : List Submission). length l ≤ length (calls_of d g)) all (front_short (calls_of d h) (calls_of d g) (calls_grow d h g grows)))
-
-    no_more : (m n : ℕ) → n ≡ 0 → m ≡ m + n
-    no_more m n none = omega (arith, none)
-
-    held : (d a : ℕ) → bound d ≡ None → copies_of d a h ≡ copies_of d a g
-    held d a free = copies_same_by d a h g grows.casts
-        (no_more (count_pairs d a h.copied) _ (none_added bound c d (is_copy_of a) step free (λ own. good.no_copy own a)) ∙ sym (copied_one c d a step h))
-        (no_more (count_pairs d a h.released) _ (none_added bound c d (is_release_of a) step free (λ own. good.no_release own a))
-        ∙ sym (released_one c d a step h))
-
 -- ---- each thing
-
-whole_call : (call : Submission) → ◌≡◌ {A = Submission} (record { actor = call.actor; method = call.method; args = call.args }) call
-whole_call call = refl
 
 call_going : (casts : List ActorSpec) (bound : ℕ → Option (List Step)) (told : Told) (done : ℕ → ℕ) (h : History) (c : ℕ) (call : Submission)
     → IsGoing casts bound told done h → bound c ≡ None → slice_get (told.calls c) (length (calls_of c h)) ≡ Some call
     → refusal_of h (event.Submit c call.actor call.method call.args) ≡ None
     → IsGoing casts bound told done (add_event h (event.Submit c call.actor call.method call.args))
 call_going casts bound told done h c call w free next may =
+    let after : calls_of c (add_event h (event.Submit c call.actor call.method call.args)) ≡ calls_of c h ++ call ∷ [] =
+    under-push c c h.submitted (record { actor = call.actor; method = call.method; args = call.args })
+    ∙ ap (λ (b : Bool). calls_of c h ++ cond b (call ∷ []) []) (eq-eqb c c refl) in
     step_going casts bound told done done h c (Submit call.actor call.method call.args) w may (record {
       own = subst (λ (l : List Submission). IsPrefix l (told.calls c)) (sym after) (front_next (calls_of c h) (told.calls c) call (w.walk.calls c) next);
       no_copy = λ _ a. refl;
       no_release = λ _ a. refl;
       did = λ d steps is. did_other c d (done d) (Submit call.actor call.method call.args) steps h (unbound_differs bound c d steps free is) (w.walk.steps d steps is);
     })
-  where
-    after : calls_of c (add_event h (event.Submit c call.actor call.method call.args)) ≡ calls_of c h ++ call ∷ []
-    after = under-push c c h.submitted (record { actor = call.actor; method = call.method; args = call.args })
-        ∙ ap (λ (b : Bool). calls_of c h ++ cond b (call ∷ []) []) (eq-eqb c c refl)
 
 ask_going : (casts : List ActorSpec) (bound : ℕ → Option (List Step)) (told : Told) (done : ℕ → ℕ) (h : History) (c a : ℕ)
     → IsGoing casts bound told done h → bound c ≡ None → refusal_of h (event.AskKill c a) ≡ None
@@ -294,27 +254,22 @@ further bound told done h g c steps is own others d other has = go (c == d) refl
 take_going : (casts : List ActorSpec) (bound : ℕ → Option (List Step)) (told : Told) (plans : ℕ → List Step) (late : At) (done : ℕ → ℕ) (h : History)
     (c : ℕ) (steps : List Step) (step : Step) → IsLate casts bound told plans late → IsGoing casts bound told done h → bound c ≡ Some steps
     → slice_get steps (done c) ≡ Some step → MayTake c step h → IsGoing casts bound told (one_step_more c done) (after_step c step h)
-take_going casts bound told plans late done h c steps step l w is at may = step_going casts bound told done (one_step_more c done) h c step w may (record {
-  own = subst (λ (calls : List Submission). IsPrefix (calls_of c g) calls) (sym (told_calls casts bound told plans late c steps l is))
-      (subst (λ (calls : List Submission). IsPrefix calls (filter_map submission_of steps)) (sym own.calls)
-      (IsPrefix-filter_map submission_of (take (done c + 1) steps) steps front));
-  no_copy = λ free a. let bad : None ≡ Some steps = sym free ∙ is in cc;
-  no_release = λ free a. let bad : None ≡ Some steps = sym free ∙ is in cc;
-  did = further bound told done h g c steps is own
-      (λ d other has differ. did_other c d (done d) step other h differ (w.walk.steps d other has));
-})
-  where
-    g : History
-    g = after_step c step h
-
-    own : DidFirst c (done c + 1) steps g
-    own = did_own c (done c) step steps h at (w.walk.steps c steps is)
-
-    front : IsPrefix (take (done c + 1) steps) steps
-    front =
-        let within = slice_get_within steps (done c) step at in
-        subst (λ (all : List Step). IsPrefix (take (done c + 1) steps) all) (take-past steps (length steps) (omega arith))
-        (take-prefix steps (done c + 1) (length steps) (omega (arith, within)))
+take_going casts bound told plans late done h c steps step l w is at may =
+    let g = after_step c step h in
+    let own : DidFirst c (done c + 1) steps g = did_own c (done c) step steps h at (w.walk.steps c steps is) in
+    let front : IsPrefix (take (done c + 1) steps) steps =
+    let within = slice_get_within steps (done c) step at in
+    subst (λ (all : List Step). IsPrefix (take (done c + 1) steps) all) (take-past steps (length steps) (omega arith))
+    (take-prefix steps (done c + 1) (length steps) (omega (arith, within))) in
+    step_going casts bound told done (one_step_more c done) h c step w may (record {
+      own = subst (λ (calls : List Submission). IsPrefix (calls_of c g) calls) (sym (told_calls casts bound told plans late c steps l is))
+          (subst (λ (calls : List Submission). IsPrefix calls (filter_map submission_of steps)) (sym own.calls)
+          (IsPrefix-filter_map submission_of (take (done c + 1) steps) steps front));
+      no_copy = λ free a. let bad : None ≡ Some steps = sym free ∙ is in cc;
+      no_release = λ free a. let bad : None ≡ Some steps = sym free ∙ is in cc;
+      did = further bound told done h g c steps is own
+          (λ d other has differ. did_other c d (done d) step other h differ (w.walk.steps d other has));
+    })
 
 without_going : (casts : List ActorSpec) (bound : ℕ → Option (List Step)) (told : Told) (done : ℕ → ℕ) (h : History) (c a : ℕ) (steps : List Step)
     → IsGoing casts bound told done h → bound c ≡ Some steps → slice_get steps (done c) ≡ Some (Kill a) → is_dead a h ≡ true

@@ -1,33 +1,19 @@
 -- An event with a call that stands for the one made: it is accepted, too, and leaves the same but for that call.
-use Rattle.act_early.proofs.Common.{◌≡◌, ℕ, zero, suc, Bool, true, false, cond, List, [], ◌∷◌, ◌++◌, length, take, map, filter, Option, Some, None}
-use Rattle.act_early.proofs.Common.{inl, inr, ◌⊎◌, refl, ap, sym, ◌∙◌, subst, ◌==◌, ◌||◌, not, filter_map, slice_get, option_map, is_some, is_none, list_all, nat_lt}
-use Rattle.act_early.proofs.Common.{append-nil, eqb-true, eq-eqb, Arg, Method, Event, RunItem, Submission}
-use Rattle.act_early.proofs.Common.{Letter, Step, Answer, NoCaller, Sending, SubmitRefusal, calls_to, number_of, kept_at, is_known, settle, needs, send_refusal}
-use Rattle.act_early.proofs.Common.{submit_refusal, limit_refusal, ActorSpec, History, under, is_caller, calls_of, copies_of, limit_of, runs_of, kept_of}
-use Rattle.act_early.proofs.Common.{has_letter, ran_count, run_item, next_item, answer_in, refusal_of, add_event, after_run, and_also, unanswered, call_letter}
-use Rattle.act_early.proofs.Common.{was_sent, deliver_refusal, is_last, under-push, slice_get_front, slice_get_last, option_map-none, option_or-none, option_or-none_second}
-use Rattle.act_early.proofs.Common.{needs-none, kept_at_is, kept_by, IsPrefix, IsAsSubmitted, All_at, consistent, IsNext, next_item_is, calls_to-at, At}
-use Rattle.std.specs.Prelude.{nat_le}
-use Rattle.std.specs.Option.{option_or}
-use Rattle.act_rules.specs.Submissions.{is_earlier, copies_held}
+use Rattle.act_told_ends.proofs.Common.{◌≡◌, ℕ, Bool, true, false, cond, List, [], ◌∷◌, ◌++◌, length, take, map, filter, Option, Some, None, inl, inr, ◌⊎◌}
+use Rattle.act_told_ends.proofs.Common.{refl, ap, sym, ◌∙◌, subst, ◌==◌, ◌||◌, not, filter_map, slice_get, option_map, is_some, is_none, list_all, nat_lt}
+use Rattle.act_told_ends.proofs.Common.{append-nil, eqb-true, eq-eqb, Arg, Method, Event, RunItem, Submission, Letter, Step, Answer, NoCaller, Sending}
+use Rattle.act_told_ends.proofs.Common.{SubmitRefusal, calls_to, number_of, kept_at, is_known, settle, needs, send_refusal, submit_refusal, limit_refusal}
+use Rattle.act_told_ends.proofs.Common.{ActorSpec, History, under, is_caller, calls_of, copies_of, limit_of, runs_of, kept_of, has_letter, ran_count, run_item}
+use Rattle.act_told_ends.proofs.Common.{next_item, answer_in, refusal_of, add_event, after_run, and_also, unanswered, call_letter, was_sent, deliver_refusal}
+use Rattle.act_told_ends.proofs.Common.{is_last, under-push, slice_get_front, slice_get_last, option_map-none, option_or-none, option_or-none_second}
+use Rattle.act_told_ends.proofs.Common.{needs-none, kept_at_is, kept_by, IsPrefix, IsAsSubmitted, All_at, consistent, IsNext, next_item_is, calls_to-at, At}
+use Rattle.act_told_ends.proofs.Common.{nat_le, option_or, is_earlier, copies_held, CallLetter, NoteLetter, WorldRefusal, SubmitRefused, NoSuchActor, NoCopy}
+use Rattle.act_told_ends.proofs.Common.{TooManyArgs, BadFuture, TooManyCalls, NotReady, Answered, Settled, length_push, take-at, same_kept, kept_size, IsWorld}
+use Rattle.act_told_ends.proofs.Common.{world, take-front, Told, StandFor, MayStandFor, Ran, IsAsRun, arg_as_run}
 use Rattle.act_rules.specs.declared.event.Event.TheVariants as event
-use Rattle.act_rules.specs.declared.history.Letter.TheVariants.{Call as CallLetter, Note as NoteLetter}
-use Rattle.act_rules.specs.declared.outcome.WorldRefusal.{WorldRefusal}
-use Rattle.act_rules.specs.declared.outcome.WorldRefusal.TheVariants.{Submit as SubmitRefused}
-use Rattle.act_rules.specs.declared.outcome.SubmitRefusal.TheVariants.{NoActor as NoSuchActor, NoHandle as NoCopy, TooManyArgs, BadFuture, TooManyCalls}
-use Rattle.act_rules.specs.declared.outcome.SendRefusal.TheVariants.{NotReady, Answered}
-use Rattle.act_types.specs.declared.call.Settled.{Settled}
-use Rattle.std.proofs.lemmas.List.{length_push}
-use Rattle.act_early.proofs.Counting.{take-at}
-use Rattle.act_early.proofs.Shifting.{head_same, tail_same}
-use Rattle.act_early.proofs.Ending.{same_kept, kept_size}
-use Rattle.act_early.proofs.Worlds.{IsWorld, world}
-use Rattle.act_early.proofs.Items.{take-front}
-use Rattle.act_told_ends.specs.Told.{Told}
-use Rattle.act_told_ends.specs.Untold.{StandFor, MayStandFor, Ran, IsAsRun, arg_as_run}
 use Rattle.act_told_ends.proofs.Bridge.{IsLate}
 use Rattle.act_told_ends.proofs.Later.{IsLater}
-use Rattle.act_told_ends.proofs.Twins.{actors, firsts, length_same, at_same, none_same, number_same, calls_to_same, count_same, passing_same, map-take, slice_get-take}
+use Rattle.act_told_ends.proofs.Twins.{actors, length_same, at_same, none_same, number_same, calls_to_same, count_same, passing_same, map-take, slice_get-take}
 use Rattle.act_told_ends.proofs.Twins.{as_run, as_run_length, as_run_earlier, as_run_known, as_run_settles}
 
 -- calls that may stand for those of a play
@@ -87,9 +73,10 @@ kept_as c h subs same = same_kept (kept_of c g) (kept_of c h) (kept_size c g ∙
     at k = go (slice_get (calls_of c h) k) refl
       where
         go : (o : Option Submission) → slice_get (calls_of c h) k ≡ o → kept_at (kept_of c g) k ≡ kept_at (kept_of c h) k
-        go None e = kept_at_is g c k ∙ ap (kept_by g c k) (none_same (under c subs) (calls_of c h) k same e) ∙ sym (kept_at_is h c k ∙ ap (kept_by h c k) e)
+        go None e = kept_at_is g c k ∙ ap (kept_by g c k) (none_same (λ (call : Submission). call.actor) (under c subs) (calls_of c h) k same e)
+            ∙ sym (kept_at_is h c k ∙ ap (kept_by h c k) e)
         go (Some call) e =
-            let twin = at_same (under c subs) (calls_of c h) k call same e in
+            let twin = at_same (λ (call : Submission). call.actor) (under c subs) (calls_of c h) k call same e in
             kept_at_is g c k ∙ ap (kept_by g c k) twin.1
             ∙ ap (λ (a : ℕ). slice_get (filter_map (answer_in h c k a) h.collected) 0) twin.2
             ∙ sym (kept_at_is h c k ∙ ap (kept_by h c k) e)
@@ -107,26 +94,18 @@ pub record IsTwin (x : Stand) (c k : ℕ) (call twin : Submission) : Type 0 wher
 ran_as : (x : Stand) (c k : ℕ) (call twin : Submission) → slice_get (x.told.calls c) k ≡ Some call → Ran x.told c k twin
     → twin.args ≡ as_run (kept_of c x.late.history) call.args
 ran_as x c k call twin at r =
+    let late = x.late.history in
+    let w : IsWorld x.casts late = world x.casts x.plans x.late x.is_late.play in
+    let submitted : IsAsSubmitted (λ d. calls_of d late) (λ d. kept_of d late) r.item =
+    All_at (IsAsSubmitted (λ d. calls_of d late) (λ d. kept_of d late)) (runs_of r.actor late) r.place r.item
+    ((consistent late w.sound).as_submitted r.actor) (ap (λ (items : List RunItem). slice_get items r.place) (x.is_late.leaves.runs r.actor) ∙ r.at) in
+    let there : slice_get (x.told.calls c) k ≡ Some submitted.call =
+    ap (λ (calls : List Submission). slice_get calls k) (sym (x.is_late.leaves.calls c))
+    ∙ subst (λ (d : ℕ). slice_get (calls_of d late) k ≡ Some submitted.call) r.caller
+    (subst (λ (j : ℕ). slice_get (calls_of r.item.caller late) j ≡ Some submitted.call) r.future submitted.at) in
+    let one : submitted.call ≡ call = let e : Some submitted.call ≡ Some call = sym there ∙ at in cc in
     r.is.args ∙ ap (map arg_as_run) (submitted.args ∙ ap (λ (d : ℕ). map (settle (kept_of d late)) submitted.call.args) r.caller
     ∙ ap (λ (s : Submission). map (settle (kept_of c late)) s.args) one)
-  where
-    late : History
-    late = x.late.history
-
-    w : IsWorld x.casts late
-    w = world x.casts x.plans x.late x.is_late.play
-
-    submitted : IsAsSubmitted (λ d. calls_of d late) (λ d. kept_of d late) r.item
-    submitted = All_at (IsAsSubmitted (λ d. calls_of d late) (λ d. kept_of d late)) (runs_of r.actor late) r.place r.item
-        ((consistent late w.sound).as_submitted r.actor) (ap (λ (items : List RunItem). slice_get items r.place) (x.is_late.leaves.runs r.actor) ∙ r.at)
-
-    there : slice_get (x.told.calls c) k ≡ Some submitted.call
-    there = ap (λ (calls : List Submission). slice_get calls k) (sym (x.is_late.leaves.calls c))
-        ∙ subst (λ (d : ℕ). slice_get (calls_of d late) k ≡ Some submitted.call) r.caller
-        (subst (λ (j : ℕ). slice_get (calls_of r.item.caller late) j ≡ Some submitted.call) r.future submitted.at)
-
-    one : submitted.call ≡ call
-    one = let e : Some submitted.call ≡ Some call = sym there ∙ at in cc
 
 pub twin_of : (x : Stand) (c k : ℕ) (call : Submission) → slice_get (x.told.calls c) k ≡ Some call → (twin : Submission) × IsTwin x c k call twin
 twin_of x c k call at = go (x.stand c)
@@ -142,7 +121,7 @@ twin_of x c k call at = go (x.stand c)
       },
     )
     go (inr stands) =
-        let twin = at_same (x.calls c) (x.told.calls c) k call stands.1.actors at in (
+        let twin = at_same (λ (call : Submission). call.actor) (x.calls c) (x.told.calls c) k call stands.1.actors at in (
           twin.0,
           record {
             at = twin.1;
@@ -189,6 +168,8 @@ other_args : (o : Option ℕ) (count : ℕ) (args others : List Arg) → submit_
     → (nat_le (length others) 4 ≡ true) × (list_all (is_earlier count) others ≡ true))
     → submit_refusal o count others ≡ None
 other_args o count args others e fit =
+    let last : Option SubmitRefusal = needs (nat_lt count 65536) TooManyCalls None in
+    let rest : List Arg → Option SubmitRefusal = λ args. needs (nat_le (length args) 4) TooManyArgs (needs (list_all (is_earlier count) args) BadFuture last) in
     let first = needs-none (is_some o) NoSuchActor (needs (nat_lt 0 (copies_held o)) NoCopy (rest args)) e in
     let second = needs-none (nat_lt 0 (copies_held o)) NoCopy (rest args) first.1 in
     let third = needs-none (nat_le (length args) 4) TooManyArgs (needs (list_all (is_earlier count) args) BadFuture last) second.1 in
@@ -199,28 +180,6 @@ other_args o count args others e fit =
     let three = fits.0 in
     let four = fits.1 in
     rw (one, two, three, four) fourth.1
-  where
-    last : Option SubmitRefusal
-    last = needs (nat_lt count 65536) TooManyCalls None
-
-    rest : List Arg → Option SubmitRefusal
-    rest args = needs (nat_le (length args) 4) TooManyArgs (needs (list_all (is_earlier count) args) BadFuture last)
-
--- of two lists with the same numbers, what stands at a place
-first_at : (xs ys : List (ℕ × Submission)) (n : ℕ) (y : ℕ × Submission) → firsts xs ≡ firsts ys → slice_get ys n ≡ Some y
-    → (other : ℕ × Submission) × (slice_get xs n ≡ Some other) × (other.0 ≡ y.0)
-first_at xs [] n y e at = cc
-first_at [] (z ∷ ys) n y e at = cc
-first_at (x ∷ xs) (z ∷ ys) zero y e at =
-    let same : z ≡ y = cc in (x, refl, head_same x.0 z.0 (firsts xs) (firsts ys) e ∙ ap (λ (call : ℕ × Submission). call.0) same)
-first_at (x ∷ xs) (z ∷ ys) (suc n) y e at = first_at xs ys n y (tail_same x.0 z.0 (firsts xs) (firsts ys) e) at
-
-none_at : (xs ys : List (ℕ × Submission)) (n : ℕ) → firsts xs ≡ firsts ys → slice_get ys n ≡ None → slice_get xs n ≡ None
-none_at [] [] n e at = refl
-none_at (x ∷ xs) [] n e at = cc
-none_at [] (z ∷ ys) n e at = cc
-none_at (x ∷ xs) (z ∷ ys) zero e at = cc
-none_at (x ∷ xs) (z ∷ ys) (suc n) e at = none_at xs ys n (tail_same x.0 z.0 (firsts xs) (firsts ys) e) at
 
 -- an event of which no call is asked
 plain : (x : Stand) (h : History) (subs : List (ℕ × Submission)) (other : Event) (next : List (ℕ × Submission)) (g : History)
@@ -238,11 +197,36 @@ plain x h subs other next g may is left calls same first = record {
 submit_swapped : (x : Stand) (h : History) (subs : List (ℕ × Submission)) (c a : ℕ) (method : Method) (args : List Arg)
     → refusal_of h (event.Submit c a method args) ≡ None → IsLater h x.late.history → IsLater (add_event h (event.Submit c a method args)) x.late.history
     → AreFirst x.calls h subs → IsSwapped x h subs (event.Submit c a method args)
-submit_swapped x h subs c a method args may was later first = record { may = may_swapped; next = next; left = left; first = first_next }
+submit_swapped x h subs c a method args may was later first =
+    let g = with_subs h subs in
+    let swapped : swap x.calls h (event.Submit c a method args) ≡ event.Submit c a twin.method twin.args = ap (by_call c a method args) found.1.at in
+    let left : add_event g (swap x.calls h (event.Submit c a method args)) ≡ with_subs (add_event h (event.Submit c a method args)) next =
+    ap (add_event g) swapped in
+    let same : (d : ℕ) → actors (under d subs) ≡ actors (calls_of d h) = λ d. same_actors x h subs d was first in
+    let kept : kept_of c g ≡ kept_of c h = kept_as c h subs (same c) in
+    let pending : unanswered c a g ≡ unanswered c a h =
+    ap (λ (kept : List (Option Answer)). length (filter (λ (call : ℕ × Submission). is_none (kept_at kept call.0)) (calls_to a (under c subs)))) kept
+    ∙ passing_same (λ (k : ℕ). is_none (kept_at (kept_of c h) k)) (calls_to a (under c subs)) (calls_to a (calls_of c h))
+    (calls_to_same a (under c subs) (calls_of c h) (same c)) in
+    let known : (is_caller c h ≡ true) × (option_map SubmitRefused (option_or (submit_refusal (copies_of c a h) n args)
+    (limit_refusal (limit_of c a h) (unanswered c a h))) ≡ None) =
+    needs-none (is_caller c h) NoCaller (option_map SubmitRefused (option_or (submit_refusal (copies_of c a h) n args)
+    (limit_refusal (limit_of c a h) (unanswered c a h)))) may in
+    let none : option_or (submit_refusal (copies_of c a h) n args) (limit_refusal (limit_of c a h) (unanswered c a h)) ≡ None =
+    option_map-none SubmitRefused (option_or (submit_refusal (copies_of c a h) n args) (limit_refusal (limit_of c a h) (unanswered c a h))) known.1 in
+    let own : submit_refusal (copies_of c a h) n args ≡ None =
+    option_or-none (submit_refusal (copies_of c a h) n args) (limit_refusal (limit_of c a h) (unanswered c a h)) none in
+    let limit : limit_refusal (limit_of c a h) (unanswered c a h) ≡ None =
+    option_or-none_second (submit_refusal (copies_of c a h) n args) (limit_refusal (limit_of c a h) (unanswered c a h)) none in
+    let own_twin : submit_refusal (copies_of c a h) n twin.args ≡ None =
+    other_args (copies_of c a h) n args twin.args own (λ few earlier. fits_args n call twin (kept_of c x.late.history) found.1.is few earlier) in
+    let may_twin : refusal_of g (event.Submit c a twin.method twin.args) ≡ None =
+    let one = known.0 in
+    let two = length_same (under c subs) (calls_of c h) (same c) in
+    rw (one, two, own_twin, pending, limit) refl in
+    let may_swapped : refusal_of g (swap x.calls h (event.Submit c a method args)) ≡ None = ap (refusal_of g) swapped ∙ may_twin in
+    record { may = may_swapped; next = next; left = left; first = first_next }
   where
-    g : History
-    g = with_subs h subs
-
     n : ℕ
     n = length (calls_of c h)
 
@@ -263,54 +247,8 @@ submit_swapped x h subs c a method args may was later first = record { may = may
     twin : Submission
     twin = found.0
 
-    swapped : swap x.calls h (event.Submit c a method args) ≡ event.Submit c a twin.method twin.args
-    swapped = ap (by_call c a method args) found.1.at
-
     next : List (ℕ × Submission)
     next = subs ++ (c, record { actor = a; method = twin.method; args = twin.args }) ∷ []
-
-    left : add_event g (swap x.calls h (event.Submit c a method args)) ≡ with_subs (add_event h (event.Submit c a method args)) next
-    left = ap (add_event g) swapped
-
-    same : (d : ℕ) → actors (under d subs) ≡ actors (calls_of d h)
-    same d = same_actors x h subs d was first
-
-    kept : kept_of c g ≡ kept_of c h
-    kept = kept_as c h subs (same c)
-
-    pending : unanswered c a g ≡ unanswered c a h
-    pending = ap (λ (kept : List (Option Answer)). length (filter (λ (call : ℕ × Submission). is_none (kept_at kept call.0)) (calls_to a (under c subs)))) kept
-        ∙ passing_same (λ (k : ℕ). is_none (kept_at (kept_of c h) k)) (calls_to a (under c subs)) (calls_to a (calls_of c h))
-        (calls_to_same a (under c subs) (calls_of c h) (same c))
-
-    known : (is_caller c h ≡ true) × (option_map SubmitRefused (option_or (submit_refusal (copies_of c a h) n args)
-        (limit_refusal (limit_of c a h) (unanswered c a h))) ≡ None)
-    known = needs-none (is_caller c h) NoCaller (option_map SubmitRefused (option_or (submit_refusal (copies_of c a h) n args)
-        (limit_refusal (limit_of c a h) (unanswered c a h)))) may
-
-    none : option_or (submit_refusal (copies_of c a h) n args) (limit_refusal (limit_of c a h) (unanswered c a h)) ≡ None
-    none = option_map-none SubmitRefused (option_or (submit_refusal (copies_of c a h) n args) (limit_refusal (limit_of c a h) (unanswered c a h))) known.1
-
-    own : submit_refusal (copies_of c a h) n args ≡ None
-    own = option_or-none (submit_refusal (copies_of c a h) n args) (limit_refusal (limit_of c a h) (unanswered c a h)) none
-
-    limit : limit_refusal (limit_of c a h) (unanswered c a h) ≡ None
-    limit = option_or-none_second (submit_refusal (copies_of c a h) n args) (limit_refusal (limit_of c a h) (unanswered c a h)) none
-
-    own_twin : submit_refusal (copies_of c a h) n twin.args ≡ None
-    own_twin = other_args (copies_of c a h) n args twin.args own (λ few earlier. fits_args n call twin (kept_of c x.late.history) found.1.is few earlier)
-
-    allowed : (b : Bool) (o p : Option SubmitRefusal) → b ≡ true → o ≡ None → p ≡ None → needs b NoCaller (option_map SubmitRefused (option_or o p)) ≡ None
-    allowed b o p y z w = rw (y, z, w) refl
-
-    may_twin : refusal_of g (event.Submit c a twin.method twin.args) ≡ None
-    may_twin = allowed (is_caller c h) (submit_refusal (copies_of c a h) (length (under c subs)) twin.args)
-        (limit_refusal (limit_of c a h) (unanswered c a g)) known.0
-        (ap (λ (m : ℕ). submit_refusal (copies_of c a h) m twin.args) (length_same (under c subs) (calls_of c h) (same c)) ∙ own_twin)
-        (ap (limit_refusal (limit_of c a h)) pending ∙ limit)
-
-    may_swapped : refusal_of g (swap x.calls h (event.Submit c a method args)) ≡ None
-    may_swapped = ap (refusal_of g) swapped ∙ may_twin
 
     -- the twin has the call's actor
     is_twin : ◌≡◌ {A = Submission} (record { actor = a; method = twin.method; args = twin.args }) twin
@@ -359,72 +297,50 @@ send_swapped x h subs c k may was first = go (slice_get (calls_of c h) k) refl
         no_future : (o : Option Submission) → o ≡ None → send_refusal (kept_of c h) k (was_sent c k (slice_get (calls_of c h) k) h) o ≡ None → ⊥
         no_future None e f = cc
         no_future (Some call) e f = cc
-    go (Some call) e = plain x h subs (event.Send c k) subs (add_event h (event.Send c k)) may_twin refl left (λ d. refl) (λ d. refl) first
-      where
-        told : slice_get (x.told.calls c) k ≡ Some call
-        told = slice_get_front (calls_of c h) (x.told.calls c) k call (told_front x h c was) e
-
-        twin : (twin : Submission) × (slice_get (under c subs) k ≡ Some twin) × (twin.actor ≡ call.actor)
-        twin = at_same (under c subs) (calls_of c h) k call same e
-
-        found : (other : Submission) × IsTwin x c k call other
-        found = twin_of x c k call told
-
-        one : twin.0 ≡ found.0
-        one =
-            let there : slice_get (x.calls c) k ≡ Some twin.0 = slice_get-take (length (calls_of c h)) k (x.calls c) twin.0
-            (ap (λ (l : List Submission). slice_get l k) (sym (first c)) ∙ twin.1) in
-            let both : Some twin.0 ≡ Some found.0 = sym there ∙ found.1.at in
-            cc
-
-        kept : kept_of c g ≡ kept_of c h
-        kept = kept_as c h subs same
-
-        letter : call_letter c k twin.0 g ≡ call_letter c k call h
-        letter = letter_same c k h subs call twin.0 twin.2 same
-
-        known : list_all (is_known (kept_of c h)) call.args ≡ true
-        known =
-            let needed = needs-none (is_caller c h) NoCaller (option_map Sending (send_refusal (kept_of c h) k (was_sent c k (slice_get (calls_of c h) k) h)
-            (slice_get (calls_of c h) k))) may in
-            let none = option_map-none Sending (send_refusal (kept_of c h) k (was_sent c k (slice_get (calls_of c h) k) h) (slice_get (calls_of c h) k)) needed.1 in
-            asked (was_sent c k (slice_get (calls_of c h) k) h)
-            (subst (λ (o : Option Submission). send_refusal (kept_of c h) k (was_sent c k (slice_get (calls_of c h) k) h) o ≡ None) e none)
-          where
-            asked : (sent : Bool) → send_refusal (kept_of c h) k sent (Some call) ≡ None → list_all (is_known (kept_of c h)) call.args ≡ true
-            asked sent f = (needs-none (list_all (is_known (kept_of c h)) call.args) NotReady
-                (needs (sent || not (is_some (kept_at (kept_of c h) k))) Answered None) f).0
-
-        known_twin : list_all (is_known (kept_of c h)) twin.0.args ≡ true
-        known_twin = ap (λ (s : Submission). list_all (is_known (kept_of c h)) s.args) one
-            ∙ known_args (kept_of c h) (kept_of c x.late.history) call found.0 found.1.is known
-
+    go (Some call) e =
+        let told : slice_get (x.told.calls c) k ≡ Some call = slice_get_front (calls_of c h) (x.told.calls c) k call (told_front x h c was) e in
+        let twin : (twin : Submission) × (slice_get (under c subs) k ≡ Some twin) × (twin.actor ≡ call.actor) =
+        at_same (λ (call : Submission). call.actor) (under c subs) (calls_of c h) k call same e in
+        let found : (other : Submission) × IsTwin x c k call other = twin_of x c k call told in
+        let one : twin.0 ≡ found.0 =
+        let there : slice_get (x.calls c) k ≡ Some twin.0 = slice_get-take (length (calls_of c h)) k (x.calls c) twin.0
+        (ap (λ (l : List Submission). slice_get l k) (sym (first c)) ∙ twin.1) in
+        let both : Some twin.0 ≡ Some found.0 = sym there ∙ found.1.at in
+        cc in
+        let kept : kept_of c g ≡ kept_of c h = kept_as c h subs same in
+        let letter : call_letter c k twin.0 g ≡ call_letter c k call h = letter_same c k h subs call twin.0 twin.2 same in
+        let known : list_all (is_known (kept_of c h)) call.args ≡ true =
+        let asked : (sent : Bool) → send_refusal (kept_of c h) k sent (Some call) ≡ None → list_all (is_known (kept_of c h)) call.args ≡ true =
+        λ sent f. (needs-none (list_all (is_known (kept_of c h)) call.args) NotReady
+        (needs (sent || not (is_some (kept_at (kept_of c h) k))) Answered None) f).0 in
+        let needed = needs-none (is_caller c h) NoCaller (option_map Sending (send_refusal (kept_of c h) k (was_sent c k (slice_get (calls_of c h) k) h)
+        (slice_get (calls_of c h) k))) may in
+        let none = option_map-none Sending (send_refusal (kept_of c h) k (was_sent c k (slice_get (calls_of c h) k) h) (slice_get (calls_of c h) k)) needed.1 in
+        asked (was_sent c k (slice_get (calls_of c h) k) h)
+        (subst (λ (o : Option Submission). send_refusal (kept_of c h) k (was_sent c k (slice_get (calls_of c h) k) h) o ≡ None) e none) in
+        let known_twin : list_all (is_known (kept_of c h)) twin.0.args ≡ true =
+        ap (λ (s : Submission). list_all (is_known (kept_of c h)) s.args) one
+        ∙ known_args (kept_of c h) (kept_of c x.late.history) call found.0 found.1.is known in
         -- the refusal of sending call s, as it is in h
-        of_call : Submission → Bool → Option WorldRefusal
-        of_call s sent = needs (is_caller c h) NoCaller (option_map Sending (needs (list_all (is_known (kept_of c h)) s.args) NotReady
-            (needs (sent || not (is_some (kept_at (kept_of c h) k))) Answered None)))
-
-        in_walk : refusal_of g (event.Send c k) ≡ of_call twin.0 (has_letter (call_letter c k call h) h.mail)
-        in_walk =
-            ap (λ (o : Option Submission). needs (is_caller c h) NoCaller (option_map Sending (send_refusal (kept_of c g) k (was_sent c k o g) o))) twin.1
-            ∙ ap (λ (l : Letter). needs (is_caller c h) NoCaller (option_map Sending (send_refusal (kept_of c g) k (has_letter l h.mail) (Some twin.0)))) letter
-            ∙ ap (λ (kept : List (Option Answer)). needs (is_caller c h) NoCaller (option_map Sending
-            (send_refusal kept k (has_letter (call_letter c k call h) h.mail) (Some twin.0)))) kept
-
-        in_play : refusal_of h (event.Send c k) ≡ of_call call (has_letter (call_letter c k call h) h.mail)
-        in_play = ap (λ (o : Option Submission). needs (is_caller c h) NoCaller (option_map Sending (send_refusal (kept_of c h) k (was_sent c k o h) o))) e
-
-        swapped : (sent : Bool) → of_call call sent ≡ None → of_call twin.0 sent ≡ None
-        swapped sent f = ap (λ (b : Bool). needs (is_caller c h) NoCaller (option_map Sending (needs b NotReady
-            (needs (sent || not (is_some (kept_at (kept_of c h) k))) Answered None)))) (known_twin ∙ sym known) ∙ f
-
-        may_twin : refusal_of g (event.Send c k) ≡ None
-        may_twin = in_walk ∙ swapped (has_letter (call_letter c k call h) h.mail) (sym in_play ∙ may)
-
-        left : add_event g (event.Send c k) ≡ with_subs (add_event h (event.Send c k)) subs
-        left = ap (λ (o : Option Letter). record h { submitted = subs; mail = and_also h.mail o }) (
-            ap (option_map (λ (call : Submission). call_letter c k call g)) twin.1 ∙ ap (λ (l : Letter). Some l) letter
-            ∙ sym (ap (option_map (λ (call : Submission). call_letter c k call h)) e))
+        let of_call : Submission → Bool → Option WorldRefusal =
+        λ s sent. needs (is_caller c h) NoCaller (option_map Sending (needs (list_all (is_known (kept_of c h)) s.args) NotReady
+        (needs (sent || not (is_some (kept_at (kept_of c h) k))) Answered None))) in
+        let in_walk : refusal_of g (event.Send c k) ≡ of_call twin.0 (has_letter (call_letter c k call h) h.mail) =
+        ap (λ (o : Option Submission). needs (is_caller c h) NoCaller (option_map Sending (send_refusal (kept_of c g) k (was_sent c k o g) o))) twin.1
+        ∙ ap (λ (l : Letter). needs (is_caller c h) NoCaller (option_map Sending (send_refusal (kept_of c g) k (has_letter l h.mail) (Some twin.0)))) letter
+        ∙ ap (λ (kept : List (Option Answer)). needs (is_caller c h) NoCaller (option_map Sending
+        (send_refusal kept k (has_letter (call_letter c k call h) h.mail) (Some twin.0)))) kept in
+        let in_play : refusal_of h (event.Send c k) ≡ of_call call (has_letter (call_letter c k call h) h.mail) =
+        ap (λ (o : Option Submission). needs (is_caller c h) NoCaller (option_map Sending (send_refusal (kept_of c h) k (was_sent c k o h) o))) e in
+        let swapped : (sent : Bool) → of_call call sent ≡ None → of_call twin.0 sent ≡ None =
+        λ sent f. ap (λ (b : Bool). needs (is_caller c h) NoCaller (option_map Sending (needs b NotReady
+        (needs (sent || not (is_some (kept_at (kept_of c h) k))) Answered None)))) (known_twin ∙ sym known) ∙ f in
+        let may_twin : refusal_of g (event.Send c k) ≡ None = in_walk ∙ swapped (has_letter (call_letter c k call h) h.mail) (sym in_play ∙ may) in
+        let left : add_event g (event.Send c k) ≡ with_subs (add_event h (event.Send c k)) subs =
+        ap (λ (o : Option Letter). record h { submitted = subs; mail = and_also h.mail o }) (
+        ap (option_map (λ (call : Submission). call_letter c k call g)) twin.1 ∙ ap (λ (l : Letter). Some l) letter
+        ∙ sym (ap (option_map (λ (call : Submission). call_letter c k call h)) e)) in
+        plain x h subs (event.Send c k) subs (add_event h (event.Send c k)) may_twin refl left (λ d. refl) (λ d. refl) first
 
 release_swapped : (x : Stand) (h : History) (subs : List (ℕ × Submission)) (c a : ℕ) → refusal_of h (event.Release c a) ≡ None → IsLater h x.late.history
     → AreFirst x.calls h subs → IsSwapped x h subs (event.Release c a)
@@ -459,7 +375,8 @@ run_swapped x h subs a c may was later first = go (next_item a c h) refl later
         calls : option_map (run_item c n (kept_of c h)) (slice_get (calls_to a (calls_of c h)) n) ≡ None
             → option_map (run_item c n (kept_of c g)) (slice_get (calls_to a (under c subs)) n) ≡ None
         calls f = ap (option_map (run_item c n (kept_of c g)))
-            (none_at (calls_to a (under c subs)) (calls_to a (calls_of c h)) n (calls_to_same a (under c subs) (calls_of c h) same)
+            (none_same (λ (call : ℕ × Submission). call.0) (calls_to a (under c subs)) (calls_to a (calls_of c h)) n
+            (calls_to_same a (under c subs) (calls_of c h) same)
             (option_map-none (run_item c n (kept_of c h)) (slice_get (calls_to a (calls_of c h)) n) f))
 
         arrived : (b : Bool) → cond b (option_map (run_item c n (kept_of c h)) (slice_get (calls_to a (calls_of c h)) n)) None ≡ None
@@ -470,6 +387,29 @@ run_swapped x h subs a c may was later first = go (next_item a c h) refl later
     go : (o : Option RunItem) → next_item a c h ≡ o → IsLater (after_run a c h o) x.late.history → IsSwapped x h subs (event.Run a c)
     go None e later = plain x h subs (event.Run a c) subs h may (ap (after_run a c h) e) (ap (after_run a c g) (none_next e)) (λ d. refl) (λ d. refl) first
     go (Some item) e later =
+        let after : runs_of a (after_run a c h (Some item)) ≡ runs_of a h ++ item ∷ [] =
+        under-push a a h.ran item ∙ ap (λ (b : Bool). runs_of a h ++ cond b (item ∷ []) []) (eq-eqb a a refl) in
+        let told_run : slice_get (x.told.runs a) (length (runs_of a h)) ≡ Some item =
+        slice_get_front (runs_of a (after_run a c h (Some item))) (x.told.runs a) (length (runs_of a h)) item
+        (subst (λ (items : List RunItem). IsPrefix (runs_of a (after_run a c h (Some item))) items) (x.is_late.leaves.runs a) (later.early.runs a))
+        (ap (λ (items : List RunItem). slice_get items (length (runs_of a h))) after ∙ slice_get_last (runs_of a h) item) in
+        -- the twin's place among those to the actor
+        let twin : (other : ℕ × Submission) × (slice_get (calls_to a (under c subs)) n ≡ Some other) × (other.0 ≡ call.0) =
+        at_same (λ (call : ℕ × Submission). call.0) (calls_to a (under c subs)) (calls_to a (calls_of c h)) n call
+        (calls_to_same a (under c subs) (calls_of c h) same) is.at in
+        let one : twin.0.1 ≡ found.0 =
+        let here : slice_get (under c subs) twin.0.0 ≡ Some twin.0.1 = (calls_to-at a (under c subs) n twin.0 twin.1).at in
+        let there : slice_get (x.calls c) call.0 ≡ Some twin.0.1 = slice_get-take (length (calls_of c h)) call.0 (x.calls c) twin.0.1
+        (ap (λ (l : List Submission). slice_get l call.0) (sym (first c)) ∙ subst (λ (k : ℕ). slice_get (under c subs) k ≡ Some twin.0.1) twin.2 here) in
+        let both : Some twin.0.1 ≡ Some found.0 = sym there ∙ found.1.at in
+        cc in
+        let pair : ◌≡◌ {A = ℕ × Submission} twin.0 (call.0, found.0) = λ i. (twin.2 i, one i) in
+        let next_is : next_item a c g ≡ Some item =
+        ap (λ (b : Bool). cond b (option_map (run_item c n (kept_of c g)) (slice_get (calls_to a (under c subs)) n)) None) is.arrived
+        ∙ ap (option_map (run_item c n (kept_of c g))) twin.1
+        ∙ ap (λ (kept : List (Option Answer)). Some (run_item c n kept twin.0)) kept
+        ∙ ap (λ (other : ℕ × Submission). Some (run_item c n (kept_of c h) other)) pair
+        ∙ ap (λ (i : RunItem). Some i) (as_item (found.1.ran a (length (runs_of a h)) item told_run caller future)) in
         plain x h subs (event.Run a c) subs (after_run a c h (Some item)) may (ap (after_run a c h) e) (ap (after_run a c g) next_is) (λ d. refl) (λ d. refl) first
       where
         is : IsNext a c h item
@@ -487,28 +427,8 @@ run_swapped x h subs a c may was later first = go (next_item a c h) refl later
         future : item.future ≡ call.0
         future = ap (λ (i : RunItem). i.future) (sym is.is)
 
-        after : runs_of a (after_run a c h (Some item)) ≡ runs_of a h ++ item ∷ []
-        after = under-push a a h.ran item ∙ ap (λ (b : Bool). runs_of a h ++ cond b (item ∷ []) []) (eq-eqb a a refl)
-
-        told_run : slice_get (x.told.runs a) (length (runs_of a h)) ≡ Some item
-        told_run = slice_get_front (runs_of a (after_run a c h (Some item))) (x.told.runs a) (length (runs_of a h)) item
-            (subst (λ (items : List RunItem). IsPrefix (runs_of a (after_run a c h (Some item))) items) (x.is_late.leaves.runs a) (later.early.runs a))
-            (ap (λ (items : List RunItem). slice_get items (length (runs_of a h))) after ∙ slice_get_last (runs_of a h) item)
-
         found : (other : Submission) × IsTwin x c call.0 call.1 other
         found = twin_of x c call.0 call.1 (slice_get_front (calls_of c h) (x.told.calls c) call.0 call.1 (told_front x h c was) stands)
-
-        -- the twin's place among those to the actor
-        twin : (other : ℕ × Submission) × (slice_get (calls_to a (under c subs)) n ≡ Some other) × (other.0 ≡ call.0)
-        twin = first_at (calls_to a (under c subs)) (calls_to a (calls_of c h)) n call (calls_to_same a (under c subs) (calls_of c h) same) is.at
-
-        one : twin.0.1 ≡ found.0
-        one =
-            let here : slice_get (under c subs) twin.0.0 ≡ Some twin.0.1 = (calls_to-at a (under c subs) n twin.0 twin.1).at in
-            let there : slice_get (x.calls c) call.0 ≡ Some twin.0.1 = slice_get-take (length (calls_of c h)) call.0 (x.calls c) twin.0.1
-            (ap (λ (l : List Submission). slice_get l call.0) (sym (first c)) ∙ subst (λ (k : ℕ). slice_get (under c subs) k ≡ Some twin.0.1) twin.2 here) in
-            let both : Some twin.0.1 ≡ Some found.0 = sym there ∙ found.1.at in
-            cc
 
         as_item : (found.0 ≡ call.1) ⊎ IsAsRun found.0 item → run_item c n (kept_of c h) (call.0, found.0) ≡ item
         as_item (inl same) = ap (λ (s : Submission). run_item c n (kept_of c h) (call.0, s)) same ∙ is.is
@@ -518,17 +438,6 @@ run_swapped x h subs a c may was later first = go (next_item a c h) refl later
             ∙ ap (λ (settled : List Settled). record { caller = c; number = n; future = call.0; method = call.1.method; args = settled }) (
             ap (map (settle (kept_of c h))) (run.args ∙ ap (λ (i : RunItem). map arg_as_run i.args) (sym is.is)) ∙ as_run_settles (kept_of c h) call.1.args)
             ∙ is.is
-
-        pair : ◌≡◌ {A = ℕ × Submission} twin.0 (call.0, found.0)
-        pair = λ i. (twin.2 i, one i)
-
-        next_is : next_item a c g ≡ Some item
-        next_is =
-            ap (λ (b : Bool). cond b (option_map (run_item c n (kept_of c g)) (slice_get (calls_to a (under c subs)) n)) None) is.arrived
-            ∙ ap (option_map (run_item c n (kept_of c g))) twin.1
-            ∙ ap (λ (kept : List (Option Answer)). Some (run_item c n kept twin.0)) kept
-            ∙ ap (λ (other : ℕ × Submission). Some (run_item c n (kept_of c h) other)) pair
-            ∙ ap (λ (i : RunItem). Some i) (as_item (found.1.ran a (length (runs_of a h)) item told_run caller future))
 
 deliver_same : (h : History) (subs : List (ℕ × Submission)) (o : Option Letter) → deliver_refusal o (with_subs h subs) ≡ deliver_refusal o h
 deliver_same h subs None = refl

@@ -1,16 +1,11 @@
 -- Where some events end as is told, a walk is through or may go on.
-use Rattle.act_early.proofs.Common.{◌≡◌, ℕ, ◌≤◌, Bool, true, false, List, [], length, Option, Some, None, inl, inr, ◌⊎◌, refl, ap, sym, ◌∙◌, subst, arith, ◌||◌}
-use Rattle.act_early.proofs.Common.{Event, RunItem, Submission, Step, Answer, kept_at, has_terminated, ActorSpec, History, opening, contains, calls_of}
-use Rattle.act_early.proofs.Common.{runs_of, kept_of, is_dead, refusal_of, add_event, history, after_all_keeps, At, steps_of}
-use Rattle.act_early.proofs.Common.{after_step, with_event, is_free, IsPlay, Opens, Takes, Skips, Closes, Happens, world_sound}
-use Rattle.act_early.proofs.Common.{world_retires, both_ways}
+use Rattle.act_told_ends.proofs.Common.{◌≡◌, ℕ, ◌≤◌, true, List, [], length, Option, Some, None, inl, inr, ◌⊎◌, refl, ap, sym, ◌∙◌, subst, arith, Event}
+use Rattle.act_told_ends.proofs.Common.{RunItem, Submission, Step, Answer, kept_at, has_terminated, ActorSpec, History, opening, contains, calls_of, runs_of}
+use Rattle.act_told_ends.proofs.Common.{kept_of, is_dead, refusal_of, add_event, history, after_all_keeps, At, steps_of, after_step, with_event, is_free}
+use Rattle.act_told_ends.proofs.Common.{IsPlay, Opens, Takes, Skips, Closes, Happens, world_sound, world_retires, both_ways, past_none, same_kept, kept_long}
+use Rattle.act_told_ends.proofs.Common.{front_short, IsWorld, world, either_of, world_step, or_second, Told, EndsAsTold, IsWalk, MayGoOn, IsThrough}
+use Rattle.act_told_ends.proofs.Common.{front_whole}
 use Rattle.act_rules.specs.declared.event.Event.TheVariants as event
-use Rattle.act_early.proofs.Counting.{past_none}
-use Rattle.act_early.proofs.Ending.{same_kept, kept_long}
-use Rattle.act_early.proofs.Replies.{front_short}
-use Rattle.act_early.proofs.Worlds.{IsWorld, world, either_of, world_step}
-use Rattle.act_told_ends.specs.Told.{Told, EndsAsTold, IsWalk}
-use Rattle.act_told_ends.specs.Walks.{MayGoOn, IsThrough}
 use Rattle.act_told_ends.proofs.Bridge.{IsLate, late_play}
 use Rattle.act_told_ends.proofs.Later.{IsLater, later_same, later_trans, later_event, later_step}
 use Rattle.act_told_ends.proofs.Posted.{RunsPosted, all_posted}
@@ -18,7 +13,6 @@ use Rattle.act_told_ends.proofs.Covered.{IsSetting, IsCovered, calls_covered, ru
 use Rattle.act_told_ends.proofs.Going.{Case, Here}
 use Rattle.act_told_ends.proofs.Covers.{Near, idle, step_near, skip_near, run_near, kill_near}
 use Rattle.act_told_ends.proofs.Collected.{collect_near}
-use Rattle.act_rules.proofs.Lists.{front_whole}
 
 -- ---- every event
 
@@ -115,12 +109,8 @@ through x at = record {
         (λ ended. sym (at.setting.end.leaves.dead a) ∙ ended_late a ended))
         (λ e. dead_covered x.casts x.bound x.told x.done x.plans x.late g x.late a at (at.setting.end.leaves.dead a ∙ e))
       where
-        second : (y z : Bool) → z ≡ true → (y || z) ≡ true
-        second true z e = refl
-        second false z e = e
-
         ended_late : (a : ℕ) → has_terminated (runs_of a g) ≡ true → is_dead a late ≡ true
-        ended_late a ended = second (contains a late.killed) (has_terminated (runs_of a late))
+        ended_late a ended = or_second (contains a late.killed) (has_terminated (runs_of a late))
             (ap has_terminated (at.setting.end.leaves.runs a ∙ sym (runs a)) ∙ ended)
 
 -- ---- all of it

@@ -1,11 +1,9 @@
 -- Calls that stand for others: to the same actors, with the arguments with which these ran.
-use Rattle.act_early.proofs.Common.{◌≡◌, ℕ, zero, suc, ◌+◌, Bool, true, false, cond, List, [], ◌∷◌, length, take, map, filter, Option, Some, None, refl, ap, sym, ◌∙◌}
-use Rattle.act_early.proofs.Common.{◌==◌, slice_get, enumerate_from, list_all, length-map, and_parts, and_from, Arg, Settled, Submission, Answer, Ok, Err, calls_to}
-use Rattle.act_early.proofs.Common.{number_of, kept_at, is_known, settle}
-use Rattle.act_types.specs.declared.call.Arg.TheVariants.{Plain, Fut}
-use Rattle.act_rules.specs.Submissions.{is_earlier, settled_future}
-use Rattle.act_early.proofs.Shifting.{head_same, tail_same}
-use Rattle.act_told_ends.specs.Untold.{arg_as_run}
+use Rattle.act_told_ends.proofs.Common.{◌≡◌, ℕ, zero, suc, ◌+◌, Bool, true, false, cond, List, [], ◌∷◌, length, take, map, filter, Option, Some, None, refl, ap}
+use Rattle.act_told_ends.proofs.Common.{sym, ◌∙◌, ◌==◌, slice_get, enumerate_from, list_all, length-map, and_parts, and_from, Arg, Settled, Submission, Answer}
+use Rattle.act_told_ends.proofs.Common.{Ok, Err, calls_to, number_of, kept_at, is_known, settle, map-slice_get, slice_get-map, option_map, option_map-none}
+use Rattle.act_told_ends.proofs.Common.{Plain, Fut, is_earlier, settled_future, head_same, tail_same, arg_as_run, filter_mapped, take-map}
+use Rattle.act_types.specs.declared.call.Value.{Value}
 
 -- ---- the same actors
 
@@ -17,36 +15,26 @@ pub length_same : (xs ys : List Submission) → actors xs ≡ actors ys → leng
 length_same xs ys e = sym (length-map xs (λ (call : Submission). call.actor)) ∙ ap (λ (l : List ℕ). length l) e
     ∙ length-map ys (λ (call : Submission). call.actor)
 
-pub at_same : (xs ys : List Submission) (k : ℕ) (y : Submission) → actors xs ≡ actors ys → slice_get ys k ≡ Some y
-    → (x : Submission) × (slice_get xs k ≡ Some x) × (x.actor ≡ y.actor)
-at_same xs [] k y e at = cc
-at_same [] (z ∷ ys) k y e at = cc
-at_same (x ∷ xs) (z ∷ ys) zero y e at =
-    let same : z ≡ y = cc in (x, refl, head_same x.actor z.actor (actors xs) (actors ys) e ∙ ap (λ (call : Submission). call.actor) same)
-at_same (x ∷ xs) (z ∷ ys) (suc k) y e at = at_same xs ys k y (tail_same x.actor z.actor (actors xs) (actors ys) e) at
+-- of lists that a function maps to the same, what stands at one place is mapped to the same
+pub at_same : {A : Type 0} (f : A → ℕ) (xs ys : List A) (k : ℕ) (y : A) → map f xs ≡ map f ys → slice_get ys k ≡ Some y
+    → (x : A) × (slice_get xs k ≡ Some x) × (f x ≡ f y)
+at_same f xs ys k y e at = map-slice_get f xs k (f y) (ap (λ (l : List ℕ). slice_get l k) e ∙ slice_get-map f ys k ∙ ap (option_map f) at)
 
-pub none_same : (xs ys : List Submission) (k : ℕ) → actors xs ≡ actors ys → slice_get ys k ≡ None → slice_get xs k ≡ None
-none_same [] [] k e at = refl
-none_same (x ∷ xs) [] k e at = cc
-none_same [] (z ∷ ys) k e at = cc
-none_same (x ∷ xs) (z ∷ ys) zero e at = cc
-none_same (x ∷ xs) (z ∷ ys) (suc k) e at = none_same xs ys k (tail_same x.actor z.actor (actors xs) (actors ys) e) at
+pub none_same : {A : Type 0} (f : A → ℕ) (xs ys : List A) (k : ℕ) → map f xs ≡ map f ys → slice_get ys k ≡ None → slice_get xs k ≡ None
+none_same f xs ys k e at = option_map-none f (slice_get xs k)
+    (sym (slice_get-map f xs k) ∙ ap (λ (l : List ℕ). slice_get l k) e ∙ slice_get-map f ys k ∙ ap (option_map f) at)
+
+-- as many pass a test of what a function gives
+passing : {A : Type 0} (f : A → ℕ) (q : ℕ → Bool) (xs : List A) → length (filter (λ (x : A). q (f x)) xs) ≡ length (filter q (map f xs))
+passing {A = A} f q xs = sym (length-map (filter (λ (x : A). q (f x)) xs) f) ∙ ap (λ (l : List ℕ). length l) (sym (filter_mapped q f xs))
+
+pub map-take : (n : ℕ) (xs : List Submission) → actors (take n xs) ≡ take n (actors xs)
+map-take n xs = sym (take-map (λ (call : Submission). call.actor) n xs)
 
 pub number_same : (a k : ℕ) (xs ys : List Submission) → actors xs ≡ actors ys → number_of a k xs ≡ number_of a k ys
-number_same a zero xs ys e = refl
-number_same a (suc k) [] [] e = refl
-number_same a (suc k) [] (y ∷ ys) e = cc
-number_same a (suc k) (x ∷ xs) [] e = cc
-number_same a (suc k) (x ∷ xs) (y ∷ ys) e =
-    both (x.actor == a) (number_same a k xs ys (tail_same x.actor y.actor (actors xs) (actors ys) e))
-    ∙ ap (λ (n : ℕ). length (cond (n == a) (y ∷ filter (λ (call : Submission). call.actor == a) (take k ys))
-    (filter (λ (call : Submission). call.actor == a) (take k ys)))) (head_same x.actor y.actor (actors xs) (actors ys) e)
-  where
-    both : (b : Bool) → number_of a k xs ≡ number_of a k ys
-        → length (cond b (x ∷ filter (λ (call : Submission). call.actor == a) (take k xs)) (filter (λ (call : Submission). call.actor == a) (take k xs)))
-        ≡ length (cond b (y ∷ filter (λ (call : Submission). call.actor == a) (take k ys)) (filter (λ (call : Submission). call.actor == a) (take k ys)))
-    both true e = ap suc e
-    both false e = e
+number_same a k xs ys e = passing (λ (call : Submission). call.actor) (λ (n : ℕ). n == a) (take k xs)
+    ∙ ap (λ (l : List ℕ). length (filter (λ (n : ℕ). n == a) l)) (map-take k xs ∙ ap (take k) e ∙ sym (map-take k ys))
+    ∙ sym (passing (λ (call : Submission). call.actor) (λ (n : ℕ). n == a) (take k ys))
 
 abbrev pub firsts : List (ℕ × Submission) → List ℕ
 firsts calls = map (λ (call : ℕ × Submission). call.0) calls
@@ -80,24 +68,8 @@ count_same a xs ys e = sym (length-map (calls_to a xs) (λ (call : ℕ × Submis
 -- as many of two lists with the same numbers pass a test of the number
 pub passing_same : (q : ℕ → Bool) (xs ys : List (ℕ × Submission)) → firsts xs ≡ firsts ys
     → length (filter (λ (call : ℕ × Submission). q call.0) xs) ≡ length (filter (λ (call : ℕ × Submission). q call.0) ys)
-passing_same q [] [] e = refl
-passing_same q [] (y ∷ ys) e = cc
-passing_same q (x ∷ xs) [] e = cc
-passing_same q (x ∷ xs) (y ∷ ys) e =
-    both (q x.0) (passing_same q xs ys (tail_same x.0 y.0 (firsts xs) (firsts ys) e))
-    ∙ ap (λ (n : ℕ). length (cond (q n) (y ∷ filter (λ (call : ℕ × Submission). q call.0) ys) (filter (λ (call : ℕ × Submission). q call.0) ys)))
-    (head_same x.0 y.0 (firsts xs) (firsts ys) e)
-  where
-    both : (b : Bool) → length (filter (λ (call : ℕ × Submission). q call.0) xs) ≡ length (filter (λ (call : ℕ × Submission). q call.0) ys)
-        → length (cond b (x ∷ filter (λ (call : ℕ × Submission). q call.0) xs) (filter (λ (call : ℕ × Submission). q call.0) xs))
-        ≡ length (cond b (y ∷ filter (λ (call : ℕ × Submission). q call.0) ys) (filter (λ (call : ℕ × Submission). q call.0) ys))
-    both true e = ap suc e
-    both false e = e
-
-pub map-take : (n : ℕ) (xs : List Submission) → actors (take n xs) ≡ take n (actors xs)
-map-take zero xs = refl
-map-take (suc n) [] = refl
-map-take (suc n) (x ∷ xs) = ap (λ (l : List ℕ). x.actor ∷ l) (map-take n xs)
+passing_same q xs ys e = passing (λ (call : ℕ × Submission). call.0) q xs ∙ ap (λ (l : List ℕ). length (filter q l)) e
+    ∙ sym (passing (λ (call : ℕ × Submission). call.0) q ys)
 
 pub slice_get-take : {A : Type 0} (n k : ℕ) (xs : List A) (x : A) → slice_get (take n xs) k ≡ Some x → slice_get xs k ≡ Some x
 slice_get-take zero k xs x e = cc
@@ -113,37 +85,29 @@ as_run kept args = map arg_as_run (map (settle kept) args)
 pub as_run_length : (kept : List (Option Answer)) (args : List Arg) → length (as_run kept args) ≡ length args
 as_run_length kept args = length-map (map (settle kept) args) arg_as_run ∙ length-map args (settle kept)
 
-pub as_run_earlier : (count : ℕ) (kept : List (Option Answer)) (args : List Arg) → list_all (is_earlier count) args ≡ true
-    → list_all (is_earlier count) (as_run kept args) ≡ true
-as_run_earlier count kept [] e = refl
-as_run_earlier count kept (arg ∷ args) e =
-    let parts = and_parts (is_earlier count arg) (list_all (is_earlier count) args) e in
-    and_from (is_earlier count (arg_as_run (settle kept arg))) (list_all (is_earlier count) (as_run kept args)) (one arg parts.0)
-    (as_run_earlier count kept args parts.1)
+-- a test that values pass, and futures as they did, is passed by arguments as they ran
+as_run_all : (p : Arg → Bool) (kept : List (Option Answer)) → ((value : Value) → p (Plain value) ≡ true) → (args : List Arg) → list_all p args ≡ true
+    → list_all p (as_run kept args) ≡ true
+as_run_all p kept plain [] e = refl
+as_run_all p kept plain (arg ∷ args) e =
+    let parts = and_parts (p arg) (list_all p args) e in
+    and_from (p (arg_as_run (settle kept arg))) (list_all p (as_run kept args)) (one arg parts.0) (as_run_all p kept plain args parts.1)
   where
-    one : (arg : Arg) → is_earlier count arg ≡ true → is_earlier count (arg_as_run (settle kept arg)) ≡ true
-    one (Plain value) e = refl
+    one : (arg : Arg) → p arg ≡ true → p (arg_as_run (settle kept arg)) ≡ true
+    one (Plain value) e = e
     one (Fut j) e = go (kept_at kept j)
       where
-        go : (o : Option Answer) → is_earlier count (arg_as_run (settled_future j o)) ≡ true
+        go : (o : Option Answer) → p (arg_as_run (settled_future j o)) ≡ true
         go None = e
-        go (Some (Ok value)) = refl
+        go (Some (Ok value)) = plain value
         go (Some (Err fault)) = e
 
+pub as_run_earlier : (count : ℕ) (kept : List (Option Answer)) (args : List Arg) → list_all (is_earlier count) args ≡ true
+    → list_all (is_earlier count) (as_run kept args) ≡ true
+as_run_earlier count kept args e = as_run_all (is_earlier count) kept (λ value. refl) args e
+
 pub as_run_known : (now kept : List (Option Answer)) (args : List Arg) → list_all (is_known now) args ≡ true → list_all (is_known now) (as_run kept args) ≡ true
-as_run_known now kept [] e = refl
-as_run_known now kept (arg ∷ args) e =
-    let parts = and_parts (is_known now arg) (list_all (is_known now) args) e in
-    and_from (is_known now (arg_as_run (settle kept arg))) (list_all (is_known now) (as_run kept args)) (one arg parts.0) (as_run_known now kept args parts.1)
-  where
-    one : (arg : Arg) → is_known now arg ≡ true → is_known now (arg_as_run (settle kept arg)) ≡ true
-    one (Plain value) e = refl
-    one (Fut j) e = go (kept_at kept j)
-      where
-        go : (o : Option Answer) → is_known now (arg_as_run (settled_future j o)) ≡ true
-        go None = e
-        go (Some (Ok value)) = refl
-        go (Some (Err fault)) = e
+as_run_known now kept args e = as_run_all (is_known now) kept (λ value. refl) args e
 
 -- they settle as the arguments did
 pub as_run_settles : (now : List (Option Answer)) (args : List Arg) → map (settle now) (as_run now args) ≡ map (settle now) args

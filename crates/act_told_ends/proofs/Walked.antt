@@ -1,26 +1,19 @@
 -- Whatever is done that may be done next, the walk stays one.
-use Rattle.act_early.proofs.Common.{◌≡◌, ℕ, ◌+◌, ◌-◌, ◌<◌, Bool, true, false, cond, List, [], ◌∷◌, ◌++◌, length, Option, Some, None, inl, inr}
-use Rattle.act_early.proofs.Common.{◌⊎◌, refl, ap, sym, ◌∙◌, subst, arith, ◌==◌, find, slice_get, option_and_then, is_some}
-use Rattle.act_early.proofs.Common.{append-nil, eqb-true, slice_get_within, Event, KindState, RunItem, Post, Submission, Step}
-use Rattle.act_early.proofs.Common.{Answer, Err, ActorDied, answer_at, answer_at-front, kept_at, ActorSpec, History, under, names, contains}
-use Rattle.act_early.proofs.Common.{count_pairs, calls_of, copies_of, runs_of, kept_of, opening_of, is_dead, next_item, refusal_of}
-use Rattle.act_early.proofs.Common.{add_event, after_run, and_also, under-push, IsPrefix, slice_get_front, front_next, Grows, added_grows}
-use Rattle.act_early.proofs.Common.{IsSound, answers_are, dead_stays, kept_at_is, kept_by, kept_extends, At, is_free}
-use Rattle.act_early.proofs.Common.{is_reply, option_map}
+use Rattle.act_told_ends.proofs.Common.{◌≡◌, ℕ, ◌+◌, ◌-◌, ◌<◌, Bool, true, false, cond, List, [], ◌∷◌, ◌++◌, length, Option, Some, None, inl, inr, ◌⊎◌, refl}
+use Rattle.act_told_ends.proofs.Common.{ap, sym, ◌∙◌, subst, arith, ◌==◌, find, slice_get, option_and_then, is_some, append-nil, eqb-true, slice_get_within}
+use Rattle.act_told_ends.proofs.Common.{Event, KindState, RunItem, Post, Submission, Step, Answer, Err, ActorDied, answer_at, answer_at-front, kept_at}
+use Rattle.act_told_ends.proofs.Common.{ActorSpec, History, under, names, contains, count_pairs, calls_of, copies_of, runs_of, kept_of, opening_of, is_dead}
+use Rattle.act_told_ends.proofs.Common.{next_item, refusal_of, add_event, after_run, and_also, under-push, IsPrefix, slice_get_front, front_next, Grows}
+use Rattle.act_told_ends.proofs.Common.{added_grows, IsSound, answers_are, dead_stays, kept_at_is, kept_by, kept_extends, At, is_free, is_reply, option_map}
+use Rattle.act_told_ends.proofs.Common.{ReplyPost, DeathPost, IsIdle, free_idle, death_answers, reply_some, reply_died, reply_alive, IsWorld, world, either_of}
+use Rattle.act_told_ends.proofs.Common.{contains_push, world_step, Told, IsWalk, DidFirst, MayHear, stands_in}
 use Rattle.act_rules.specs.Consistent.{IsAnswerOfRun}
 use Rattle.act_rules.specs.declared.event.Event.TheVariants as event
-use Rattle.act_rules.specs.declared.history.Post.TheVariants.{Reply as ReplyPost, Death as DeathPost}
 use Rattle.act_early.proofs.Choices.{kept_first}
-use Rattle.act_early.proofs.Progress.{IsIdle, free_idle}
-use Rattle.act_early.proofs.Replies.{death_answers, reply_some, reply_died, reply_alive}
-use Rattle.act_early.proofs.Worlds.{IsWorld, world, either_of, contains_push, world_step}
-use Rattle.act_told_ends.specs.Told.{Told, IsWalk, DidFirst}
-use Rattle.act_told_ends.specs.Walks.{MayHear}
 use Rattle.act_told_ends.proofs.Lists.{push_at}
 use Rattle.act_told_ends.proofs.Bridge.{IsLate}
 use Rattle.act_told_ends.proofs.Posted.{RunsPosted, CameBy, Replied, Died, came_by, reply_answers, posted_step}
 use Rattle.act_told_ends.proofs.Covered.{cast_same}
-use Rattle.act_lists.proofs.Lists.{stands_in}
 use Rattle.act_rules.proofs.Table.{first_answer-same}
 
 -- what a walk keeps: it is one, and a death that it collected could be heard
@@ -84,47 +77,37 @@ told_reply : (casts : List ActorSpec) (bound : ℕ → Option (List Step)) (told
     (answer : Answer) → IsLate casts bound told plans late → IsWorld casts g → ((a : ℕ) → IsPrefix (runs_of a g) (told.runs a))
     → is_reply (kept_at (told.kept c) k) ≡ true → kept_at (kept_of c g) k ≡ Some answer → is_reply (Some answer) ≡ true
     → kept_at (told.kept c) k ≡ Some answer
-told_reply casts bound told plans late g c k answer l v runs reply e alive = some.1 ∙ join
+told_reply casts bound told plans late g c k answer l v runs reply e alive =
+    let w : IsWorld casts late.history = world casts plans late l.play in
+    let some : (other : Answer) × (kept_at (told.kept c) k ≡ Some other) = reply_some (kept_at (told.kept c) k) reply in
+    let kept : kept_at (kept_of c late.history) k ≡ Some some.0 = ap (λ (kept : List (Option Answer)). kept_at kept k) (l.leaves.kept c) ∙ some.1 in
+    let his : IsAnswerOfRun (λ x. opening_of x late.history) (λ x. runs_of x late.history) c k some.0 =
+    answers_are late.history c k some.0 w.sound kept (reply_alive some.0 (ap is_reply (sym some.1) ∙ reply)) in
+    let same : (mine.actor ≡ his.actor) × (mine.place ≡ his.place) =
+    his.only mine.actor mine.place mine.item
+    (slice_get_front (runs_of mine.actor g) (runs_of mine.actor late.history) mine.place mine.item front mine.at) mine.caller mine.future in
+    let late_answer : answered (runs_of mine.actor late.history) (opening_of mine.actor late.history) ≡ Some some.0 =
+    subst (λ (a : ℕ). answered (runs_of a late.history) (opening_of a late.history) ≡ Some some.0) (sym same.0)
+    (subst (λ (n : ℕ). option_and_then (λ (state : KindState). answer_at state (runs_of his.actor late.history) n) (opening_of his.actor late.history)
+    ≡ Some some.0) (sym same.1) his.answered) in
+    let openings : opening_of mine.actor late.history ≡ opening_of mine.actor g =
+    ap (λ (o : Option ActorSpec). option_map (λ (cast : ActorSpec). cast.opening) o) (cast_same casts mine.actor g late.history v w) in
+    let join : Some some.0 ≡ Some answer =
+    sym late_answer ∙ ap (answered (runs_of mine.actor late.history)) openings ∙ go (opening_of mine.actor g) ∙ mine.answered in
+    some.1 ∙ join
   where
-    w : IsWorld casts late.history
-    w = world casts plans late l.play
-
-    some : (other : Answer) × (kept_at (told.kept c) k ≡ Some other)
-    some = reply_some (kept_at (told.kept c) k) reply
-
-    kept : kept_at (kept_of c late.history) k ≡ Some some.0
-    kept = ap (λ (kept : List (Option Answer)). kept_at kept k) (l.leaves.kept c) ∙ some.1
-
     mine : IsAnswerOfRun (λ x. opening_of x g) (λ x. runs_of x g) c k answer
     mine = answers_are g c k answer v.sound e (reply_alive answer alive)
-
-    his : IsAnswerOfRun (λ x. opening_of x late.history) (λ x. runs_of x late.history) c k some.0
-    his = answers_are late.history c k some.0 w.sound kept (reply_alive some.0 (ap is_reply (sym some.1) ∙ reply))
 
     front : IsPrefix (runs_of mine.actor g) (runs_of mine.actor late.history)
     front = subst (λ (items : List RunItem). IsPrefix (runs_of mine.actor g) items) (sym (l.leaves.runs mine.actor)) (runs mine.actor)
 
-    same : (mine.actor ≡ his.actor) × (mine.place ≡ his.place)
-    same = his.only mine.actor mine.place mine.item
-        (slice_get_front (runs_of mine.actor g) (runs_of mine.actor late.history) mine.place mine.item front mine.at) mine.caller mine.future
-
     answered : (items : List RunItem) → Option KindState → Option Answer
     answered items o = option_and_then (λ (state : KindState). answer_at state items mine.place) o
-
-    late_answer : answered (runs_of mine.actor late.history) (opening_of mine.actor late.history) ≡ Some some.0
-    late_answer = subst (λ (a : ℕ). answered (runs_of a late.history) (opening_of a late.history) ≡ Some some.0) (sym same.0)
-        (subst (λ (n : ℕ). option_and_then (λ (state : KindState). answer_at state (runs_of his.actor late.history) n) (opening_of his.actor late.history)
-        ≡ Some some.0) (sym same.1) his.answered)
-
-    openings : opening_of mine.actor late.history ≡ opening_of mine.actor g
-    openings = ap (λ (o : Option ActorSpec). option_map (λ (cast : ActorSpec). cast.opening) o) (cast_same casts mine.actor g late.history v w)
 
     go : (o : Option KindState) → answered (runs_of mine.actor late.history) o ≡ answered (runs_of mine.actor g) o
     go None = refl
     go (Some state) = answer_at-front state (runs_of mine.actor g) (runs_of mine.actor late.history) mine.place mine.item front mine.at
-
-    join : Some some.0 ≡ Some answer
-    join = sym late_answer ∙ ap (answered (runs_of mine.actor late.history)) openings ∙ go (opening_of mine.actor g) ∙ mine.answered
 
 -- ---- deaths that may be heard
 
@@ -157,31 +140,30 @@ free_going : (casts : List ActorSpec) (bound : ℕ → Option (List Step)) (told
     → ((a : ℕ) → contains a (add_event h other).killed ≡ true → (told.dead a ≡ true) × (runs_of a (add_event h other) ≡ told.runs a))
     → ((i c a : ℕ) → slice_get (add_event h other).collected i ≡ Some (DeathPost c a) → MayHear told c a (add_event h other))
     → IsGoing casts bound told done (add_event h other)
-free_going casts bound told done h other w free may retired runs kept killed heard = record {
-  walk = record {
-    calls = λ c. subst (λ (l : List (ℕ × Submission)). IsPrefix (under c l) (told.calls c)) (sym idle.submitted) (w.walk.calls c);
-    runs = runs;
-    kept = new_kept casts bound told done h g w (added_grows h other) kept;
-    dead = λ a e. (killed a e).0;
-    last = λ a e. (killed a e).1;
-    steps = λ c steps is. did c (done c) steps (w.walk.steps c steps is);
-    holds = λ c a none gone. ap (λ (l : List (ℕ × Submission)). under c l) idle.submitted ∙ w.walk.holds c a none (copies_are c a ∙ gone);
-    asks = λ c a none gone dead. ap (contains a) idle.asked ∙ w.walk.asks c a none (copies_are c a ∙ gone) dead;
-    live = retired ∙ w.walk.live;
-  };
-  world = world_step casts h other w.world may;
-  posted = posted_step h other w.posted may;
-  heard = heard;
-}
+free_going casts bound told done h other w free may retired runs kept killed heard =
+    let copies_are : (c a : ℕ) → copies_of c a h ≡ copies_of c a g = λ c a. copies_same c a h g (added_grows h other).casts idle.copied idle.released in
+    record {
+      walk = record {
+        calls = λ c. subst (λ (l : List (ℕ × Submission)). IsPrefix (under c l) (told.calls c)) (sym idle.submitted) (w.walk.calls c);
+        runs = runs;
+        kept = new_kept casts bound told done h g w (added_grows h other) kept;
+        dead = λ a e. (killed a e).0;
+        last = λ a e. (killed a e).1;
+        steps = λ c steps is. did c (done c) steps (w.walk.steps c steps is);
+        holds = λ c a none gone. ap (λ (l : List (ℕ × Submission)). under c l) idle.submitted ∙ w.walk.holds c a none (copies_are c a ∙ gone);
+        asks = λ c a none gone dead. ap (contains a) idle.asked ∙ w.walk.asks c a none (copies_are c a ∙ gone) dead;
+        live = retired ∙ w.walk.live;
+      };
+      world = world_step casts h other w.world may;
+      posted = posted_step h other w.posted may;
+      heard = heard;
+    }
   where
     g : History
     g = add_event h other
 
     idle : IsIdle h g
     idle = free_idle h other free
-
-    copies_are : (c a : ℕ) → copies_of c a h ≡ copies_of c a g
-    copies_are c a = copies_same c a h g (added_grows h other).casts idle.copied idle.released
 
     did : (c n : ℕ) (steps : List Step) → DidFirst c n steps h → DidFirst c n steps g
     did c n steps first = record {
@@ -284,13 +266,12 @@ collect_going : (casts : List ActorSpec) (bound : ℕ → Option (List Step)) (t
     → ((c a : ℕ) → DeathPost c a ≡ post → MayHear told c a h)
     → IsGoing casts bound told done (add_event h (event.Collect j))
 collect_going casts bound told done h j post w at kept hears =
+    let may : refusal_of h (event.Collect j) ≡ None =
+    let some : is_some (slice_get h.posts j) ≡ true = ap (λ (o : Option Post). is_some o) at in rw some refl in
     free_going casts bound told done h (event.Collect j) w refl may refl w.walk.runs kept (still_killed casts bound told done h w)
     (λ i c a there. hear_more told c a h (add_event h (event.Collect j)) (added_grows h (event.Collect j)) w.world.sound
     (either i c a (push_at h.collected post (DeathPost c a) i (ap (λ (o : Option Post). slice_get (and_also h.collected o) i) (sym at) ∙ there))))
   where
-    may : refusal_of h (event.Collect j) ≡ None
-    may = let some : is_some (slice_get h.posts j) ≡ true = ap (λ (o : Option Post). is_some o) at in rw some refl
-
     either : (i c a : ℕ) → (slice_get h.collected i ≡ Some (DeathPost c a)) ⊎ ((i ≡ length h.collected) × (DeathPost c a ≡ post)) → MayHear told c a h
     either i c a (inl old) = w.heard i c a old
     either i c a (inr new) = hears c a new.1
@@ -323,6 +304,21 @@ pub reply_going : (casts : List ActorSpec) (bound : ℕ → Option (List Step)) 
     → slice_get h.posts j ≡ Some (ReplyPost c a place) → slice_get (runs_of a h) place ≡ Some item → is_reply (kept_at (told.kept c) item.future) ≡ true
     → IsGoing casts bound told done (add_event h (event.Collect j))
 reply_going casts bound told plans late done h j c a place item l w at there reply =
+    let g = add_event h (event.Collect j) in
+    let may : refusal_of h (event.Collect j) ≡ None =
+    let some : is_some (slice_get h.posts j) ≡ true = ap (λ (o : Option Post). is_some o) at in rw some refl in
+    let v : IsWorld casts g = world_step casts h (event.Collect j) w.world may in
+    let told_here : (d b q k : ℕ) (other : RunItem) → ReplyPost d b q ≡ ReplyPost c a place → slice_get (runs_of b h) q ≡ Some other → other.future ≡ k
+    → is_reply (kept_at (told.kept d) k) ≡ true =
+    λ d b q k other is stands future. let caller : d ≡ c = cc in
+    let actor : b ≡ a = cc in
+    let here : q ≡ place = cc in
+    let first : slice_get (runs_of a h) place ≡ Some other =
+    subst (λ (n : ℕ). slice_get (runs_of n h) place ≡ Some other) actor (subst (λ (n : ℕ). slice_get (runs_of b h) n ≡ Some other) here stands) in
+    let both : Some item ≡ Some other = sym there ∙ first in
+    let one : item ≡ other = cc in
+    subst (λ (n : ℕ). is_reply (kept_at (told.kept n) k) ≡ true) (sym caller)
+    (subst (λ (n : ℕ). is_reply (kept_at (told.kept c) n) ≡ true) (ap (λ (i : RunItem). i.future) one ∙ future) reply) in
     collect_going casts bound told done h j (ReplyPost c a place) w at
     (λ d k answer none e. new_by casts bound told done h j (ReplyPost c a place) (kept_at (told.kept d) k ≡ Some answer) w at d k answer none
     (λ b q other is stands future alive. told_reply casts bound told plans late g d k answer l v w.walk.runs
@@ -330,56 +326,26 @@ reply_going casts bound told plans late done h j c a place item l w at there rep
     (λ call is _ _. let bad : DeathPost d call.actor ≡ ReplyPost c a place = is in cc)
     (came_by g d k answer v.sound e))
     (λ d b is. let bad : DeathPost d b ≡ ReplyPost c a place = is in cc)
-  where
-    g : History
-    g = add_event h (event.Collect j)
-
-    may : refusal_of h (event.Collect j) ≡ None
-    may = let some : is_some (slice_get h.posts j) ≡ true = ap (λ (o : Option Post). is_some o) at in rw some refl
-
-    v : IsWorld casts g
-    v = world_step casts h (event.Collect j) w.world may
-
-    told_here : (d b q k : ℕ) (other : RunItem) → ReplyPost d b q ≡ ReplyPost c a place → slice_get (runs_of b h) q ≡ Some other → other.future ≡ k
-        → is_reply (kept_at (told.kept d) k) ≡ true
-    told_here d b q k other is stands future =
-        let caller : d ≡ c = cc in
-        let actor : b ≡ a = cc in
-        let here : q ≡ place = cc in
-        let first : slice_get (runs_of a h) place ≡ Some other =
-        subst (λ (n : ℕ). slice_get (runs_of n h) place ≡ Some other) actor (subst (λ (n : ℕ). slice_get (runs_of b h) n ≡ Some other) here stands) in
-        let both : Some item ≡ Some other = sym there ∙ first in
-        let one : item ≡ other = cc in
-        subst (λ (n : ℕ). is_reply (kept_at (told.kept n) k) ≡ true) (sym caller)
-        (subst (λ (n : ℕ). is_reply (kept_at (told.kept c) n) ≡ true) (ap (λ (i : RunItem). i.future) one ∙ future) reply)
 
 pub death_going : (casts : List ActorSpec) (bound : ℕ → Option (List Step)) (told : Told) (done : ℕ → ℕ) (h : History) (j c a : ℕ)
     → IsGoing casts bound told done h → slice_get h.posts j ≡ Some (DeathPost c a) → MayHear told c a h
     → IsGoing casts bound told done (add_event h (event.Collect j))
 death_going casts bound told done h j c a w at hear =
+    let g = add_event h (event.Collect j) in
+    let may : refusal_of h (event.Collect j) ≡ None =
+    let some : is_some (slice_get h.posts j) ≡ true = ap (λ (o : Option Post). is_some o) at in rw some refl in
+    let v : IsWorld casts g = world_step casts h (event.Collect j) w.world may in
+    let hears : (d b : ℕ) → DeathPost d b ≡ DeathPost c a → MayHear told d b h =
+    λ d b is. let caller : d ≡ c = cc in
+    let actor : b ≡ a = cc in
+    subst (λ (n : ℕ). MayHear told n b h) (sym caller) (subst (λ (n : ℕ). MayHear told c n h) (sym actor) hear) in
+    let told_here : (d : ℕ) (call : Submission) → DeathPost d call.actor ≡ DeathPost c a → (k : ℕ) → slice_get (calls_of d h) k ≡ Some call
+    → kept_at (kept_of d h) k ≡ None → kept_at (told.kept d) k ≡ Some (Err ActorDied) =
+    λ d call is k stands none. told_death told d call.actor k h call (hears d call.actor is)
+    (slice_get_front (calls_of d h) (told.calls d) k call (w.walk.calls d) stands) refl none in
     collect_going casts bound told done h j (DeathPost c a) w at
     (λ d k answer none e. new_by casts bound told done h j (DeathPost c a) (kept_at (told.kept d) k ≡ Some answer) w at d k answer none
     (λ b q other is _ _ _. let bad : ReplyPost d b q ≡ DeathPost c a = is in cc)
     (λ call is stands died. told_here d call is k stands none ∙ ap (λ (x : Answer). Some x) (sym died))
     (came_by g d k answer v.sound e))
     (λ d b is. hears d b is)
-  where
-    g : History
-    g = add_event h (event.Collect j)
-
-    may : refusal_of h (event.Collect j) ≡ None
-    may = let some : is_some (slice_get h.posts j) ≡ true = ap (λ (o : Option Post). is_some o) at in rw some refl
-
-    v : IsWorld casts g
-    v = world_step casts h (event.Collect j) w.world may
-
-    hears : (d b : ℕ) → DeathPost d b ≡ DeathPost c a → MayHear told d b h
-    hears d b is =
-        let caller : d ≡ c = cc in
-        let actor : b ≡ a = cc in
-        subst (λ (n : ℕ). MayHear told n b h) (sym caller) (subst (λ (n : ℕ). MayHear told c n h) (sym actor) hear)
-
-    told_here : (d : ℕ) (call : Submission) → DeathPost d call.actor ≡ DeathPost c a → (k : ℕ) → slice_get (calls_of d h) k ≡ Some call
-        → kept_at (kept_of d h) k ≡ None → kept_at (told.kept d) k ≡ Some (Err ActorDied)
-    told_here d call is k stands none =
-        told_death told d call.actor k h call (hears d call.actor is) (slice_get_front (calls_of d h) (told.calls d) k call (w.walk.calls d) stands) refl none

@@ -1,4 +1,4 @@
-use Rattle.std.proofs.Common.{Contains}
+use Rattle.act_early.proofs.Common.{Contains}
 use Rattle.act_early.proofs.Ending.{enough}
 use Rattle.act_early.proofs.laws.early_is_enough.Goals as goal
 

@@ -5,7 +5,8 @@ use Rattle.act_rules.specs.Grammar.{naming_at, role_at, submit_at, play_forms, t
 use Rattle.act_rows.proofs.rows.further_lines.Goals as goal
 
 pub returns-clause-faulty_lines : goal.returns-clause-faulty_lines
-unfolding digits method_at number_at int_at closed_at caller_at actor_at text_at value_at arg_at naming_at role_at submit_at play_forms thread_forms form_at line_at role_fault spelled_by
+unfolding digits method_at number_at int_at closed_at caller_at actor_at text_at value_at arg_at naming_at role_at submit_at play_forms thread_forms form_at
+    line_at role_fault spelled_by
 returns-clause-faulty_lines _ = record {
   number_above_all = refl;
   minus_nothing = refl;
@@ -28,7 +29,8 @@ returns-clause-faulty_lines _ = record {
 }
 
 pub returns-clause-fine_lines : goal.returns-clause-fine_lines
-unfolding digits method_at number_at int_at closed_at caller_at actor_at text_at value_at arg_at naming_at role_at submit_at play_forms thread_forms form_at line_at role_fault spelled_by
+unfolding digits method_at number_at int_at closed_at caller_at actor_at text_at value_at arg_at naming_at role_at submit_at play_forms thread_forms form_at
+    line_at role_fault spelled_by
 returns-clause-fine_lines _ = record {
   largest_place = refl;
   least_number = refl;
@@ -39,7 +41,8 @@ returns-clause-fine_lines _ = record {
 }
 
 pub returns-clause-faulty_plans : goal.returns-clause-faulty_plans
-unfolding digits method_at number_at int_at closed_at caller_at actor_at text_at value_at arg_at naming_at role_at submit_at play_forms thread_forms form_at line_at role_fault spelled_by
+unfolding digits method_at number_at int_at closed_at caller_at actor_at text_at value_at arg_at naming_at role_at submit_at play_forms thread_forms form_at
+    line_at role_fault spelled_by
 returns-clause-faulty_plans _ = record {
   least_caller_first = refl;
   awaits_no_future = refl;

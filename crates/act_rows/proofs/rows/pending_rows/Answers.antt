@@ -5,7 +5,8 @@ use Rattle.act_rules.specs.Grammar.{naming_at, role_at, submit_at, play_forms, t
 use Rattle.act_rows.proofs.rows.pending_rows.Goals as goal
 
 pub returns-clause-scripts : goal.returns-clause-scripts
-unfolding digits method_at number_at limit_at int_at closed_at caller_at actor_at text_at value_at arg_at naming_at role_at submit_at play_forms thread_forms form_at line_at role_fault spelled_by
+unfolding digits method_at number_at limit_at int_at closed_at caller_at actor_at text_at value_at arg_at naming_at role_at submit_at play_forms thread_forms
+    form_at line_at role_fault spelled_by
 returns-clause-scripts _ = record {
   counts_what_was_not_collected = refl;
   makes_room_at_the_death = refl;
@@ -25,5 +26,6 @@ returns-clause-scripts _ = record {
 }
 
 pub returns-clause-plan : goal.returns-clause-plan
-unfolding digits method_at number_at limit_at int_at closed_at caller_at actor_at text_at value_at arg_at naming_at role_at submit_at play_forms thread_forms form_at line_at role_fault spelled_by
+unfolding digits method_at number_at limit_at int_at closed_at caller_at actor_at text_at value_at arg_at naming_at role_at submit_at play_forms thread_forms
+    form_at line_at role_fault spelled_by
 returns-clause-plan _ = record { spelled = refl; submits = refl }

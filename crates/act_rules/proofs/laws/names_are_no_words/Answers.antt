@@ -1,4 +1,4 @@
-use Rattle.std.proofs.Common.{refl}
+use Rattle.act_rules.proofs.Common.{refl}
 use Rattle.act_rules.specs.Grammar.{play_forms, thread_forms}
 use Rattle.act_rules.proofs.laws.names_are_no_words.Goals as goal
 

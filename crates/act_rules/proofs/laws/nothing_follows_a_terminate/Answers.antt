@@ -1,4 +1,4 @@
-use Rattle.act_rules.specs.History.{opening}
+use Rattle.act_rules.proofs.Common.{opening}
 use Rattle.act_rules.proofs.Steps.{after_all_keeps}
 use Rattle.act_rules.proofs.Ended.{NothingFollows, nothing_follows_step}
 use Rattle.act_rules.proofs.laws.nothing_follows_a_terminate.Goals as goal

@@ -3,13 +3,4 @@ use Rattle.act_rules.proofs.Spelling.{caller_is_text, actor_is_text, kind_is_tex
 use Rattle.act_rules.proofs.laws.one_spelling.Goals as goal
 
 pub returns : goal.returns
-returns _ = record {
-  number = number_is_printed;
-  int = int_is_printed;
-  caller = caller_is_text;
-  actor = actor_is_text;
-  kind = kind_is_text;
-  method = method_is_text;
-  value = value_is_text;
-  arg = arg_is_text;
-}
+returns _ = search (number_is_printed, int_is_printed, caller_is_text, actor_is_text, kind_is_text, method_is_text, value_is_text, arg_is_text)

@@ -1,6 +1,6 @@
+use Rattle.act_told_ends.proofs.Common.{with_calls}
 use Rattle.act_told_ends.proofs.Standing.{may_stand}
 use Rattle.act_told_ends.proofs.Stepped.{refutes}
-use Rattle.act_told_ends.specs.Untold.{with_calls}
 use Rattle.act_told_ends.proofs.laws.untold_may_be_as_run.Goals as goal
 
 pub returns-clause-ends : goal.returns-clause-ends

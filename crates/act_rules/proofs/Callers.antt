@@ -1,0 +1,65 @@
+-- How many calls a caller has, and that the callers of a cast are callers.
+use Rattle.act_rules.proofs.Common.{◌≡◌, ℕ, ◌+◌, ◌<◌, ◌≤◌, Bool, true, false, cond, List, [], ◌∷◌, ◌++◌, length, Some, None, refl, subst, arith, length-append}
+use Rattle.act_rules.proofs.Common.{Option, ◌==◌, ◌||◌, find, is_some, nat_lt, nat_le, list_all, list_any, eqb-true, ltb-true, or_right, Arg, Method, RunItem}
+use Rattle.act_rules.proofs.Common.{Submission, Submit, Run, option_map, needs, copies_held, submit_refusal, limit_refusal, is_earlier, ActorSpec, History}
+use Rattle.act_rules.proofs.Common.{contains, under, names, is_caller, calls_of, copies_of, limit_of, next_item, unanswered, submission_refusal, refusal_of}
+use Rattle.act_rules.proofs.Common.{after_run, NoCaller, NoSuchActor, NoCopy, TooManyArgs, BadFuture, TooManyCalls, SubmitRefused}
+use Rattle.act_rules.proofs.Lists.{option_map-none, option_or-none}
+use Rattle.act_rules.proofs.Steps.{IsKept}
+use Rattle.act_rules.proofs.Ended.{needs-none, under-push}
+
+-- ---- no caller submits too much
+
+abbrev pub AreFew : History → Type 0
+AreFew h = (c : ℕ) → length (calls_of c h) ≤ 65536
+
+-- a call that nothing refuses is below the limit
+pub submit_below : (h : History) (c a : ℕ) (method : Method) (args : List Arg) → refusal_of h (Submit c a method args) ≡ None → length (calls_of c h) < 65536
+submit_below h c a method args e =
+    let count = length (calls_of c h) in
+    let copies = copies_of c a h in
+    let whole = option_map-none SubmitRefused (submission_refusal c a args h)
+    (needs-none (is_caller c h) NoCaller (option_map SubmitRefused (submission_refusal c a args h)) e).1 in
+    let none = option_or-none (submit_refusal copies count args) (limit_refusal (limit_of c a h) (unanswered c a h)) whole in
+    let last = needs (nat_lt count 65536) TooManyCalls None in
+    let fourth = needs (list_all (is_earlier count) args) BadFuture last in
+    let third = needs (nat_le (length args) 4) TooManyArgs fourth in
+    let second = needs (nat_lt 0 (copies_held copies)) NoCopy third in
+    let first = needs-none (is_some copies) NoSuchActor second none in
+    let held = needs-none (nat_lt 0 (copies_held copies)) NoCopy third first.1 in
+    let short = needs-none (nat_le (length args) 4) TooManyArgs fourth held.1 in
+    let known = needs-none (list_all (is_earlier count) args) BadFuture last short.1 in
+    ltb-true count 65536 (needs-none (nat_lt count 65536) TooManyCalls None known.1).0
+
+one_more_call : (h : History) (c d : ℕ) (call : Submission) → (d ≡ c → length (calls_of c h) < 65536) → length (calls_of c h) ≤ 65536
+    → length (under c (h.submitted ++ (d, call) ∷ [])) ≤ 65536
+one_more_call h c d call below few = rw (under-push c d h.submitted call, length-append) (go (d == c) refl)
+  where
+    go : (same : Bool) → (d == c) ≡ same → length (under c h.submitted) + length (cond same (call ∷ []) []) ≤ 65536
+    go true e = let less = below (eqb-true d c e) in omega arith
+    go false e = omega arith
+
+pub few_step : IsKept AreFew
+few_step h (Submit d a method args) few accepted c =
+    one_more_call h c d (record { actor = a; method = method; args = args })
+    (λ same. subst (λ (x : ℕ). length (calls_of x h) < 65536) same (submit_below h d a method args accepted)) (few c)
+few_step h (Run a d) few accepted c = go (next_item a d h)
+  where
+    go : (o : Option RunItem) → length (calls_of c (after_run a d h o)) ≤ 65536
+    go None = few c
+    go (Some item) = few c
+few_step h other few accepted c = few c
+
+-- ---- whom a cast names
+
+named_here : (c : ℕ) (cast : ActorSpec) (casts : List ActorSpec) (found : Option ActorSpec) (here : Bool)
+    → (names c found ≡ true → list_any (λ (one : ActorSpec). contains c one.callers) casts ≡ true)
+    → names c (cond here (Some cast) found) ≡ true → (contains c cast.callers || list_any (λ (one : ActorSpec). contains c one.callers) casts) ≡ true
+named_here c cast casts found true rest e = rw e refl
+named_here c cast casts found false rest e = or_right (contains c cast.callers) (list_any (λ (one : ActorSpec). contains c one.callers) casts) (rest e)
+
+-- whom the cast of an actor names is named by one of the casts
+pub named_among : (c a : ℕ) (casts : List ActorSpec) → names c (find (λ (cast : ActorSpec). cast.actor == a) casts) ≡ true
+    → list_any (λ (cast : ActorSpec). contains c cast.callers) casts ≡ true
+named_among c a [] e = cc
+named_among c a (cast ∷ casts) e = named_here c cast casts (find (λ (one : ActorSpec). one.actor == a) casts) (cast.actor == a) (named_among c a casts) e
