@@ -1,16 +1,12 @@
 -- What copies and releases of handles do to the copies that are held, and that they are as a plan's steps say.
-use Rattle.std.proofs.Common.{◌≡◌, ◌≢◌, ℕ, ◌+◌, ◌-◌, ◌==◌, Bool, true, false, if◌then◌else◌, nat_lt, List, [], ◌∷◌, ◌++◌, length, filter, Option, Some, None, refl, sym, ◌∙◌, ap, subst, arith, rules, append-nil, length-append, inl, inr}
-use Rattle.std.specs.Prelude.{option_map}
-use Rattle.std.specs.List.{list_any}
-use Rattle.std.proofs.lemmas.Bool.{ne_eqb}
-use Rattle.std.proofs.lemmas.Bool.Decides.{eqb_tells}
+use Rattle.act_handles.proofs.Common.{◌≡◌, ◌≢◌, ℕ, ◌+◌, ◌-◌, ◌==◌, Bool, true, false, if◌then◌else◌, nat_lt, List, [], ◌∷◌, ◌++◌, length, filter, Option, Some}
+use Rattle.act_handles.proofs.Common.{None, refl, sym, ◌∙◌, ap, subst, arith, rules, append-nil, length-append, inl, inr, option_map, list_any, ne_eqb}
+use Rattle.act_handles.proofs.Common.{eqb_tells, Handle, copies_in, with_copy, without_copy}
 use Rattle.std.proofs.lemmas.List.Elements.{filter-append}
 use Rattle.act_rules.specs.declared.script.Step.TheVariants.{Copy, Release}
 use Rattle.act_rules.specs.Plans.{Progress, holds, occurrences, do_step}
 use Rattle.act_rules.specs.Submissions.{copies_held, copy_refusal}
 use Rattle.act_rules.proofs.Ended.{needs-none}
-use Rattle.act_handles.specs.declared.handles.Handle.{Handle}
-use Rattle.act_handles.specs.Handles.{copies_in, with_copy, without_copy}
 use Rattle.act_handles.proofs.Lookups.{copies-with_copy, copies-with_copy-other, copies-without_copy, copies-without_copy-other}
 
 pub positive : (n : ℕ) → nat_lt 0 n ≡ true → n ≢ 0

@@ -1,12 +1,8 @@
 -- What is found after a handle is changed, and at the opening, for the crates above.
-use Rattle.std.proofs.Common.{◌≡◌, ◌≢◌, ℕ, ◌+◌, ◌-◌, ◌==◌, List, [], ◌∷◌, map, Option, Some, None, true, false, is_some, if◌then◌else◌, refl, sym, ◌∙◌, ap, eq-eqb, inl, inr}
-use Rattle.std.specs.Prelude.{find}
-use Rattle.std.specs.List.{list_any}
+use Rattle.act_handles.proofs.Common.{◌≡◌, ◌≢◌, ℕ, ◌+◌, ◌-◌, ◌==◌, List, [], ◌∷◌, map, Option, Some, None, true, false, is_some, if◌then◌else◌, refl, sym, ◌∙◌}
+use Rattle.act_handles.proofs.Common.{ap, eq-eqb, inl, inr, find, list_any, ne_eqb, eqb_tells, Handle, is_of, copies_in, given_in, given_of_all, change_handle}
+use Rattle.act_handles.proofs.Common.{new_handle, with_copy, with_number, without_copy}
 use Rattle.std.specs.Option.{option_map, option_map_or, unwrap_or}
-use Rattle.std.proofs.lemmas.Bool.{ne_eqb}
-use Rattle.std.proofs.lemmas.Bool.Decides.{eqb_tells}
-use Rattle.act_handles.specs.declared.handles.Handle.{Handle}
-use Rattle.act_handles.specs.Handles.{is_of, copies_in, given_in, given_of_all, change_handle, new_handle, with_copy, with_number, without_copy}
 
 -- the changed handle itself
 pub find-changed-same : (a : ℕ) (change : Handle → Handle) → ((handle : Handle) → (change handle).actor ≡ handle.actor) → (handles : List Handle) → find (is_of a) (change_handle a change handles) ≡ option_map change (find (is_of a) handles)

@@ -1,17 +1,13 @@
 -- Where an actor's handle stands, and what a change of it does.
-use Rattle.std.proofs.Common.{◌≡◌, ◌≢◌, ℕ, zero, suc, ◌+◌, ◌<◌, ◌≤◌, ◌==◌, List, [], ◌∷◌, length, map, AllPairs, get_or, if◌then◌else◌, refl, sym, ◌∙◌, ap, arith, eq-eqb, inl, inr, Option, None, MatchOption, position, subst}
-use Rattle.std.specs.Prelude.{slice_set, find}
-use Rattle.std.specs.List.{position_or_len}
-use Rattle.std.proofs.lemmas.Bool.Decides.{eqb_tells, leb_tells}
-use Rattle.std.proofs.lemmas.Bool.{eqb-true}
+use Rattle.act_handles.proofs.Common.{◌≡◌, ◌≢◌, ℕ, zero, suc, ◌+◌, ◌<◌, ◌≤◌, ◌==◌, List, [], ◌∷◌, length, map, AllPairs, get_or, if◌then◌else◌, refl, sym, ◌∙◌}
+use Rattle.act_handles.proofs.Common.{ap, arith, eq-eqb, inl, inr, Option, None, MatchOption, position, subst, slice_set, find, position_or_len, eqb_tells}
+use Rattle.act_handles.proofs.Common.{leb_tells, eqb-true, Handle, is_of, change_handle, new_handle, actors_in, given_of_all, IsHandles, IsAt}
 use Rattle.std.proofs.lemmas.List.{get_or-map, length-map}
 use Rattle.std.proofs.lemmas.List.Folds.{find_at}
 use Rattle.std.proofs.lemmas.List.Sums.{sum_by-set, passes_at_first}
 use Rattle.std.proofs.lemmas.Option.{slice_get-get_or, slice_get_past}
 use Rattle.std.proofs.Math.Seq.{map-set_same}
 use Rattle.act_handles.proofs.Lookups.{given_of_all-opened}
-use Rattle.act_handles.specs.declared.handles.Handle.{Handle}
-use Rattle.act_handles.specs.Handles.{is_of, change_handle, new_handle, actors_in, given_of_all, IsHandles, IsAt}
 use Rattle.act_lists.proofs.Lists.{tail_apart}
 
 if_same : {A : Type 0} (a b : ℕ) (x y : A) → a ≡ b → (if a == b then x else y) ≡ x

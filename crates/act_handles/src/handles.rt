@@ -108,13 +108,6 @@ impl Handles {
         self.held_place(actor).err()
     }
 
-    /// How many numbers were given in all.
-    fn numbers_given(&self) -> u32
-        ensures { result ≡ given_of_all self.now }
-    {
-        self.handles.iter().map(|handle| handle.given).sum()
-    }
-
     /// Adds a copy and gives their number. An `Err` changes nothing.
     pub fn copy(&mut self, actor: ActorId) -> Result<u32, HandleRefusal>
         ensures value { result ≡ copy_answer actor self.old }
@@ -138,7 +131,8 @@ impl Handles {
         ensures err { OnErr result (self.new ≡ self.old) }
     {
         let place = self.held_place(actor)?;
-        if self.numbers_given() >= MAX_CALLS {
+        let numbers_given: u32 = self.handles.iter().map(|handle| handle.given).sum();
+        if numbers_given >= MAX_CALLS {
             return Err(HandleRefusal::TooManyCalls);
         }
         let handle = &mut self.handles[place];
@@ -164,19 +158,12 @@ impl Handles {
     }
 }
 
-/// Whether the argument is a value or one of the first `count` futures.
-fn is_earlier(arg: &Arg, count: u32) -> bool
-    ensures { result ≡ is_earlier count arg.now }
-{
-    match arg {
-        Arg::Plain(_) => true,
-        Arg::Fut(future) => future.number() < count,
-    }
-}
-
 /// Whether each argument is a value or one of the first `count` futures.
 pub fn are_earlier(args: &ListOf<Arg>, count: u32) -> bool
     ensures { result ≡ list_all (is_earlier count) args.now }
 {
-    args.as_slice().iter().all(|arg| is_earlier(arg, count))
+    args.as_slice().iter().all(|arg| match arg {
+        Arg::Plain(_) => true,
+        Arg::Fut(future) => future.number() < count,
+    })
 }

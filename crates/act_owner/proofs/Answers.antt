@@ -1,10 +1,10 @@
 -- Answers: what a first answer and a death leave in the futures.
-use Rattle.act_owner.proofs.Common.{◌≡◌, ℕ, zero, suc, ◌+◌, ◌==◌, ◌&&◌, ◌||◌, Bool, true, false, not, cond, if◌then◌else◌, List, [], ◌∷◌, ◌++◌, length, map}
+use Rattle.act_owner.proofs.Common.{◌≡◌, ℕ, zero, suc, ◌+◌, ◌==◌, ◌&&◌, ◌||◌, ◌<◌, unwrap_or, Bool, true, false, not, cond, if◌then◌else◌, List, [], ◌∷◌, ◌++◌, length, map}
 use Rattle.act_owner.proofs.Common.{drop, get_or, count_by, nat_lt, Option, Some, None, is_some, Err, refl, sym, ◌∙◌, ap, arith, slice_get, slice_set, zip}
 use Rattle.act_owner.proofs.Common.{nat_eq, list_all, list_any, ne_eqb, lt-ltb, map-set, sum_by-cons, ActorDied, Submission, Answer, kept_at, slice_get_last}
 use Rattle.act_owner.proofs.Common.{Handle, Row, Call, Reply, copies_in, First, Late, Stray, Died}
 use Rattle.act_replies.specs.Table.{is_open, row_waits_for as row_waits_for, unanswered_row, row_with_answer, after_keep, after_keep_in, row_after_death, rows_after_death as rows_after_death}
-use Rattle.act_owner.specs.Owner.{OwnerView, is_of_call, with_kept_answer as owner_with_answer, after_reply_that, after_reply, with_death, with_sent, collected_death, owner_after_death, submission_of, answers_of, answered_row, call_waits_for, answer_after_death, KnowsAnswers, IsOwner}
+use Rattle.act_owner.specs.Owner.{OwnerView, is_death, is_sent, is_to, collected_reply, with_kept_answer as owner_with_answer, after_reply_that, after_reply, with_death, with_sent, collected_death, owner_after_death, submission_of, answers_of, answered_row, call_waits_for, answer_after_death, KnowsAnswers, IsOwner}
 use Rattle.act_resolver.specs.Resolver.{Entered, with_told, with_mark as with_sent_entered}
 use Rattle.act_owner.proofs.Calls.{set_last}
 use Rattle.act_owner.proofs.Waiting.{seen, read_stays, read_set}
@@ -128,19 +128,29 @@ pending_count a (row ∷ rows) (call ∷ calls) same =
       pending_count a rows calls (ap (drop 1) same),
     )
 
-reply_cases : (mine known : Bool) (owner : OwnerView) (reply : Reply) → mine ≡ true → known ≡ false → owner_with_answer owner reply.future reply.answer ≡ after_reply_that (if mine then (if known then Late reply.future else First reply.future) else Stray) owner reply
-reply_cases true false owner reply m n = refl
-reply_cases true true owner reply m n = absurd (cc n)
-reply_cases false known owner reply m n = absurd (cc m)
+-- what the first answer of a future tells of it
+pub first_is : (owner : OwnerView) (reply : Reply) (k : ℕ) → First k ≡ collected_reply owner reply → (is_sent owner k ≡ true) × (is_some (kept_at owner.kept k) ≡ false)
+first_is owner reply k is =
+    go (reply.caller == owner.id) (is_to reply.actor (slice_get owner.calls reply.future)) (is_sent owner reply.future) (is_death reply.answer) (is_some (kept_at owner.kept reply.future)) refl refl is
+  where
+    go : (a b sent d known : Bool) → is_sent owner reply.future ≡ sent → is_some (kept_at owner.kept reply.future) ≡ known → First k ≡ (if a && b && sent && not d then (if known then Late reply.future else First reply.future) else Stray) → (is_sent owner k ≡ true) × (is_some (kept_at owner.kept k) ≡ false)
+    go true true true false false s u is = let same : k ≡ reply.future = cc is in rw same (s, u)
+    go a b sent d known s u is = absurd (cc is)
 
 -- a caller after the first answer of a future
-pub reply_kept : (id : ℕ) (handles : List Handle) (calls : List Call) (rows new : List Row) (entered entered2 : List Entered) (dead : List Bool) (limits : List (ℕ × Option ℕ)) (now : OwnerView) (reply : Reply) → seen id handles calls rows entered dead limits ≡ now → new ≡ after_keep reply.future reply.answer rows → entered2 ≡ with_told entered reply.future → is_of_call now reply ≡ true → is_some (kept_at now.kept reply.future) ≡ false → seen id handles calls new entered2 dead limits ≡ after_reply now reply
-reply_kept id handles calls rows new entered entered2 dead limits now reply same is told mine unknown =
-    let before : is_some (kept_at (answers_of rows) reply.future) ≡ false = ap (λ (owner : OwnerView). is_some (kept_at owner.kept reply.future)) same ∙ unknown in
-    ap (λ (sent : List Bool). record (seen id handles calls new entered dead limits) { sent = sent }) (ap (map (λ (call : Entered). call.sent)) told ∙ read_stays (λ (call : Entered). call.sent) (λ (call : Entered). record call { answered = true }) (λ _. refl) entered reply.future)
-    ∙ ap (λ (kept : List (Option Answer)). record (seen id handles calls rows entered dead limits) { kept = kept }) (ap answers_of is ∙ keep_open reply.future reply.answer rows before)
-    ∙ ap (λ (owner : OwnerView). owner_with_answer owner reply.future reply.answer) same
-    ∙ reply_cases (is_of_call now reply) (is_some (kept_at now.kept reply.future)) now reply mine unknown
+pub reply_kept : (id : ℕ) (handles : List Handle) (calls : List Call) (rows new : List Row) (entered entered2 : List Entered) (dead : List Bool) (limits : List (ℕ × Option ℕ)) (now : OwnerView) (reply : Reply) (k : ℕ) → seen id handles calls rows entered dead limits ≡ now → new ≡ after_keep k reply.answer rows → entered2 ≡ with_told entered k → First k ≡ collected_reply now reply → seen id handles calls new entered2 dead limits ≡ after_reply now reply
+reply_kept id handles calls rows new entered entered2 dead limits now reply k same is told first =
+    let before : is_some (kept_at (answers_of rows) k) ≡ false = ap (λ (owner : OwnerView). is_some (kept_at owner.kept k)) same ∙ (first_is now reply k first).1 in
+    ap (λ (sent : List Bool). record (seen id handles calls new entered dead limits) { sent = sent }) (ap (map (λ (call : Entered). call.sent)) told ∙ read_stays (λ (call : Entered). call.sent) (λ (call : Entered). record call { answered = true }) (λ _. refl) entered k)
+    ∙ ap (λ (kept : List (Option Answer)). record (seen id handles calls rows entered dead limits) { kept = kept }) (ap answers_of is ∙ keep_open k reply.answer rows before)
+    ∙ ap (λ (owner : OwnerView). owner_with_answer owner k reply.answer) same
+    ∙ ap (λ told. after_reply_that told now reply) first
+
+-- a call that was sent was entered
+pub sent_within : (entered : List Entered) (k : ℕ) → unwrap_or (slice_get (map (λ call. call.sent) entered) k) false ≡ true → k < length entered
+sent_within [] k is = absurd (cc is)
+sent_within (call ∷ entered) zero is = omega arith
+sent_within (call ∷ entered) (suc k) is = let rest = sent_within entered k is in omega (arith, rest)
 
 -- a caller after a call was sent
 pub sent_marked : (id : ℕ) (handles : List Handle) (calls : List Call) (rows : List Row) (entered entered2 : List Entered) (dead : List Bool) (limits : List (ℕ × Option ℕ)) (now : OwnerView) (k : ℕ) → seen id handles calls rows entered dead limits ≡ now → entered2 ≡ with_sent_entered entered k → seen id handles calls rows entered2 dead limits ≡ with_sent now k
@@ -148,12 +158,13 @@ sent_marked id handles calls rows entered entered2 dead limits now k same is =
     ap (λ (sent : List Bool). record (seen id handles calls rows entered dead limits) { sent = sent }) (ap (map (λ (call : Entered). call.sent)) is ∙ read_set (λ (call : Entered). call.sent) (λ (call : Entered). record call { sent = true }) true (λ _. refl) entered k)
     ∙ ap (λ (owner : OwnerView). with_sent owner k) same
 
--- what the death of a caller's actor tells
-pub death_told : (id : ℕ) (handles : List Handle) (calls : List Call) (rows : List Row) (entered : List Entered) (dead : List Bool) (limits : List (ℕ × Option ℕ)) (now : OwnerView) (a n : ℕ) → seen id handles calls rows entered dead limits ≡ now → map (λ row. row.actor) rows ≡ map (λ call. call.actor) calls → is_some (copies_in a now.handles) ≡ true → n ≡ count_by (row_waits_for a) rows → Died n ≡ collected_death now a
-death_told id handles calls rows entered dead limits now a n same actors listed count =
-    ap Died (count ∙ pending_count a rows calls actors)
-    ∙ ap (λ (owner : OwnerView). Died (count_by (call_waits_for a) (zip owner.calls owner.kept))) same
-    ∙ sym (ap (λ b. if b then Died (count_by (call_waits_for a) (zip now.calls now.kept)) else Stray) listed)
+-- a death answers calls of the caller's actors alone
+pub died_listed : (owner : OwnerView) (a n : ℕ) → Died n ≡ collected_death owner a → is_some (copies_in a owner.handles) ≡ true
+died_listed owner a n is = go (is_some (copies_in a owner.handles)) is
+  where
+    go : (listed : Bool) → Died n ≡ (if listed then Died (count_by (call_waits_for a) (zip owner.calls owner.kept)) else Stray) → listed ≡ true
+    go true is = refl
+    go false is = absurd (cc is)
 
 -- a caller after the death of one of its actors
 pub death_kept : (id : ℕ) (handles : List Handle) (calls : List Call) (rows new : List Row) (entered entered2 : List Entered) (dead : List Bool) (limits : List (ℕ × Option ℕ)) (now : OwnerView) (a number : ℕ) → seen id handles calls rows entered dead limits ≡ now → map (λ row. row.actor) rows ≡ map (λ call. call.actor) calls → is_some (copies_in a now.handles) ≡ true → new ≡ rows_after_death a rows → map (λ call. call.sent) entered2 ≡ map (λ call. call.sent) entered → number ≡ a → seen id handles calls new entered2 (slice_set dead number true) limits ≡ owner_after_death now a
@@ -165,6 +176,14 @@ death_kept id handles calls rows new entered entered2 dead limits now a number s
     ∙ ap (λ (kept : List (Option Answer)). record before { kept = kept; dead = slice_set dead a true }) (died_answers a rows calls actors)
     ∙ ap (λ (owner : OwnerView). with_death owner a) same
     ∙ sym (ap (λ b. if b then with_death now a else now) listed)
+
+-- the flag that was set is read
+pub dead_known : (dead : List Bool) (number a : ℕ) → number ≡ a → number < length dead → unwrap_or (slice_get (slice_set dead number true) a) false ≡ true
+dead_known [] number a same below = absurd (omega arith)
+dead_known (b ∷ dead) zero zero same below = refl
+dead_known (b ∷ dead) zero (suc a) same below = absurd (omega (arith, same))
+dead_known (b ∷ dead) (suc number) zero same below = absurd (omega (arith, same))
+dead_known (b ∷ dead) (suc number) (suc a) same below = dead_known dead number a (omega (arith, same)) (omega arith)
 
 -- something passes where more than none are counted
 pub any_counted : {X : Type 0} (p : X → Bool) (xs : List X) → nat_lt 0 (count_by p xs) ≡ list_any p xs

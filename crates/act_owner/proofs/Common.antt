@@ -17,7 +17,6 @@ pub use Rattle.act_replies.specs.Table.{after_keep, row_waits_for, row_with_answ
 pub use Rattle.act_replies.specs.declared.table.Row.{Row}
 pub use Rattle.act_resolver.specs.Resolver.{Entered, changed_at, is_answered, is_marked_sent, is_next_ready, is_told, least_ready, new_call, with_told}
 pub use Rattle.act_rules.proofs.Events.{calls_to-length}
-pub use Rattle.act_rules.proofs.Finding.{find-None, find-Some}
 pub use Rattle.act_rules.proofs.Lists.{option_or-none_second}
 pub use Rattle.act_rules.specs.Actions.{Action, Copied, Noticed, Released, Sent, Submitted}
 pub use Rattle.act_rules.specs.RunList.{Answer}

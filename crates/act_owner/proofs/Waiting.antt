@@ -3,10 +3,10 @@ use Rattle.act_owner.proofs.Common.{◌≡◌, ℕ, zero, suc, ◌<◌, ◌&&◌
 use Rattle.act_owner.proofs.Common.{inl, inr, refl, sym, ◌∙◌, ap, arith, subst, if◌then◌else◌, slice_get, slice_set, find, unwrap_or, option_map, nat_lt, All}
 use Rattle.act_owner.proofs.Common.{list_all, range_with_len, option_map_or, length-map, slice_get-map, leb_tells, and_parts, Arg, Plain, Fut, Answer}
 use Rattle.act_owner.proofs.Common.{slice_get_last, Handle, Row, Entered, changed_at, new_call, with_told, is_answered, is_marked_sent, is_told, is_next_ready}
-use Rattle.act_owner.proofs.Common.{least_ready, Call, Submission, settle}
+use Rattle.act_owner.proofs.Common.{least_ready, Call, Submission}
 use Rattle.std.specs.Option.{option_and_then}
 use Rattle.act_rules.specs.Submissions.{kept_at, is_earlier, is_known as is_known_arg}
-use Rattle.act_owner.specs.Owner.{call_at, numbered_call, packet_at, packet_for, OwnerView, submission_of, answers_of, futures_of_args, entered_call, KnowsAnswers, IsOwner, is_known_call, is_sent as owner_is_sent, is_ready as owner_is_ready, first_ready as owner_first_ready}
+use Rattle.act_owner.specs.Owner.{call_at, numbered_call, OwnerView, submission_of, answers_of, futures_of_args, entered_call, KnowsAnswers, IsOwner, is_known_call, is_sent as owner_is_sent, is_ready as owner_is_ready, first_ready as owner_first_ready}
 use Rattle.act_owner.proofs.Calls.{set_last}
 
 -- one caller, seen through its parts
@@ -158,13 +158,3 @@ ready_is_there owner k ready none = go (slice_get owner.calls k) refl (ready_is_
     go : (found : Option Submission) → slice_get owner.calls k ≡ found → is_known_call owner found ≡ true → ⊥
     go None is known = cc known
     go (Some call) is known = cc (sym none ∙ ap (option_map (numbered_call owner.calls k)) is)
-
--- the packet of a call that was submitted
-pub packet_is : (owner : OwnerView) (k : ℕ) (call : Call) → Some call ≡ call_at owner.calls k →
-    packet_at owner k ≡ Some (record { caller = owner.id; actor = call.actor; number = call.number; future = k; method = call.method; args = map (settle owner.kept) call.args })
-packet_is owner k call is = go (slice_get owner.calls k) is
-  where
-    go : (found : Option Submission) → Some call ≡ option_map (numbered_call owner.calls k) found →
-        option_map (packet_for owner k) found ≡ Some (record { caller = owner.id; actor = call.actor; number = call.number; future = k; method = call.method; args = map (settle owner.kept) call.args })
-    go None is = absurd (cc is)
-    go (Some found) is = let same : call ≡ numbered_call owner.calls k found = cc is in rw same refl

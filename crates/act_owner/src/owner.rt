@@ -81,16 +81,6 @@ impl Model for Owner {
     ghost invariant = { λ owner. IsOwner owner.handles owner.calls.items owner.table.rows owner.resolver.calls };
 }
 
-/// Whether the answer says that the actor died.
-fn is_death(answer: &Answer) -> bool
-    ensures { result ≡ is_death answer.now }
-{
-    match answer {
-        Err(Fault::ActorDied) => true,
-        _ => false,
-    }
-}
-
 /// The actors of a list of actors with their limits.
 fn names_of(alloc: Global, actors: &[(ActorId, Option<u32>)]) -> Result<Vec<ActorId>, NoMemory>
     ensures { IfOk result (λ names. names.items ≡ map (λ actor. actor.0) actors.now) }
@@ -107,21 +97,11 @@ fn copy_of(alloc: Global, actors: &[(ActorId, Option<u32>)]) -> Result<Limits, N
     Ok(limits)
 }
 
-/// The place of the actor in a list of actors with their limits.
-fn place_in(limits: &[(ActorId, Option<u32>)], a: ActorId) -> Option<usize>
-    ensures { result ≡ position (λ limit. limit.0 == a) limits.now }
+/// The actor with its limit in a list of actors with their limits.
+fn limit_of(limits: &[(ActorId, Option<u32>)], a: ActorId) -> Option<&(ActorId, Option<u32>)>
+    ensures { option_copied result ≡ find (λ limit. limit.0 == a) limits.now }
 {
-    limits.iter().position(|limit| limit.0 == a)
-}
-
-/// The limit of an actor in a list of actors with their limits.
-fn limit_in(limits: &[(ActorId, Option<u32>)], a: ActorId) -> Option<u32>
-    ensures { result ≡ option_and_then (λ limit. limit.1) (find (λ limit. limit.0 == a) limits.now) }
-{
-    match place_in(limits, a) {
-        None => None,
-        Some(place) => limits[place].1,
-    }
+    limits.iter().find(|limit| limit.0 == a)
 }
 
 /// What is sent for a call, its arguments settled by the answers kept.
@@ -154,6 +134,7 @@ fn packet_with(
 
 impl Owner {
     /// A caller of these actors, which holds one copy of each one's handle and submitted nothing.
+    #[tactic(auto, using(crate::proofs::Calls::opened_fine))]
     fn open_under(
         alloc: Global,
         limits: Limits,
@@ -300,7 +281,7 @@ impl Owner {
     pub fn limit(&self, a: ActorId) -> Option<u32>
         ensures { result ≡ owner_limit self.now a }
     {
-        limit_in(self.limits.as_slice(), a)
+        limit_of(&self.limits, a)?.1
     }
 
     /// Why the actor's limit would refuse one call more.
@@ -341,18 +322,6 @@ impl Owner {
         self.dead[number as usize]
     }
 
-    fn is_sent(&self, k: FutureId) -> bool
-        ensures { result ≡ is_sent self.now k }
-    {
-        self.resolver.is_sent(k)
-    }
-
-    fn is_answered(&self, k: FutureId) -> bool
-        ensures { result ≡ is_some (kept_at self.now.kept k) }
-    {
-        self.answer(k).is_some()
-    }
-
     /// Why a call of the actor would not be submitted, memory apart.
     pub fn submission_refusal(&self, a: ActorId, args: &ListOf<Arg>) -> Option<SubmitRefusal>
         ensures { result ≡ refusal_to_submit self.now a args.now }
@@ -377,7 +346,7 @@ impl Owner {
     {
         self.calls.reserve(1)?;
         self.resolver.reserve_one()?;
-        self.table.reserve_one()?;
+        self.table.reserve(1)?;
         let is_dead = self.is_dead(a);
         let number = self.handles.number(a).unwrap();
         let k = enter(&mut self.table, a, is_dead);
@@ -423,20 +392,29 @@ impl Owner {
         Ok(k)
     }
 
+    /// A call that may be sent, or why it may not, memory apart.
+    fn sendable(&self, k: FutureId) -> Result<&Call, SendRefusal>
+        ensures call { IfOk result (λ call. call_at self.now.calls k ≡ Some call.now) }
+        ensures accepted { OnOk result (sending_refusal self.now k ≡ None) }
+        ensures refusal { IfErr result (λ refusal. sending_refusal self.now k ≡ Some refusal) }
+    {
+        let Some(call) = self.call(k) else {
+            return Err(SendRefusal::NoFuture);
+        };
+        if !self.is_known(k) {
+            return Err(SendRefusal::NotReady);
+        }
+        if !self.resolver.is_sent(k) && self.answer(k).is_some() {
+            return Err(SendRefusal::Answered);
+        }
+        Ok(call)
+    }
+
     /// Why a call would not be sent, memory apart.
     pub fn sending_refusal(&self, k: FutureId) -> Option<SendRefusal>
         ensures { result ≡ sending_refusal self.now k }
     {
-        if self.call(k).is_none() {
-            return Some(SendRefusal::NoFuture);
-        }
-        if !self.is_known(k) {
-            return Some(SendRefusal::NotReady);
-        }
-        if !self.is_sent(k) && self.is_answered(k) {
-            return Some(SendRefusal::Answered);
-        }
-        None
+        self.sendable(k).err()
     }
 
     /// The packet of a call, memory permitting, or why it is not sent. It marks nothing, so it serves
@@ -446,44 +424,11 @@ impl Owner {
         ensures accepted { OnOk result (sending_refusal self.now k ≡ None) }
         ensures refusal { IfErr result (λ refusal. refusal ≡ unwrap_or (sending_refusal self.now k) NoRoomToSend) }
     {
-        let Some(call) = self.call(k) else {
-            return Err(SendRefusal::NoFuture);
-        };
-        if let Some(refusal) = self.sending_refusal(k) {
-            return Err(refusal);
-        }
+        let call = self.sendable(k)?;
         let Ok(packet) = packet_with(alloc, self.id, k, call, &self.table) else {
             return Err(SendRefusal::NoMemory);
         };
         Ok(packet)
-    }
-
-    /// The packet of a call that may be sent.
-    fn packet_now(&self, alloc: Global, k: FutureId) -> Result<Packet, NoMemory>
-        requires { first_ready self.now ≡ Some k }
-        ensures value { IfOk result (λ packet. packet_at self.now k ≡ Some packet) }
-        ensures future { IfOk result (λ packet. packet.future ≡ k) }
-    {
-        let Some(call) = self.call(k) else {
-            unreachable!()
-        };
-        let packet = packet_with(alloc, self.id, k, call, &self.table)?;
-        Ok(packet)
-    }
-
-    /// The actor that a call goes to, and the call's number there, or why it is not sent.
-    fn address_of(&self, k: FutureId) -> Result<(ActorId, u32), SendRefusal>
-        ensures value { IfOk result (λ address. address_at self.now.calls k ≡ Some address) }
-        ensures accepted { OnOk result (sending_refusal self.now k ≡ None) }
-        ensures refusal { IfErr result (λ refusal. sending_refusal self.now k ≡ Some refusal) }
-    {
-        let Some(call) = self.call(k) else {
-            return Err(SendRefusal::NoFuture);
-        };
-        if let Some(refusal) = self.sending_refusal(k) {
-            return Err(refusal);
-        }
-        Ok((call.actor, call.number))
     }
 
     /// The packet of a call, which is marked sent. It is the same each time. An `Err` changes
@@ -514,7 +459,10 @@ impl Owner {
         let Some(k) = self.ready() else {
             return Ok(None);
         };
-        let packet = self.packet_now(alloc, k)?;
+        let Some(call) = self.call(k) else {
+            unreachable!()
+        };
+        let packet = packet_with(alloc, self.id, k, call, &self.table)?;
         self.resolver.mark_sent(k);
         Ok(Some(packet))
     }
@@ -528,7 +476,8 @@ impl Owner {
         ensures refusal { IfErr result (λ refusal. sending_refusal self.old k ≡ Some refusal) }
         ensures err { OnErr result (self.new ≡ self.old) }
     {
-        let address = self.address_of(k)?;
+        let call = self.sendable(k)?;
+        let address = (call.actor, call.number);
         self.resolver.mark_sent(k);
         Ok(address)
     }
@@ -549,45 +498,17 @@ impl Owner {
         self.resolver.ready()
     }
 
-    /// Whether the call of this future goes to the actor.
-    fn is_to(&self, a: ActorId, k: FutureId) -> bool
-        ensures { result ≡ is_to a (slice_get self.now.calls k) }
-    {
-        match self.call(k) {
-            None => false,
-            Some(call) => call.actor == a,
-        }
-    }
-
     /// Whether the reply is that of a call which this caller sent.
     fn is_of_call(&self, reply: &Reply) -> bool
         ensures { result ≡ is_of_call self.now reply.now }
     {
+        let Some(call) = self.call(reply.future) else {
+            return false;
+        };
         reply.caller == self.id
-            && self.is_to(reply.actor, reply.future)
-            && self.is_sent(reply.future)
-            && !is_death(&reply.answer)
-    }
-
-    fn collected_reply(&self, reply: &Reply) -> Collected
-        ensures { result ≡ collected_reply self.now reply.now }
-    {
-        if !self.is_of_call(reply) {
-            Collected::Stray
-        } else if self.is_answered(reply.future) {
-            Collected::Late(reply.future)
-        } else {
-            Collected::First(reply.future)
-        }
-    }
-
-    fn collected_death(&self, a: ActorId) -> Collected
-        ensures { result ≡ collected_death self.now a }
-    {
-        if !self.is_listed(a) {
-            return Collected::Stray;
-        }
-        Collected::Died(self.pending(a))
+            && call.actor == reply.actor
+            && self.resolver.is_sent(reply.future)
+            && !matches!(reply.answer, Err(Fault::ActorDied))
     }
 
     /// What a notice would become. It takes no memory.
@@ -595,37 +516,14 @@ impl Owner {
         ensures { result ≡ collect_result self.now notice.now }
     {
         match notice {
-            Notice::Answered(reply) => self.collected_reply(reply),
-            Notice::Death(a) => self.collected_death(*a),
+            Notice::Answered(reply) if !self.is_of_call(reply) => Collected::Stray,
+            Notice::Answered(reply) if self.answer(reply.future).is_some() => {
+                Collected::Late(reply.future)
+            }
+            Notice::Answered(reply) => Collected::First(reply.future),
+            Notice::Death(a) if !self.is_listed(*a) => Collected::Stray,
+            Notice::Death(a) => Collected::Died(self.pending(*a)),
         }
-    }
-
-    fn collect_reply(&mut self, reply: Reply) -> Collected
-        ensures value { result ≡ collected_reply self.old reply }
-        ensures after { self.new ≡ after_reply self.old reply }
-    {
-        if !self.is_of_call(&reply) {
-            return Collected::Stray;
-        }
-        let k = reply.future;
-        if self.is_answered(k) {
-            return Collected::Late(k);
-        }
-        self.table.keep(k, reply.answer);
-        self.resolver.told(k);
-        Collected::First(k)
-    }
-
-    fn collect_death(&mut self, a: ActorId) -> Collected
-        ensures value { result ≡ collected_death self.old a }
-        ensures after { self.new ≡ owner_after_death self.old a }
-        ensures known { KnowsDeath (Death a) self.old self.new }
-    {
-        if !self.is_listed(a) {
-            return Collected::Stray;
-        }
-        self.dead[a.number() as usize] = true;
-        Collected::Died(answer_death(&mut self.table, &mut self.resolver, a))
     }
 
     /// Takes what an actor's side tells. A reply's answer is kept where its future has none yet,
@@ -635,10 +533,22 @@ impl Owner {
         ensures after { self.new ≡ after_collect self.old notice }
         ensures known { KnowsDeath notice self.old self.new }
     {
+        let told = self.collected(&notice);
         match notice {
-            Notice::Answered(reply) => self.collect_reply(reply),
-            Notice::Death(a) => self.collect_death(a),
+            Notice::Answered(reply) => {
+                if let Collected::First(k) = told {
+                    self.table.keep(k, reply.answer);
+                    self.resolver.told(k);
+                }
+            }
+            Notice::Death(a) => {
+                if let Collected::Died(_) = told {
+                    self.dead[a.number() as usize] = true;
+                    answer_death(&mut self.table, &mut self.resolver, a);
+                }
+            }
         }
+        told
     }
 }
 
@@ -686,22 +596,19 @@ pub(crate) fn enter(table: &mut ReplyTable, a: ActorId, is_dead: bool) -> Future
     k
 }
 
-/// Answers each future of the actor that has no answer yet with `ActorDied`, tells the resolver of
-/// it, and gives their number. It passes over no other call.
-pub(crate) fn answer_death(table: &mut ReplyTable, resolver: &mut Resolver, a: ActorId) -> u32
+/// Answers each future of the actor that has no answer yet with `ActorDied`, and tells the resolver
+/// of it. It passes over no other call.
+fn answer_death(table: &mut ReplyTable, resolver: &mut Resolver, a: ActorId)
     requires told { KnowsAnswers resolver.old.calls table.old.rows }
-    ensures value { result ≡ count_by (row_waits_for a) table.old.rows }
     ensures rows { table.new.rows ≡ rows_after_death a table.old.rows }
     ensures told { KnowsAnswers resolver.new.calls (rows_after_death a table.old.rows) }
     ensures futures { map (λ call. call.futures) resolver.new.calls ≡ map (λ call. call.futures) resolver.old.calls }
     ensures sent { map (λ call. call.sent) resolver.new.calls ≡ map (λ call. call.sent) resolver.old.calls }
 {
-    let count = table.pending(a);
     while let Some(future) = table.waiting_of(a) {
         table.keep(future, Err(Fault::ActorDied));
         resolver.told(future);
     }
-    count
 }
 
 /// What is sent for an argument that has its answer.

@@ -3,4 +3,3 @@ pub mod Chains
 pub mod Counts
 pub mod Deaths
 pub mod Links
-pub mod Lookups

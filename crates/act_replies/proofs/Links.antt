@@ -1,8 +1,8 @@
 -- What a change of the links does to the chains.
 use Rattle.act_replies.proofs.Common.{◌≡◌, ◌≢◌, ℕ, ◌<◌, ◌≤◌, List, [], ◌∷◌, ◌++◌, length, map, take, drop, get_or, Bool, true, false, Option, Some, None, refl}
 use Rattle.act_replies.proofs.Common.{sym, ◌∙◌, ap, subst, arith, slice_set, IfSome, is_some, not, get_or-map, get_or_default, length-map, length-set}
-use Rattle.act_replies.proofs.Common.{set-get_or, map-set, map-append, map-set_same, Link, found_at, with_found, IsLastBelow}
-use Rattle.act_replies.proofs.Common.{IsFirstAbove, linked_actors, before_of, after_of, IsLinked, take_written_over}
+use Rattle.act_replies.proofs.Common.{set-get_or, map-set, map-append, map-set_same, Link, found_at, with_found, IsLastBelow, IsFirstAbove, linked_actors}
+use Rattle.act_replies.proofs.Common.{before_of, after_of, IsLinked, take_written_over}
 use Rattle.act_replies.proofs.Chains.{within, removed_last, removed_inner, pushed}
 
 -- what is read of a link

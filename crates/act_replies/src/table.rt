@@ -69,7 +69,7 @@ impl ReplyTable {
         ensures spare { self.old.spare ≤ self.new.spare }
     {
         self.rows.reserve(1)?;
-        self.waiting.reserve_one()?;
+        self.waiting.reserve(1)?;
         Ok(())
     }
 
@@ -271,17 +271,6 @@ impl Waiting {
             last: [None; ACTOR_NUMBERS],
             counts: [0; ACTOR_NUMBERS],
         }
-    }
-
-    /// Makes room for one more future, unless there is some.
-    pub(crate) fn reserve_one(&mut self) -> Result<(), NoMemory>
-        ensures room { OnOk result (1 ≤ self.new.spare) }
-        ensures enough { 1 ≤ self.old.spare → IsOk result }
-        ensures actors { self.new.actors ≡ self.old.actors }
-        ensures spare { self.old.spare ≤ self.new.spare }
-    {
-        self.links.reserve(1)?;
-        Ok(())
     }
 
     /// Makes room for so many futures more, unless there is as much.

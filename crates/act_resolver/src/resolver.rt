@@ -33,20 +33,6 @@ impl Model for Call {
     } };
 }
 
-impl Call {
-    fn new(futures: &[FutureId], missing: u8) -> Call
-        requires { length futures.now ≤ MAX_ARGS }
-        ensures { result ≡ record { call = new_call futures.now; missing = missing } }
-    {
-        Call {
-            futures: Snapshot::of(&Futures::new(futures)),
-            missing,
-            answered: false,
-            sent: false,
-        }
-    }
-}
-
 /// The calls of one caller, numbered from 0 as their futures are. Each names the futures that it
 /// waits for, and it may be sent once they are all answered.
 #[derive(Drop)]
@@ -94,7 +80,7 @@ impl Resolver {
         ensures spare { self.old.spare ≤ self.new.spare }
     {
         self.calls.reserve(1)?;
-        self.waiters.reserve_one()?;
+        self.waiters.reserve(1)?;
         self.ready.make_room(self.calls.len() + 1)?;
         Ok(())
     }
@@ -155,7 +141,12 @@ impl Resolver {
         prove_eq!(k.number() as usize, self.calls.len());
         self.waiters.add_future();
         let missing = add_places(&self.calls, &mut self.waiters, k, futures);
-        self.calls.push_reserved(Call::new(futures, missing));
+        self.calls.push_reserved(Call {
+            futures: Snapshot::of(&Futures::new(futures)),
+            missing,
+            answered: false,
+            sent: false,
+        });
         self.ready.set(k.number() as usize, missing == 0);
     }
 
@@ -300,12 +291,6 @@ impl Model for Link {
 }
 
 impl Link {
-    fn none() -> Link
-        ensures { result ≡ None }
-    {
-        Link { number: 0 }
-    }
-
     fn to(place: u32) -> Link
         requires { place < 4294967295 }
         ensures { result ≡ Some place }
@@ -366,24 +351,6 @@ impl Waiters {
         }
     }
 
-    /// Makes room for one more future, and for the places of one more call, whose numbers are below
-    /// 2^32.
-    pub fn reserve_one(&mut self) -> Result<(), NoMemory>
-        ensures lists { self.new.lists ≡ self.old.lists }
-        ensures future_room { OnOk result (1 ≤ self.new.future_room) }
-        ensures place_room { OnOk result (MAX_ARGS ≤ self.new.place_room) }
-        ensures room { 1 ≤ self.old.future_room → MAX_ARGS ≤ self.old.place_room → IsOk result }
-        ensures future_room_stays { self.old.future_room ≤ self.new.future_room }
-        ensures place_room_stays { self.old.place_room ≤ self.new.place_room }
-    {
-        if self.places.len() + MAX_ARGS > u32::MAX as usize {
-            return Err(NoMemory);
-        }
-        self.firsts.reserve(1)?;
-        self.places.reserve(MAX_ARGS)?;
-        Ok(())
-    }
-
     /// Makes room for so many futures more, and for the places of as many calls, whose numbers are
     /// below 2^32.
     pub fn reserve(&mut self, count: usize) -> Result<(), NoMemory>
@@ -422,7 +389,7 @@ impl Waiters {
         ensures future_room { self.old.future_room ≡ self.new.future_room + 1 }
         ensures place_room { self.new.place_room ≡ self.old.place_room }
     {
-        self.firsts.push_reserved(Link::none());
+        self.firsts.push_reserved(Link { number: 0 });
     }
 
     /// Puts the call in front of those that wait for the future.

@@ -1,5 +1,4 @@
-use Rattle.std.proofs.Common.{arith, refl, ◌+◌}
-use Rattle.act_handles.specs.declared.handles.Handle.{Handle}
+use Rattle.act_handles.proofs.Common.{arith, refl, ◌+◌, Handle}
 use Rattle.act_handles.proofs.Places.{change_fine, change_is}
 use Rattle.act_handles.proofs.handles.Handles.copy.Goals as goal
 

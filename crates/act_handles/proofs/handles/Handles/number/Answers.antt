@@ -1,13 +1,12 @@
-use Rattle.std.proofs.Common.{arith, ap, refl, ◌+◌}
-use Rattle.act_handles.specs.declared.handles.Handle.{Handle}
-use Rattle.act_handles.specs.Handles.{given_of_all}
+use Rattle.act_handles.proofs.Common.{◌≡◌, arith, ap, refl, rules, ◌+◌, Handle, given_of_all}
 use Rattle.act_handles.proofs.Places.{change_fine, change_is, counted}
 use Rattle.act_handles.proofs.handles.Handles.number.Goals as goal
 
 pub invariant_of-self : goal.invariant_of-self
 invariant_of-self c =
     let handle = c.index_mut-handle.result.now in
-    change_fine c.args.actor c.args.self.now c.self.inside.handles.items c.in_ok-place.place handle _ c.self.view_is c.self.invariant c.in_ok-place.ensures.place c.index_mut-handle.ensures.value refl (omega (arith, c.numbers_given.ensures, ap given_of_all c.self.view_is))
+    let given : c.sum-numbers_given.result ≡ given_of_all c.deref.result.now = search rules in
+    change_fine c.args.actor c.args.self.now c.self.inside.handles.items c.in_ok-place.place handle _ c.self.view_is c.self.invariant c.in_ok-place.ensures.place c.index_mut-handle.ensures.value refl (omega (arith, given, ap given_of_all c.deref.ensures.value))
 
 pub returns-clause-ok : goal.returns-clause-ok
 returns-clause-ok c =

@@ -1,5 +1,4 @@
-use Rattle.std.proofs.Common.{◌∙◌, ap, position}
-use Rattle.act_handles.specs.Handles.{is_of}
+use Rattle.act_handles.proofs.Common.{◌∙◌, ap, position, is_of}
 use Rattle.act_handles.proofs.Places.{place_is}
 use Rattle.act_handles.proofs.handles.Handles.place_of.Goals as goal
 

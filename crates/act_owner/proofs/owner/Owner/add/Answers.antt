@@ -8,8 +8,8 @@ invariant_of-self-3 c =
     let given = c.unwrap-number.ensures in
     submitted_fine c.args.a c.unwrap-number.result c.args.method c.args.args c.is_dead-is_dead.result inside.handles c.number.new.self
     inside.calls.items c.reserve.new.self.items c.push_reserved.new.self.items
-    inside.table.rows c.reserve_one-2.new.self.rows c.enter-k.new.table.rows
+    inside.table.rows c.reserve-2.new.self.rows c.enter-k.new.table.rows
     inside.resolver.calls c.reserve_one.new.self.calls c.enter_call.new.resolver.calls
     c.self.invariant (sym given ∙ c.number.ensures.value) (rw given at c.number.ensures.ok) (rw given at c.number.ensures.counted)
-    c.reserve.ensures.items c.reserve_one-2.ensures.rows c.reserve_one.ensures.calls
+    c.reserve.ensures.items c.reserve-2.ensures.rows c.reserve_one.ensures.calls
     c.push_reserved.ensures.items c.enter-k.ensures.rows c.enter_call.ensures

@@ -22,4 +22,4 @@ invariant_of-self c =
     let size : length after ≡ length (lists ++ [] ∷ []) = c.add_places-missing.ensures.length ∙ ap length c.add_future.ensures.lists in
     let room : k < length c.self.inside.ready = omega (arith, next, ap (λ v. v.spare) c.self.view_is, c.requires.room, c.self.inside.calls.ok.0) in
     let fine = entered_fine rows lists after c.self.inside.ready k c.add_places-missing.result futures c.self.invariant next room is size waits in
-    rw (c.push_reserved.ensures.items, c.new.ensures, c.set.ensures) fine
+    rw (c.push_reserved.ensures.items, c.of.ensures, c.new.ensures, c.set.ensures) fine
