@@ -1,8 +1,6 @@
 -- Who is named by casts, told of their actor specifications.
-use Rattle.std.proofs.Common.{◌≡◌, ℕ, List, [], ◌∷◌, Bool, true, false, map, filter, refl, ap}
-use Rattle.act_types.specs.KindState.{KindState}
+use Rattle.act_actor.proofs.Common.{◌≡◌, ℕ, List, [], ◌∷◌, Bool, true, false, map, filter, refl, ap, KindState, Cast}
 use Rattle.act_rules.specs.History.{ActorSpec, contains}
-use Rattle.act_actor.specs.declared.cast.Cast.{Cast}
 use Rattle.act_actor.specs.Casts.{actor_spec, actors_that_name}
 
 -- the actors whose actor specifications name the caller

@@ -1,9 +1,9 @@
 -- Lists of which no two elements are the same in something.
-use Rattle.std.proofs.Common.{◌≡◌, ◌≢◌, ℕ, ◌+◌, ◌<◌, ◌≤◌, ◌==◌, true, false, List, AllPairs, length, get_or, take, ap, sym, ◌∙◌, true≢false, eq-eqb, arith}
+use Rattle.act_actor.proofs.Common.{◌≡◌, ◌≢◌, ℕ, ◌+◌, ◌<◌, ◌≤◌, ◌==◌, true, false, List, AllPairs, length, get_or, take, ap, sym, ◌∙◌, true≢false, eq-eqb}
+use Rattle.act_actor.proofs.Common.{arith, take_more, take_all, get_or_default, get_or-take}
 use Rattle.std.specs.List.{list_any}
 use Rattle.std.proofs.lemmas.Bool.Decides.{Decides-eqb}
 use Rattle.std.proofs.lemmas.Grind.{common_steps}
-use Rattle.std.proofs.lemmas.List.{take_more, take_all, get_or_default, get_or-take}
 use Rattle.std.proofs.lemmas.List.Folds.{list_any_at, Any-from_list_any}
 use Rattle.std.proofs.lemmas.List.Quantifiers.{all_pairs_push}
 

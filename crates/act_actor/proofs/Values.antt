@@ -1,11 +1,9 @@
 -- What a scan over settled arguments finds.
-use Rattle.std.proofs.Common.{◌≡◌, ℕ, suc, ◌<◌, List, [], ◌∷◌, ◌++◌, Ok, Err, length, get_or, take, drop, map, refl, ap, sym, ◌∙◌, arith}
+use Rattle.act_actor.proofs.Common.{◌≡◌, ℕ, suc, ◌<◌, List, [], ◌∷◌, ◌++◌, Ok, Err, length, get_or, take, drop, map, refl, ap, sym, ◌∙◌, arith, take_all, Good}
+use Rattle.act_actor.proofs.Common.{Bad, values_of}
 use Rattle.std.proofs.Math.Seq.{split_at}
-use Rattle.std.proofs.lemmas.List.{take_all}
 use Rattle.act_types.specs.declared.call.Value.{Value}
 use Rattle.act_types.specs.declared.call.Settled.{Settled}
-use Rattle.act_types.specs.declared.call.Settled.TheVariants.{Good, Bad}
-use Rattle.act_rules.specs.RunList.{values_of}
 
 -- good arguments have their values
 pub values_of-good : (values : List Value) → values_of (map Good values) ≡ Ok values

@@ -271,29 +271,6 @@ impl<K: Actor, L: RunLog> Live<K, L> {
         !self.terminated() && self.inbox.has_next(caller)
     }
 
-    /// Runs the caller's next call. Each growth comes before the kind is asked, and the call leaves
-    /// the inbox after it.
-    fn run_next(&mut self, caller: CallerId) -> Result<Option<Reply>, NoMemory>
-        ensures reply { IfOk result (λ reply.
-            reply ≡ option_map (reply_of_run (live_view K.state self.old)) (next_call self.old.log self.old.inbox caller)) }
-        ensures gap { IfOk result (λ reply. IfNone reply (self.new ≡ self.old)) }
-        ensures ran { OnOk result (IfSome (next_call self.old.log self.old.inbox caller) (λ packet.
-            HasRunCall caller packet (live_view K.state self.old) (live_view K.state self.new))) }
-        ensures memory_last { OnErr result (IsSome (next_call self.old.log self.old.inbox caller)) }
-        ensures err { OnErr result (self.new ≡ self.old) }
-    {
-        if self.terminated() {
-            return Ok(None);
-        }
-        let Some(packet) = self.inbox.peek(caller) else {
-            return Ok(None);
-        };
-        let reply = log_reply(&mut self.log, self.id, &mut self.kind, packet)?;
-        let packet = self.inbox.next(caller).unwrap();
-        self.log.add(item_of(packet));
-        Ok(Some(reply))
-    }
-
     /// Runs the caller's next call, if it came and the actor did not terminate.
     pub fn run(&mut self, caller: CallerId) -> Result<Option<Reply>, NoMemory>
         ensures reply { IfOk result (λ reply.
@@ -311,7 +288,17 @@ impl<K: Actor, L: RunLog> Live<K, L> {
         ensures memory_last { OnErr result (IsSome (next_call self.old.log self.old.inbox caller)) }
         ensures err { OnErr result (self.new ≡ self.old) }
     {
-        self.run_next(caller)
+        if self.terminated() {
+            return Ok(None);
+        }
+        let Some(packet) = self.inbox.peek(caller) else {
+            return Ok(None);
+        };
+        // Each growth comes before the kind is asked, and the call leaves the inbox after it.
+        let reply = log_reply(&mut self.log, self.id, &mut self.kind, packet)?;
+        let packet = self.inbox.next(caller).unwrap();
+        self.log.add(item_of(packet));
+        Ok(Some(reply))
     }
 
     /// Whether no call is held.
@@ -338,8 +325,8 @@ impl<K: Actor, L: RunLog> Live<K, L> {
         requires at_once { RunsAtOnce packet self.old.id self.old.log self.old.inbox }
         ensures reply { IfOk result (λ reply.
             reply ≡ reply_of_run (with_packet packet (live_view K.state self.old)) packet) }
-        ensures ran { OnOk result
-            (HasRunCall packet.caller packet (with_packet packet (live_view K.state self.old)) (live_view K.state self.new)) }
+        ensures ran { OnOk result (HasRunCall packet.caller packet
+            (with_packet packet (live_view K.state self.old)) (live_view K.state self.new)) }
         ensures alone { HoldsNone self.new.inbox }
         ensures err { OnErr result (self.new ≡ self.old) }
     {

@@ -2,7 +2,8 @@
 pub use Rattle.act_inbox.specs.Inbox.{InboxView, IsDrained, IsNextTaken, IsNextToCome, IsOpened, arrival_of, call_arrival, handed_in_all, handed_of, has_come}
 pub use Rattle.act_inbox.specs.Inbox.{is_lane_of, is_listed, is_packet_of, lane_at_first, lane_of, next_of, note_of, waiting_after, waiting_packet, was_handed}
 pub use Rattle.act_inbox.specs.Inbox.{with_held}
-pub use Rattle.act_inbox.specs.View.{IsHeld, IsInbox, key_of}
+pub use Rattle.act_inbox.specs.View.{IsHeld, IsInbox, key_in, key_of, told_key}
+pub use Rattle.act_inbox.specs.contracts.inbox.Inbox.{the_view}
 pub use Rattle.act_inbox.specs.declared.inbox.Lane.{Lane}
 pub use Rattle.act_rules.proofs.Finding.{find-None, find-Some, find-tells, position_or_len-Some}
 pub use Rattle.act_rules.specs.History.{contains}
@@ -12,8 +13,8 @@ pub use Rattle.slab.proofs.DrainLemmas.{length-values}
 pub use Rattle.slab.specs.Slab.{Slab, Updates, get, values}
 pub use Rattle.std.proofs.Common.{All, AllPairs, Bool, Err, IsSome, IsSomeAnd, IsTrue, List, None, Ok, OnErr, OnOk, Option, Result, Some, [], ap, arith, cond}
 pub use Rattle.std.proofs.Common.{count_by, eq-eqb, false, filter_map, find, get_or, if◌then◌else◌, inl, inr, is_err, is_some, length, map, nat_lt, position}
-pub use Rattle.std.proofs.Common.{refl, replicate, set, slice_get, slice_set, subst, suc, sum_by, sym, take, true, zero, ℕ, ◌&&◌, ◌*◌, ◌+◌, ◌<◌, ◌==◌, ◌||◌}
-pub use Rattle.std.proofs.Common.{◌↔◌, ◌∙◌, ◌∷◌, ◌≡◌, ◌≢◌, ◌≤◌}
+pub use Rattle.std.proofs.Common.{refl, replicate, set, slice_get, slice_set, subst, suc, sum_by, sym, take, take_all, true, zero, ℕ, ◌&&◌, ◌*◌, ◌+◌, ◌<◌, ◌==◌}
+pub use Rattle.std.proofs.Common.{◌||◌, ◌↔◌, ◌∙◌, ◌∷◌, ◌≡◌, ◌≢◌, ◌≤◌}
 pub use Rattle.std.proofs.Math.Dec.{eqb}
 pub use Rattle.std.proofs.Math.Seq.{map-set_same}
 pub use Rattle.std.proofs.lemmas.Bool.{cases_eq, eqb-true, le-ltb, lt-ltb, ltb-false, ltb-true}

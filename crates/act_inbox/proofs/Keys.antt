@@ -1,9 +1,8 @@
 -- What the indexes of held calls tell, and how they change.
 use Rattle.act_inbox.proofs.Common.{◌≡◌, ◌≢◌, ℕ, ◌<◌, List, [], length, Option, Some, None, Bool, true, false, ◌==◌, ◌&&◌, if◌then◌else◌, refl, sym, ◌∙◌, ap}
-use Rattle.act_inbox.proofs.Common.{subst, arith, get_or, set, slice_get, inl, inr, find, IsSomeAnd, All, option_and_then}
-use Rattle.act_inbox.proofs.Common.{eqb_tells, nat_tests, cases_eq, slice_get-get_or, slice_get_within, get_or_from_slice_get, Slab, get, values, Updates}
-use Rattle.act_inbox.proofs.Common.{Packet, key_of, IsHeld, is_packet_of}
-use Rattle.act_inbox.specs.View.{key_in}
+use Rattle.act_inbox.proofs.Common.{subst, arith, get_or, set, slice_get, inl, inr, find, IsSomeAnd, All, option_and_then, eqb_tells, nat_tests, cases_eq}
+use Rattle.act_inbox.proofs.Common.{slice_get-get_or, slice_get_within, get_or_from_slice_get, Slab, get, values, Updates, Packet, key_of, IsHeld, is_packet_of}
+use Rattle.act_inbox.proofs.Common.{key_in}
 use Rattle.act_inbox.proofs.Packets.{both_equal, is_call_tells}
 use Rattle.act_inbox.proofs.Slots.{find-slot, find-no_slot, All-filled, slot-All, slice_get-set_same, slice_get-set_other}
 

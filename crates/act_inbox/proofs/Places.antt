@@ -1,9 +1,7 @@
 -- What a table of places tells, once one place changes or more are added.
-use Rattle.act_inbox.proofs.Common.{◌≡◌, ℕ, zero, suc, ◌<◌, ◌≤◌, ◌==◌, List, [], ◌∷◌, length, None, if◌then◌else◌, refl, sym}
-use Rattle.act_inbox.proofs.Common.{set, replicate, inl, inr, eqb_tells, take}
+use Rattle.act_inbox.proofs.Common.{◌≡◌, ℕ, zero, suc, ◌<◌, ◌≤◌, ◌==◌, List, [], ◌∷◌, length, None, if◌then◌else◌, refl, sym, set, replicate, inl, inr}
+use Rattle.act_inbox.proofs.Common.{eqb_tells, take, take_all, key_in, told_key}
 use Rattle.std.specs.Prelude.{◌++◌, ◌-◌}
-use Rattle.std.proofs.Common.{take_all}
-use Rattle.act_inbox.specs.View.{key_in, told_key}
 use Rattle.act_inbox.proofs.Slots.{slice_get-set_same, slice_get-set_other}
 
 zeros : (m count : ℕ) → key_in (replicate m 0) count ≡ None

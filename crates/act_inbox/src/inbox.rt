@@ -38,23 +38,6 @@ impl Model for Inbox {
     ghost invariant = { λ inbox. IsInbox inbox.lanes.items inbox.held };
 }
 
-/// A lane for each caller, with no calls handed out.
-fn lanes_of(alloc: Global, callers: &[CallerId]) -> Result<Vec<Lane>, AllocError>
-    ensures lanes { IfOk result (λ lanes. lanes.items ≡ map lane_at_first callers.now) }
-    ensures valid { OnOk result (All (λ caller. (1 ≤ caller) × (caller ≤ MAX_CALLERS)) callers.now) }
-{
-    let mut lanes = Vec::with_capacity(alloc, callers.len())?;
-    for caller in callers {
-        // Distinct callers are at most `MAX_CALLERS`.
-        prove!(1 <= caller.number() && caller.number() <= MAX_CALLERS);
-        lanes.push(Lane {
-            caller: *caller,
-            handed: 0,
-        })?;
-    }
-    Ok(lanes)
-}
-
 /// The place of the caller's lane.
 fn place_of_lane(lanes: &[Lane], caller: CallerId) -> Option<usize>
     ensures { result ≡ position (is_lane_of caller) lanes.now }
@@ -75,8 +58,17 @@ impl Inbox {
         requires distinct { AllPairs (λ one other. one ≢ other) callers.now }
         ensures { IfOk result (IsOpened callers.now) }
     {
+        let mut lanes = Vec::with_capacity(alloc, callers.len())?;
+        for caller in callers {
+            // Distinct callers are at most `MAX_CALLERS`.
+            prove!(1 <= caller.number() && caller.number() <= MAX_CALLERS);
+            lanes.push(Lane {
+                caller: *caller,
+                handed: 0,
+            })?;
+        }
         Ok(Inbox {
-            lanes: lanes_of(alloc, callers)?,
+            lanes,
             held: HeldCalls::new(alloc)?,
             notes: [None; CALLER_NUMBERS],
         })
@@ -262,26 +254,18 @@ impl Model for HeldCalls {
     ghost invariant = { λ held. IsHeld held.packets held.keys.items };
 }
 
-/// For each caller's number an index with no calls.
-fn no_keys(alloc: Global) -> Result<Vec<Keys>, AllocError>
-    ensures one_each { IfOk result (λ keys. length keys.items ≡ CALLER_NUMBERS) }
-    ensures empty { IfOk result (λ keys. All (λ index. index ≡ []) keys.items) }
-{
-    let mut keys = Vec::with_capacity(alloc, CALLER_NUMBERS)?;
-    for _ in 0..CALLER_NUMBERS {
-        keys.push(Keys::new(alloc))?;
-    }
-    Ok(keys)
-}
-
 impl HeldCalls {
     /// No calls.
     pub(crate) fn new(alloc: Global) -> Result<HeldCalls, AllocError>
         ensures { IfOk result (λ held. held ≡ []) }
     {
+        let mut keys = Vec::with_capacity(alloc, CALLER_NUMBERS)?;
+        for _ in 0..CALLER_NUMBERS {
+            keys.push(Keys::new(alloc))?;
+        }
         Ok(HeldCalls {
             packets: Slab::new(alloc),
-            keys: no_keys(alloc)?,
+            keys,
         })
     }
 

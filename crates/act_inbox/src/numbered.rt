@@ -43,23 +43,8 @@ impl Keys {
         }
     }
 
-    /// Makes a place for the call of this number.
-    #[tactic(auto, using(crate::proofs::Places::key_in_filled))]
-    fn make_place(&mut self, number: u32) -> Result<(), NoMemory>
-        ensures same { (count : ℕ) → key_in self.new count ≡ key_in self.old count }
-        ensures ok { OnOk result (number < length self.new) }
-        ensures err { OnErr result (self.new ≡ self.old) }
-    {
-        let at = number as usize;
-        if at < self.places.len() {
-            return Ok(());
-        }
-        self.places.resize(at + 1, 0)?;
-        Ok(())
-    }
-
     /// Gives the call of this number its key. An `Err` changes nothing.
-    #[tactic(auto, using(crate::proofs::Places::key_in_set))]
+    #[tactic(auto, using(crate::proofs::Places::key_in_filled, crate::proofs::Places::key_in_set))]
     pub(crate) fn insert(&mut self, number: u32, key: usize) -> Result<(), NoMemory>
         ensures updates { OnOk result ((count : ℕ) →
             key_in self.new count ≡ (if number == count then Some key else key_in self.old count)) }
@@ -68,8 +53,11 @@ impl Keys {
         if key >= u32::MAX as usize {
             return Err(NoMemory);
         }
-        self.make_place(number)?;
-        self.places[number as usize] = key as u32 + 1;
+        let at = number as usize;
+        if at >= self.places.len() {
+            self.places.resize(at + 1, 0)?;
+        }
+        self.places[at] = key as u32 + 1;
         Ok(())
     }
 

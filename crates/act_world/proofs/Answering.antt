@@ -5,9 +5,7 @@ use Rattle.act_world.proofs.Common.{list_any-append, ActorDied, Reply, Answered,
 use Rattle.act_world.proofs.Common.{History, calls_of, kept_of, runs_of, opening_of, answer_of, answer_in, is_item_of, first_answer, outcome_of, did_reply}
 use Rattle.act_world.proofs.Common.{did_collect, after, was_sent, answer_alive, held_submission, or_else, kept_of-collected, Collected, First, Late, Stray}
 use Rattle.act_world.proofs.Common.{OwnerView, is_sent, is_to, is_death, is_of_call, collected_reply, after_reply_that, is_death-only, NetworkView}
-use Rattle.act_world.proofs.Common.{told_collected, SlotView, IsOwnerOf, is_death_to, reply_as, Refines}
-use Rattle.act_rules.specs.declared.history.Post.TheVariants.{Reply as ReplyPost}
-use Rattle.act_rules.specs.declared.outcome.Did.TheVariants.{Kept, Late as DidLate}
+use Rattle.act_world.proofs.Common.{told_collected, SlotView, IsOwnerOf, is_death_to, reply_as, Refines, ReplyPost, Kept, DidLate}
 use Rattle.act_world.proofs.Lawful.{IsLawful}
 use Rattle.act_world.proofs.Pending.{kept_long}
 use Rattle.act_world.proofs.Sending.{seen_owner}

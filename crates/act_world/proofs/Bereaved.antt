@@ -3,10 +3,9 @@ use Rattle.act_world.proofs.Common.{◌≡◌, ℕ, Bool, true, false, cond, Lis
 use Rattle.act_world.proofs.Common.{◌==◌, ◌&&◌, zip, count_by, slice_get, slice_set, option_map, unwrap_or, is_some, list_any, enumerate_from, or-true}
 use Rattle.act_world.proofs.Common.{or-false, eq-eqb, eqb_tells, length-map, list_any-append, slice_get-map, ActorDied, Death, Submission, Answer, History}
 use Rattle.act_world.proofs.Common.{calls_of, kept_of, answer_in, first_answer, was_sent, All_at, length-zip_same, eq_turned, or_else, kept_of-collected}
-use Rattle.act_world.proofs.Common.{copies_in, NetworkView, told_collected, SlotView, IsOwnerOf, is_death_to, Refines}
-use Rattle.act_rules.specs.declared.history.Post.TheVariants.{Death as DeathPost}
-use Rattle.act_rules.specs.declared.outcome.Did.TheVariants.{Died as DidDie}
-use Rattle.act_owner.specs.Owner.{OwnerView, is_known_dead as knows_dead, collect_result, with_death, call_waits_for, answer_after_death}
+use Rattle.act_world.proofs.Common.{copies_in, NetworkView, told_collected, SlotView, IsOwnerOf, is_death_to, Refines, DeathPost, DidDie, OwnerView}
+use Rattle.act_world.proofs.Common.{collect_result, with_death, call_waits_for, answer_after_death}
+use Rattle.act_owner.specs.Owner.{is_known_dead as knows_dead}
 use Rattle.act_world.proofs.Lawful.{IsLawful, IsNamedPost}
 use Rattle.act_world.proofs.Pending.{kept_long, unanswered_is}
 use Rattle.act_world.proofs.Seeing.{is_named}

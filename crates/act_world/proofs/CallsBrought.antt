@@ -4,11 +4,9 @@ use Rattle.act_world.proofs.Common.{Option, ◌==◌, ◌||◌, ◌&&◌, slice_
 use Rattle.act_world.proofs.Common.{ltb-true, lt-ltb, and_parts, and_from, slice_get_within, length-enumerate_from, Packet, Submission, Arrival, New, Repeat}
 use Rattle.act_world.proofs.Common.{Stranger, calls_to, History, cast_of, names, calls_of, ran_count, has_letter, length-filter_least, is_packet_of, handed_of}
 use Rattle.act_world.proofs.Common.{waiting_packet, has_come, arrival_of, waiting_after, ActorView, arrival_at, HasTakenPacket, packet_as, packet_by_number}
-use Rattle.act_world.proofs.Common.{held_packet, is_note_of, IsLive}
-use Rattle.act_rules.specs.declared.history.Letter.TheVariants.{Call as CallLetter, Note as NoteLetter}
+use Rattle.act_world.proofs.Common.{held_packet, is_note_of, IsLive, CallLetter, NoteLetter, has_last}
 use Rattle.act_world.proofs.Lawful.{IsLawful}
 use Rattle.act_world.proofs.Mail.{has_other, has_again, brought, held_same}
-use Rattle.act_rules.proofs.Letters.{has_last}
 
 number_small : (h : History) (c a n : ℕ) (call : ℕ × Submission) → IsLawful h → slice_get (calls_to a (calls_of c h)) n ≡ Some call → nat_lt n 65536 ≡ true
 number_small h c a n call lawful at =

@@ -1,10 +1,10 @@
 -- How a world goes on where one of its actors changes, or nothing does.
 use Rattle.act_world.proofs.Common.{◌≡◌, ◌≢◌, ℕ, ◌+◌, ◌<◌, ◌≤◌, ◌++◌, ◌∷◌, [], true, false, List, length, map, arith, length-append, get_or, Some, None, inl}
-use Rattle.act_world.proofs.Common.{inr, refl, ap, sym, ◌∙◌, subst, Option, Result, Ok, Err, OnErr, IfOk, IsErrAnd, IfNone, slice_get, slice_set, option_map}
-use Rattle.act_world.proofs.Common.{eqb_tells, set-get_or, slice_get-map, slice_get-get_or, get_or_from_slice_get, Event, Did, WorldRefusal, ActorSpec, History}
-use Rattle.act_world.proofs.Common.{cast_of, names, is_ended, refusal_of, did, add_event, outcome_of, after, MailEntry, Posted, NetworkView, IsGrown, SlotView}
-use Rattle.act_world.proofs.Common.{Runs, Died, Ended, Vacant, WorldOf, WorldView, is_live_slot, IsStage, Refines}
-use Rattle.act_world.proofs.Lists.{get_set-same, get_set-other}
+use Rattle.act_world.proofs.Common.{inr, refl, ap, sym, ◌∙◌, subst, Option, Result, Ok, Err, OnErr, IfNone, slice_get, slice_set, option_map, eqb_tells}
+use Rattle.act_world.proofs.Common.{set-get_or, slice_get-map, slice_get-get_or, get_or_from_slice_get, Event, Did, WorldRefusal, ActorSpec, History, cast_of}
+use Rattle.act_world.proofs.Common.{names, is_ended, refusal_of, did, add_event, outcome_of, after, MailEntry, Posted, NetworkView, IsGrown, SlotView, Runs}
+use Rattle.act_world.proofs.Common.{Died, Ended, Vacant, WorldOf, WorldView, is_live_slot, IsStage, Refines, Outcome, with_slots}
+use Rattle.act_world.proofs.Lists.{get_set-same, get_set-other, set-same}
 
 -- ---- what is told, and what stands after
 
@@ -18,6 +18,11 @@ pub accepted_follows : (h : History) (event : Event) (told : Did) (world : World
     → (Ok told ≡ outcome_of h event) × Refines (after h event) world
 accepted_follows h event told world accepted same refines = rw accepted (ap Ok same, refines)
 
+-- an event of one actor that is refused leaves the actor's slot as it was
+pub refused_in_slot : (h : History) (event : Event) (refusal : WorldRefusal) (world : WorldView) (a : ℕ) (slot new : SlotView) (told : Outcome) → slice_get world.slots a ≡ Some slot → new ≡ slot
+    → told ≡ Err refusal → refusal_of h event ≡ Some refusal → Refines h world → (told ≡ outcome_of h event) × Refines (after h event) (with_slots (slice_set world.slots a new) world.network)
+refused_in_slot h event refusal world a slot new told at same told_is refused refines = rw (told_is, same, set-same world.slots a slot at) (refused_follows h event refusal world refused refines)
+
 -- what holds holds of an error
 pub on_err : {A E P : Type 0} (result : Result A E) → P → OnErr result P
 on_err (Ok value) holds = tt
@@ -27,11 +32,6 @@ on_err (Err error) holds = holds
 pub on_none : {A P : Type 0} (found : Option A) → P → IfNone found P
 on_none (Some value) holds = tt
 on_none None holds = holds
-
--- an error brings no outcome
-pub no_ok : {A E : Type 0} (result : Result A E) (P : A → Type 0) (Q : E → Type 0) → IsErrAnd result Q → IfOk result P
-no_ok (Ok value) P Q is = absurd is
-no_ok (Err error) P Q is = tt
 
 -- ---- letters and notices
 

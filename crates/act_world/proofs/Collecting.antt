@@ -3,11 +3,10 @@ use Rattle.act_world.proofs.Common.{◌≡◌, ◌≢◌, ℕ, ◌<◌, Bool, tr
 use Rattle.act_world.proofs.Common.{count_by, slice_get, slice_set, position, option_map, option_and_then, is_some, is_none, position-Some, slice_get-get_or}
 use Rattle.act_world.proofs.Common.{on_err_weaker, Notice, Reply, Answered, Death, Collect, RunItem, Post, Answer, NoReply, history, needs, kept_at, History}
 use Rattle.act_world.proofs.Common.{is_caller, runs_of, kept_of, answer_of, Outcome, did_reply, did_collect, outcome_by, outcome_of, after, All_at, IsSoundPost}
-use Rattle.act_world.proofs.Common.{copies_in, Collected, First, Late, Stray, OwnerView, collected_reply, collect_result, after_collect, after_reply_that}
-use Rattle.act_world.proofs.Common.{with_death, call_waits_for, pending, KnowsDeath, Posted, NetworkView, is_owner, IsReplyNotice, told_collected, is_memory}
-use Rattle.act_world.proofs.Common.{IsUnrefusedThere, takes_memory, StepsThere, SlotView, reply_as, reply_at, posted_notice, Refines}
-use Rattle.act_rules.specs.declared.history.Post.TheVariants.{Reply as ReplyPost, Death as DeathPost}
-use Rattle.act_rules.specs.declared.outcome.Did.TheVariants.{Kept as DidKeep, Late as DidLate}
+use Rattle.act_world.proofs.Common.{copies_in, Collected, Late, Stray, OwnerView, collected_reply, collect_result, after_collect, after_reply_that, with_death}
+use Rattle.act_world.proofs.Common.{call_waits_for, pending, KnowsDeath, Posted, NetworkView, is_owner, IsReplyNotice, told_collected, is_memory}
+use Rattle.act_world.proofs.Common.{IsUnrefusedThere, takes_memory, StepsThere, SlotView, reply_as, reply_at, posted_notice, Refines, ReplyPost, DeathPost}
+use Rattle.act_world.proofs.Common.{DidKeep, DidLate, collect_unrefused}
 use Rattle.act_owner.specs.declared.owner.Collected.TheVariants.{Died}
 use Rattle.act_world.proofs.Changes.{refused_follows, grown_none}
 use Rattle.act_world.proofs.Lawful.{IsLawful, IsNamedPost, named_caller, world_lawful}
@@ -19,7 +18,6 @@ use Rattle.act_world.proofs.OneCaller.{put_back}
 use Rattle.act_world.proofs.Bereaved.{death_collects}
 use Rattle.act_world.proofs.Answering.{reply_collects}
 use Rattle.act_world.proofs.Lists.{set-same, none_alike}
-use Rattle.act_rules.proofs.Events.{collect_unrefused}
 
 -- ---- each notice
 

@@ -8,7 +8,8 @@ use Rattle.act_world.proofs.Common.{with_handles, NetworkView, is_owner, SlotVie
 use Rattle.act_world.proofs.Changes.{refused_follows, accepted_follows}
 use Rattle.act_world.proofs.Lawful.{IsLawful}
 use Rattle.act_world.proofs.Frames.{SameCaller, owners_change, mail_stays}
-use Rattle.act_world.proofs.OneCaller.{needs_holds, or_else-Ok, or_else-Err, IsHere, caller_here, callers_tie, sent_stays, times-same, times-other_caller, times-other_actor}
+use Rattle.act_world.proofs.OneCaller.{needs_holds, or_else-Ok, or_else-Err, IsHere, caller_here, callers_tie, sent_stays, times-same, times-other_caller}
+use Rattle.act_world.proofs.OneCaller.{times-other_actor}
 
 -- a copy is refused as the handles say
 copy_refused : (h : History) (c a : ℕ) (owner : OwnerView) (refusal : Option HandleRefusal) → IsHere h c owner → copy_refusal (copies_in a owner.handles) ≡ refusal → refusal_of h (Copy c a) ≡ option_map Handle refusal

@@ -5,10 +5,8 @@ use Rattle.act_world.proofs.Common.{Arrived, ActorEnded, NoMail, history, needs,
 use Rattle.act_world.proofs.Common.{letter_actor, deliver_refusal, refusal_of, did, did_deliver, outcome_of, after, and_also, was_sent, IsSoundLetter}
 use Rattle.act_world.proofs.Common.{IsSoundNote, OwnerView, ActorView, MailEntry, NetworkView, is_owner, entry_actor, Slot, Steps, SlotView, Runs, WorldView}
 use Rattle.act_world.proofs.Common.{slot_view, world_view, with_slots, is_live_slot, HasTakenPacket, HasTakenCall, HasNoted, HasArrived, IsNewCall, IsBrought}
-use Rattle.act_world.proofs.Common.{IsOwnerAt, packet_as, call_key, mail_entry, IsLive, IsStage, Refines, is_memory, FollowsRules, IsUnrefused, is_new_call}
-use Rattle.act_world.proofs.Common.{takes_memory, TakesMemory}
-use Rattle.act_rules.specs.declared.history.Letter.TheVariants.{Call as CallLetter, Note as NoteLetter}
-use Rattle.act_world.specs.declared.network.MailEntry.TheVariants.{Call as CallEntry, Note as NoteEntry}
+use Rattle.act_world.proofs.Common.{IsOwnerAt, packet_as, call_key, mail_entry, IsLive, IsStage, Refines, is_memory, FollowsRules, is_new_call, takes_memory}
+use Rattle.act_world.proofs.Common.{ActorSpec, Event, IsReachedBy, CallLetter, NoteLetter, CallEntry, NoteEntry}
 use Rattle.act_world.proofs.Lawful.{IsLawful, world_lawful, IsNamedLetter}
 use Rattle.act_world.proofs.Frames.{owners_stay}
 use Rattle.act_world.proofs.Making.{made_there}
@@ -98,10 +96,7 @@ deliver_follows h old i m slot new told lawful refines is at went = go slot new 
 
     by_ended : (slot new : SlotView) (told : Outcome) → slice_get old.slots (entry_actor m) ≡ Some slot → is_live_slot slot ≡ false → (new ≡ slot) × (told ≡ Err ActorEnded)
         → (told ≡ outcome_of h (Deliver i)) × Refines (after h (Deliver i)) (record { network = old.network; slots = slice_set old.slots (entry_actor m) new })
-    by_ended slot new told at off went =
-        let ended = deliver_ended h old i m slot lawful refines is at off in
-        let stays : slice_set old.slots (entry_actor m) new ≡ old.slots = ap (slice_set old.slots (entry_actor m)) went.0 ∙ set-same old.slots (entry_actor m) slot at in
-        (went.1 ∙ ended.0, subst (λ (slots : List SlotView). Refines (after h (Deliver i)) (record { network = old.network; slots = slots })) (sym stays) ended.1)
+    by_ended slot new told at off went = rw (went.1, went.0, set-same old.slots (entry_actor m) slot at) (deliver_ended h old i m slot lawful refines is at off)
 
     go : (slot new : SlotView) (told : Outcome) → slice_get old.slots (entry_actor m) ≡ Some slot → IsBrought old.network.owners m slot new told
         → (told ≡ outcome_of h (Deliver i)) × Refines (after h (Deliver i)) (record { network = old.network; slots = slice_set old.slots (entry_actor m) new })
@@ -166,17 +161,16 @@ module _ {S : Type 0} (f : S → SlotView) (network : NetworkView) (slots : List
   at_slot h lawful refines =
       slot_there f slots h (entry_actor letter) x refines.actors (addressed_cast h (record { network = network; slots = map f slots }) i letter lawful refines (sym at)) (subst (λ (b : ℕ). x ≡ get_or slots b x) to is)
 
-  pub new_unrefused : IsNewCall letter (f x) → IsUnrefused (Deliver i) (record { network = network; slots = map f slots })
-  new_unrefused takes casts before refines =
+  -- a call that the actor takes in is refused by nothing, and takes memory
+  pub new_free : IsNewCall letter (f x) → (casts : List ActorSpec) (before : List Event) → IsReachedBy casts before (record { network = network; slots = map f slots })
+      → (refusal_of (history casts before) (Deliver i) ≡ None) × (takes_memory (Deliver i) (history casts before) ≡ true)
+  new_free takes casts before refines =
       let h = history casts before in
       let lawful = world_lawful casts before in
-      deliver_free h (record { network = network; slots = map f slots }) i letter (f x) lawful refines (sym at) (at_slot h lawful refines) (takes_lives letter (f x) takes)
-
-  pub new_takes : IsNewCall letter (f x) → TakesMemory (Deliver i) (record { network = network; slots = map f slots })
-  new_takes takes casts before refines =
-      let h = history casts before in
-      let lawful = world_lawful casts before in
-      deliver_takes h (record { network = network; slots = map f slots }) i letter (f x) lawful refines (sym at) (at_slot h lawful refines) takes
+      let there = at_slot h lawful refines in (
+        deliver_free h (record { network = network; slots = map f slots }) i letter (f x) lawful refines (sym at) there (takes_lives letter (f x) takes),
+        deliver_takes h (record { network = network; slots = map f slots }) i letter (f x) lawful refines (sym at) there takes,
+      )
 
   pub brought_follows : (y : S) (told : Outcome) → IsBrought network.owners letter (f x) (f y) told
       → FollowsRules (Deliver i) (record { network = network; slots = map f slots }) (record { network = network; slots = map f (slice_set slots a y) }) told
@@ -213,4 +207,5 @@ brought_step state network slots i a letter x y (Ok told) at to is went rules ke
 brought_step state network slots i a letter x y (Err error) at to is went rules kept takes err =
     let new = subst (λ (s : _). IsNewCall letter (slot_view state s)) (sym is) takes in
     wanting (world_view state) (Deliver i) (with_slots slots network) _ (Err error) (λ e. Unit {0}) tt (slot_kept network slots a x y err)
-    (new_unrefused (slot_view state) network slots i a letter x at to is new) (new_takes (slot_view state) network slots i a letter x at to is new)
+    (λ casts before refines. (new_free (slot_view state) network slots i a letter x at to is new casts before refines).0)
+    (λ casts before refines. (new_free (slot_view state) network slots i a letter x at to is new casts before refines).1)

@@ -7,9 +7,8 @@ use Rattle.act_world.proofs.Common.{is_caller, calls_of, copies_of, runs_of, ran
 use Rattle.act_world.proofs.Common.{slice_get_front, All_at, Grows, calls_grow, runs_grow, calls_to_grow, not_terminated, IsSoundPost, answer_of_stays}
 use Rattle.act_world.proofs.Common.{IsSoundLetter, kept_extends, has_letter-sound, arguments_stay, kept_of-same, find-Some, find-None, position_or_len-Some}
 use Rattle.act_world.proofs.Common.{limit_of-same, OwnerView, ActorView, MailEntry, Posted, is_owner, SlotView, Runs, Died, Ended, Vacant, IsOwnerOf, IsOwnerAt}
-use Rattle.act_world.proofs.Common.{is_death_to, packet_by_number, mail_entry, reply_as, reply_at, posted_notice, held_packet, IsLive, IsStage}
-use Rattle.act_rules.specs.declared.history.Letter.TheVariants.{Call as CallLetter, Note as NoteLetter}
-use Rattle.act_rules.specs.declared.history.Post.TheVariants.{Reply as ReplyPost, Death as DeathPost}
+use Rattle.act_world.proofs.Common.{is_death_to, packet_by_number, mail_entry, reply_as, reply_at, posted_notice, held_packet, IsLive, IsStage, CallLetter}
+use Rattle.act_world.proofs.Common.{NoteLetter, ReplyPost, DeathPost}
 use Rattle.act_world.proofs.Lawful.{IsLawful}
 
 -- ---- the casts

@@ -1,15 +1,13 @@
 -- A world that stands is consistent.
 use Rattle.act_world.proofs.Common.{◌≡◌, ℕ, ◌<◌, Bool, true, false, List, [], ◌∷◌, ◌++◌, length, map, Some, None, refl, ap, sym, ◌∙◌, subst, arith, Option}
-use Rattle.act_world.proofs.Common.{◌==◌, ◌||◌, find, slice_get, is_some, not, enumerate_from, option_map_or, eq-eqb, eqb-true, or_parts, KindState, Event}
-use Rattle.act_world.proofs.Common.{Submit, Copy, Release, Send, Deliver, Run, Collect, AskKill, TakeKill, Tell, Retire, RunItem, Submission, NoActor, Handle}
-use Rattle.act_world.proofs.Common.{ActorEnded, NoKill, Answer, items_of, has_terminated, needs, Consistent, history, ActorSpec, History, opening, contains}
-use Rattle.act_world.proofs.Common.{cast_of, opening_of, names, is_caller, calls_of, runs_of, ran_count, kept_of, first_answer, has_letter, is_dead, is_retired}
-use Rattle.act_world.proofs.Common.{is_ended, next_item, refusal_of, after_run, IsKept, after_all_keeps, needs-none, has_letter-sound, added_grows, consistent}
-use Rattle.act_world.proofs.Common.{OwnerView, is_owner, SlotView, Runs, Died, Ended, Vacant, WorldView, IsOwnerAt, IsStage, Refines, is_dead_slot, world_calls}
-use Rattle.act_world.proofs.Common.{world_kept, slot_log, world_log, world_died, IsConsistent}
-use Rattle.act_rules.specs.declared.history.Letter.TheVariants.{Call as CallLetter}
+use Rattle.act_world.proofs.Common.{◌==◌, ◌||◌, find, slice_get, is_some, not, enumerate_from, option_map_or, eq-eqb, eqb-true, or_parts, KindState, Event, Run}
+use Rattle.act_world.proofs.Common.{TakeKill, RunItem, Submission, NoActor, Handle, ActorEnded, NoKill, Answer, items_of, has_terminated, needs, Consistent}
+use Rattle.act_world.proofs.Common.{history, ActorSpec, History, opening, contains, cast_of, opening_of, names, is_caller, calls_of, runs_of, ran_count}
+use Rattle.act_world.proofs.Common.{kept_of, first_answer, has_letter, is_dead, is_retired, is_ended, next_item, refusal_of, after_run, IsKept, after_all_keeps}
+use Rattle.act_world.proofs.Common.{needs-none, has_letter-sound, added_grows, consistent, OwnerView, is_owner, SlotView, Runs, Died, Ended, Vacant, WorldView}
+use Rattle.act_world.proofs.Common.{IsOwnerAt, IsStage, Refines, is_dead_slot, world_calls, world_kept, slot_log, world_log, world_died, IsConsistent}
+use Rattle.act_world.proofs.Common.{CallLetter, named_call}
 use Rattle.act_world.proofs.Lawful.{IsLawful, IsNamedLetter, world_lawful, named_caller}
-use Rattle.act_rules.proofs.RanAll.{named_call}
 
 -- ---- the casts stay, and the killed have casts
 

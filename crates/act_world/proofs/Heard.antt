@@ -1,11 +1,10 @@
 -- A history after one of its posts was collected.
 use Rattle.act_world.proofs.Common.{◌≡◌, ◌≢◌, ℕ, Bool, false, List, [], ◌∷◌, ◌++◌, Some, None, refl, ap, sym, ◌∙◌, subst, Ok, Option, ◌==◌, ◌||◌, slice_get}
 use Rattle.act_world.proofs.Common.{slice_set, list_any, or-false, ne_eqb, list_any-append, Collect, Submission, Post, Answer, History, calls_of, kept_of}
-use Rattle.act_world.proofs.Common.{answer_in, first_answer, did, Outcome, outcome_of, did_collect, add_event, after, and_also, was_sent, Grows}
-use Rattle.act_world.proofs.Common.{added_grows, or_else, kept_of-collected, OwnerView, collect_result, after_collect, KnowsDeath, Posted, NetworkView}
-use Rattle.act_world.proofs.Common.{told_collected, SlotView, WorldView, IsOwnerOf, is_death_to, Refines, zero, true, arith, and_parts, eqb-true, Contains}
-use Rattle.act_world.proofs.Common.{collect_unrefused}
-use Rattle.act_rules.specs.declared.history.Post.TheVariants.{Reply as ReplyPost, Death as DeathPost}
+use Rattle.act_world.proofs.Common.{answer_in, first_answer, did, Outcome, outcome_of, did_collect, add_event, after, and_also, was_sent, Grows, added_grows}
+use Rattle.act_world.proofs.Common.{or_else, kept_of-collected, OwnerView, collect_result, after_collect, KnowsDeath, Posted, NetworkView, told_collected}
+use Rattle.act_world.proofs.Common.{SlotView, WorldView, IsOwnerOf, is_death_to, Refines, zero, true, arith, and_parts, eqb-true, Contains, collect_unrefused}
+use Rattle.act_world.proofs.Common.{ReplyPost, DeathPost}
 use Rattle.act_world.proofs.Changes.{accepted_follows}
 use Rattle.act_world.proofs.Lawful.{IsLawful}
 use Rattle.act_world.proofs.Frames.{SameCaller, owners_change, mail_stays, replies_stay, stages_stay}

@@ -1,12 +1,10 @@
 -- An actor that takes a kill.
-use Rattle.act_world.proofs.Common.{◌≡◌, ℕ, ◌<◌, Bool, true, false, List, [], ◌∷◌, ◌++◌, length, map, get_or, Some, None, inl, inr, refl, ap, sym, ◌∙◌, subst}
-use Rattle.act_world.proofs.Common.{Err, ◌==◌, slice_get, slice_set, unwrap_or, or-true, or-false, eq-eqb, or_right, or_left, eqb_tells, map-set}
-use Rattle.act_world.proofs.Common.{list_any-append, TakeKill, NoActor, WorldRefusal, Handle, ActorEnded, NoKill, has_terminated, history, History, contains}
-use Rattle.act_world.proofs.Common.{cast_of, runs_of, is_dead, is_retired, is_ended, Outcome, refusal_of, outcome_of, did, add_event, after, added_grows}
-use Rattle.act_world.proofs.Common.{ActorView, NetworkView, SlotView, Runs, Died, Ended, Vacant, with_slots, take_kill, FollowsRules, IsLive, IsDead, IsStage}
-use Rattle.act_world.proofs.Common.{Refines}
-use Rattle.act_world.proofs.Changes.{refused_follows, accepted_follows, slot_within}
-use Rattle.act_world.proofs.Lists.{get_set-same, get_set-other, set-same}
+use Rattle.act_world.proofs.Common.{◌≡◌, ℕ, ◌<◌, Bool, true, false, List, [], ◌∷◌, ◌++◌, length, map, get_or, Some, refl, ap, sym, ◌∙◌, subst, ◌==◌, slice_get}
+use Rattle.act_world.proofs.Common.{slice_set, unwrap_or, or-true, or-false, eq-eqb, or_right, or_left, map-set, list_any-append, TakeKill, NoActor, Handle}
+use Rattle.act_world.proofs.Common.{ActorEnded, NoKill, has_terminated, history, History, contains, runs_of, is_dead, is_retired, Outcome, outcome_of, did}
+use Rattle.act_world.proofs.Common.{add_event, after, added_grows, ActorView, NetworkView, SlotView, Runs, Died, Ended, Vacant, with_slots, take_kill}
+use Rattle.act_world.proofs.Common.{FollowsRules, IsLive, IsDead, IsStage, Refines, ne_eqb}
+use Rattle.act_world.proofs.Changes.{accepted_follows, refused_in_slot, stages_change, slot_within}
 use Rattle.act_world.proofs.Lawful.{IsLawful, world_lawful}
 use Rattle.act_world.proofs.Frames.{same_caller, owners_stay, mail_stays, replies_stay, stage_stays, dead_same}
 
@@ -37,52 +35,28 @@ dead_ties h network slots a live lawful refines at is =
     let grows = added_grows h (TakeKill a) in
     record {
       owners = owners_stay h g network.owners refl (λ c. same_caller c h g lawful grows refl refl refl refl refl) refines.owners;
-      actors = actors;
+      actors = stages_change h g slots a (Runs live) (Died (record { id = live.id; log = live.log })) refines.actors at (dead_now h a live is)
+          (λ b stage apart was. stage_stays h g b stage lawful grows refl refl (dead_same h g b (contains-other a b h.killed (ne_eqb a b apart)) refl) refl was);
       mail = mail_stays h g network.mail lawful grows refines.mail;
       mail_count = refines.mail_count;
       replies = replies_stay h g network.replies lawful grows refines.replies;
       reply_count = refines.reply_count;
       asked = refines.asked;
     }
-  where
-    dead : SlotView
-    dead = Died (record { id = live.id; log = live.log })
-
-    actors : (b : ℕ) → IsStage (add_event h (TakeKill a)) b (slice_get (slice_set slots a dead) b)
-    actors b = elim (eqb_tells a b) [
-      | inl t ↦ subst (λ (x : ℕ). IsStage (add_event h (TakeKill a)) x (slice_get (slice_set slots a dead) x)) t.1 (subst (IsStage (add_event h (TakeKill a)) a) (sym (get_set-same slots a (Runs live) dead at)) (dead_now h a live is))
-      | inr f ↦ subst (IsStage (add_event h (TakeKill a)) b) (sym (get_set-other slots a b dead f.1)) (stage_stays h (add_event h (TakeKill a)) b (slice_get slots b) lawful (added_grows h (TakeKill a)) refl refl (dead_same h (add_event h (TakeKill a)) b (contains-other a b h.killed f.0) refl) refl (refines.actors b))
-    ]
 
 -- ---- the cases
 
-unchanged : (h : History) (network : NetworkView) (slots : List SlotView) (a : ℕ) (old : SlotView) (refusal : WorldRefusal) → Refines h (record { network = network; slots = slots }) → slice_get slots a ≡ Some old → refusal_of h (TakeKill a) ≡ Some refusal
-    → (Err refusal ≡ outcome_of h (TakeKill a)) × Refines (after h (TakeKill a)) (record { network = network; slots = slice_set slots a old })
-unchanged h network slots a old refusal refines at e = rw (set-same slots a old at) (refused_follows h (TakeKill a) refusal (record { network = network; slots = slots }) e refines)
-
-no_actor : (h : History) (a : ℕ) → cast_of a h ≡ None → refusal_of h (TakeKill a) ≡ Some (Handle NoActor)
-no_actor h a e = rw e refl
-
-has_ended : (h : History) (a : ℕ) (cast : _) → cast_of a h ≡ Some cast → is_ended a h ≡ true → refusal_of h (TakeKill a) ≡ Some ActorEnded
-has_ended h a cast e ended = rw (e, ended) refl
-
-no_kill : (h : History) (a : ℕ) (cast : _) → cast_of a h ≡ Some cast → is_ended a h ≡ false → contains a h.asked ≡ false → refusal_of h (TakeKill a) ≡ Some NoKill
-no_kill h a cast e runs asked = rw (e, runs, asked) refl
-
-is_taken : (h : History) (a : ℕ) (cast : _) → cast_of a h ≡ Some cast → is_ended a h ≡ false → contains a h.asked ≡ true → refusal_of h (TakeKill a) ≡ None
-is_taken h a cast e runs asked = rw (e, runs, asked) refl
-
 by_slot : (h : History) (network : NetworkView) (slots : List SlotView) (a : ℕ) (asked : Bool) (old : SlotView) → IsLawful h → Refines h (record { network = network; slots = slots }) → asked ≡ contains a h.asked → slice_get slots a ≡ Some old → IsStage h a (Some old)
     → ((take_kill asked old).1 ≡ outcome_of h (TakeKill a)) × Refines (after h (TakeKill a)) (record { network = network; slots = slice_set slots a (take_kill asked old).0 })
-by_slot h network slots a true (Runs live) lawful refines asked at is =
-    accepted_follows h (TakeKill a) (did h (TakeKill a)) (record { network = network; slots = slice_set slots a (Died (record { id = live.id; log = live.log })) }) (is_taken h a is.cast is.cast_is is.runs (sym asked)) refl (dead_ties h network slots a live lawful refines at is)
-by_slot h network slots a false (Runs live) lawful refines asked at is = unchanged h network slots a (Runs live) NoKill refines at (no_kill h a is.cast is.cast_is is.runs (sym asked))
-by_slot h network slots a true Vacant lawful refines asked at is = unchanged h network slots a Vacant (Handle NoActor) refines at (no_actor h a is)
-by_slot h network slots a false Vacant lawful refines asked at is = unchanged h network slots a Vacant (Handle NoActor) refines at (no_actor h a is)
-by_slot h network slots a true (Died dead) lawful refines asked at is = unchanged h network slots a (Died dead) ActorEnded refines at (has_ended h a is.cast is.cast_is (or_left (is_dead a h) (is_retired a h) is.died))
-by_slot h network slots a false (Died dead) lawful refines asked at is = unchanged h network slots a (Died dead) ActorEnded refines at (has_ended h a is.cast is.cast_is (or_left (is_dead a h) (is_retired a h) is.died))
-by_slot h network slots a true (Ended retired) lawful refines asked at is = unchanged h network slots a (Ended retired) ActorEnded refines at (has_ended h a is.cast is.cast_is (or_right (is_dead a h) (is_retired a h) is.ended))
-by_slot h network slots a false (Ended retired) lawful refines asked at is = unchanged h network slots a (Ended retired) ActorEnded refines at (has_ended h a is.cast is.cast_is (or_right (is_dead a h) (is_retired a h) is.ended))
+by_slot h network slots a true (Runs live) lawful refines asked at is = accepted_follows h (TakeKill a) (did h (TakeKill a)) (with_slots (slice_set slots a (Died (record { id = live.id; log = live.log }))) network)
+    (rw (is.cast_is, is.runs, ← asked) refl) refl (dead_ties h network slots a live lawful refines at is)
+by_slot h network slots a false (Runs live) lawful refines asked at is =
+    refused_in_slot h (TakeKill a) NoKill (with_slots slots network) a (Runs live) (Runs live) _ at refl refl (rw (is.cast_is, is.runs, ← asked) refl) refines
+by_slot h network slots a on Vacant lawful refines asked at is = refused_in_slot h (TakeKill a) (Handle NoActor) (with_slots slots network) a Vacant Vacant _ at refl refl (rw is refl) refines
+by_slot h network slots a on (Died dead) lawful refines asked at is = refused_in_slot h (TakeKill a) ActorEnded (with_slots slots network) a (Died dead) (Died dead) _ at refl refl
+    (rw (is.cast_is, or_left (is_dead a h) (is_retired a h) is.died) refl) refines
+by_slot h network slots a on (Ended retired) lawful refines asked at is = refused_in_slot h (TakeKill a) ActorEnded (with_slots slots network) a (Ended retired) (Ended retired) _ at refl refl
+    (rw (is.cast_is, or_right (is_dead a h) (is_retired a h) is.ended) refl) refines
 
 -- the slot's change is the definition's
 pub kill_follows : (h : History) (network : NetworkView) (slots : List SlotView) (a : ℕ) (asked : Bool) (old new : SlotView) (told : Outcome) → IsLawful h → Refines h (record { network = network; slots = slots })

@@ -1,56 +1,14 @@
 -- What every history keeps, beside the laws of the rules: what a world may rely on.
-use Rattle.act_world.proofs.Common.{◌≡◌, ℕ, suc, ◌+◌, ◌<◌, ◌≤◌, Bool, true, false, cond, List, [], ◌∷◌, ◌++◌, length, Some, None, inl, inr, refl, ap, sym}
-use Rattle.act_world.proofs.Common.{◌∙◌, subst, arith, length-append, Option, ◌==◌, ◌||◌, find, slice_get, option_map, is_some, nat_lt, nat_le}
-use Rattle.act_world.proofs.Common.{AllByRecursion, list_all, list_any, or-false, eqb-true, ltb-true, or_right, leb_tells, append-nil, list_any-append}
-use Rattle.act_world.proofs.Common.{filter-append, Arg, Method, RunItem, Submission, Letter, Post, Event, Submit, Copy, Release, Send, Deliver, Run, Collect}
-use Rattle.act_world.proofs.Common.{AskKill, TakeKill, Tell, Retire, NoActor, NoHandle, items_of, calls_to, needs, copies_held, submit_refusal, limit_refusal}
-use Rattle.act_world.proofs.Common.{handle_refusal, is_earlier, ActorSpec, History, opening, contains, under, cast_of, names, is_caller, calls_of, copies_of}
-use Rattle.act_world.proofs.Common.{limit_of, runs_of, ran_count, has_letter, is_letter, is_dead, next_item, unanswered, submission_refusal, refusal_of}
-use Rattle.act_world.proofs.Common.{add_event, and_also, after_run, call_letter, is_last, after_all, All_more, All_weaker, option_map-none}
-use Rattle.act_world.proofs.Common.{option_or-none, IsKept, after_all_keeps, needs-none, under-push, run_needs, IsNext, next_item_is}
-use Rattle.act_world.proofs.Common.{Retires, retires_step, AllNamed, world_retires, copies_named, IsSound, sound_step, world_sound}
-use Rattle.act_world.proofs.Common.{has_letter-at, named_call}
-use Rattle.act_rules.specs.declared.history.Letter.TheVariants.{Call as CallLetter, Note as NoteLetter}
-use Rattle.act_rules.specs.declared.history.Post.TheVariants.{Reply as ReplyPost, Death as DeathPost}
-use Rattle.act_rules.specs.declared.outcome.SubmitRefusal.TheVariants.{NoActor as NoSuchActor, NoHandle as NoCopy, TooManyArgs, BadFuture, TooManyCalls}
-use Rattle.act_rules.specs.declared.outcome.WorldRefusal.TheVariants.{Submit as SubmitRefused, NoCaller, Handle, NotDead}
-
--- ---- no caller submits too much
-
-abbrev pub AreFew : History → Type 0
-AreFew h = (c : ℕ) → length (calls_of c h) ≤ 65536
-
-submit_below : (h : History) (c a : ℕ) (method : Method) (args : List Arg) → refusal_of h (Submit c a method args) ≡ None → length (calls_of c h) < 65536
-submit_below h c a method args e =
-    let count = length (calls_of c h) in
-    let copies = copies_of c a h in
-    let whole = option_map-none SubmitRefused (submission_refusal c a args h) (needs-none (is_caller c h) NoCaller (option_map SubmitRefused (submission_refusal c a args h)) e).1 in
-    let none = option_or-none (submit_refusal copies count args) (limit_refusal (limit_of c a h) (unanswered c a h)) whole in
-    let last = needs (nat_lt count 65536) TooManyCalls None in
-    let fourth = needs (list_all (is_earlier count) args) BadFuture last in
-    let third = needs (nat_le (length args) 4) TooManyArgs fourth in
-    let second = needs (nat_lt 0 (copies_held copies)) NoCopy third in
-    let first = needs-none (is_some copies) NoSuchActor second none in
-    let held = needs-none (nat_lt 0 (copies_held copies)) NoCopy third first.1 in
-    let short = needs-none (nat_le (length args) 4) TooManyArgs fourth held.1 in
-    let known = needs-none (list_all (is_earlier count) args) BadFuture last short.1 in
-    ltb-true count 65536 (needs-none (nat_lt count 65536) TooManyCalls None known.1).0
-
-one_more_call : (h : History) (c d : ℕ) (call : Submission) → (d ≡ c → length (calls_of c h) < 65536) → length (calls_of c h) ≤ 65536 → length (under c (h.submitted ++ (d, call) ∷ [])) ≤ 65536
-one_more_call h c d call below few = rw (under-push c d h.submitted call, length-append) (go (d == c) refl)
-  where
-    go : (same : Bool) → (d == c) ≡ same → length (under c h.submitted) + length (cond same (call ∷ []) []) ≤ 65536
-    go true e = let less = below (eqb-true d c e) in omega arith
-    go false e = omega arith
-
-pub few_step : IsKept AreFew
-few_step h (Submit d a method args) few accepted c = one_more_call h c d (record { actor = a; method = method; args = args }) (λ same. subst (λ (x : ℕ). length (calls_of x h) < 65536) same (submit_below h d a method args accepted)) (few c)
-few_step h (Run a d) few accepted c = go (next_item a d h)
-  where
-    go : (o : Option RunItem) → length (calls_of c (after_run a d h o)) ≤ 65536
-    go None = few c
-    go (Some item) = few c
-few_step h other few accepted c = few c
+use Rattle.act_world.proofs.Common.{◌≡◌, ℕ, suc, ◌+◌, ◌<◌, Bool, true, false, cond, List, [], ◌∷◌, ◌++◌, length, Some, None, inl, inr, refl, ap, sym, ◌∙◌}
+use Rattle.act_world.proofs.Common.{subst, arith, length-append, Option, ◌==◌, ◌||◌, slice_get, option_map, is_some, nat_lt, AllByRecursion, or-false, eqb-true}
+use Rattle.act_world.proofs.Common.{leb_tells, append-nil, list_any-append, filter-append, RunItem, Submission, Letter, Post, Event, Release, Send, Deliver}
+use Rattle.act_world.proofs.Common.{Run, Tell, NoActor, NoHandle, items_of, calls_to, needs, copies_held, handle_refusal, ActorSpec, History, opening, under}
+use Rattle.act_world.proofs.Common.{cast_of, names, is_caller, calls_of, copies_of, runs_of, ran_count, has_letter, is_letter, is_dead, next_item, refusal_of}
+use Rattle.act_world.proofs.Common.{add_event, and_also, after_run, call_letter, is_last, after_all, All_more, All_weaker, option_map-none, IsKept}
+use Rattle.act_world.proofs.Common.{after_all_keeps, needs-none, under-push, run_needs, IsNext, next_item_is, Retires, retires_step, AllNamed, world_retires}
+use Rattle.act_world.proofs.Common.{copies_named, IsSound, sound_step, world_sound, has_letter-at, named_call, CallLetter, NoteLetter, ReplyPost, DeathPost}
+use Rattle.act_world.proofs.Common.{NoCaller, Handle, NotDead}
+use Rattle.act_rules.proofs.Callers.{AreFew, few_step, named_among}
 
 -- ---- what arrived was sent, and what ran had arrived
 
@@ -166,15 +124,6 @@ named_step h (Run a c) all named accepted = go (next_item a c h)
     go (Some item) = record { mail = named.mail; posts = All_more (IsNamedPost h) h.posts (ReplyPost c a (length (runs_of a h))) named.posts (run_needs h a c accepted).1 }
 named_step h (Tell a c) all named accepted = record { mail = named.mail; posts = All_more (IsNamedPost h) h.posts (DeathPost c a) named.posts (tell_names h a c accepted) }
 named_step h event all named accepted = record { mail = named.mail; posts = named.posts }
-
-named_here : (c : ℕ) (cast : ActorSpec) (casts : List ActorSpec) (found : Option ActorSpec) (here : Bool) → (names c found ≡ true → list_any (λ (one : ActorSpec). contains c one.callers) casts ≡ true)
-    → names c (cond here (Some cast) found) ≡ true → (contains c cast.callers || list_any (λ (one : ActorSpec). contains c one.callers) casts) ≡ true
-named_here c cast casts found true rest e = rw e refl
-named_here c cast casts found false rest e = or_right (contains c cast.callers) (list_any (λ (one : ActorSpec). contains c one.callers) casts) (rest e)
-
-named_among : (c a : ℕ) (casts : List ActorSpec) → names c (find (λ (cast : ActorSpec). cast.actor == a) casts) ≡ true → list_any (λ (cast : ActorSpec). contains c cast.callers) casts ≡ true
-named_among c a [] e = cc
-named_among c a (cast ∷ casts) e = named_here c cast casts (find (λ (one : ActorSpec). one.actor == a) casts) (cast.actor == a) (named_among c a casts) e
 
 -- who is named by a cast is a caller
 pub named_caller : (c a : ℕ) (h : History) → names c (cast_of a h) ≡ true → is_caller c h ≡ true

@@ -1,10 +1,8 @@
 -- The letters of a history, and one more that arrived.
 use Rattle.act_world.proofs.Common.{◌≡◌, ◌≢◌, ℕ, Bool, true, false, cond, List, [], ◌∷◌, ◌++◌, Some, None, refl, ap, sym, ◌∙◌, subst, Option, ◌||◌, slice_get}
-use Rattle.act_world.proofs.Common.{option_and_then, nat_lt, or-false, Letter, History, cast_of, ran_count, is_letter, has_letter, letter_actor}
-use Rattle.act_world.proofs.Common.{All_at, IsSoundLetter, letter_is, IsSoundNote, MailEntry, entry_actor, SlotView, Runs, Died, Ended, Vacant, WorldView}
-use Rattle.act_world.proofs.Common.{packet_by_number, call_key, mail_entry, held_packet, IsStage, Refines}
-use Rattle.act_rules.specs.declared.history.Letter.TheVariants.{Call as CallLetter, Note as NoteLetter}
-use Rattle.act_world.specs.declared.network.MailEntry.TheVariants.{Call as CallEntry, Note as NoteEntry}
+use Rattle.act_world.proofs.Common.{option_and_then, nat_lt, or-false, Letter, History, cast_of, ran_count, is_letter, has_letter, letter_actor, All_at}
+use Rattle.act_world.proofs.Common.{IsSoundLetter, letter_is, IsSoundNote, MailEntry, entry_actor, SlotView, Runs, Died, Ended, Vacant, WorldView}
+use Rattle.act_world.proofs.Common.{packet_by_number, call_key, mail_entry, held_packet, IsStage, Refines, CallLetter, NoteLetter, CallEntry, NoteEntry}
 use Rattle.act_world.proofs.Lawful.{IsLawful, IsNamedLetter, has_letter-last}
 use Rattle.act_world.proofs.Changes.{named_cast}
 

@@ -1,8 +1,7 @@
 -- What runs next, as the actor and as the history tells.
 use Rattle.act_world.proofs.Common.{◌≡◌, ℕ, Bool, true, false, cond, Some, None, refl, ap, ◌∙◌, arith, Option, slice_get, option_map, le-ltb, Packet}
 use Rattle.act_world.proofs.Common.{Submission, calls_to, History, cast_of, names, calls_of, ran_count, kept_of, has_letter, run_item, next_item, handed_of}
-use Rattle.act_world.proofs.Common.{waiting_packet, next_of, ActorView, item_of, next_call, packet_as, packet_by_number, IsLive}
-use Rattle.act_rules.specs.declared.history.Letter.TheVariants.{Call as CallLetter}
+use Rattle.act_world.proofs.Common.{waiting_packet, next_of, ActorView, item_of, next_call, packet_as, packet_by_number, IsLive, CallLetter}
 use Rattle.act_world.proofs.Frames.{still_lives}
 
 -- the packet of the caller's next call, if its letter came

@@ -1,11 +1,10 @@
 -- An actor that a release note was brought to.
 use Rattle.act_world.proofs.Common.{◌≡◌, ℕ, Bool, true, false, cond, [], ◌∷◌, ◌++◌, Some, None, inl, inr, refl, ap, sym, ◌∙◌, subst, Option, ◌==◌, is_some}
 use Rattle.act_world.proofs.Common.{eqb-true, eq-eqb, eqb_tells, Arrival, New, Repeat, Stranger, History, cast_of, names, has_letter, has_letter-sound}
-use Rattle.act_world.proofs.Common.{IsSoundNote, note_of, note_arrival, note_after, ActorView, note_arrival_at, HasNoted, is_note_of, IsLive}
-use Rattle.act_rules.specs.declared.history.Letter.TheVariants.{Call as CallLetter, Note as NoteLetter}
+use Rattle.act_world.proofs.Common.{IsSoundNote, note_of, note_arrival, note_after, ActorView, note_arrival_at, HasNoted, is_note_of, IsLive, CallLetter}
+use Rattle.act_world.proofs.Common.{NoteLetter, has_last}
 use Rattle.act_world.proofs.Lawful.{IsLawful}
 use Rattle.act_world.proofs.Mail.{has_other, has_again, brought, held_same}
-use Rattle.act_rules.proofs.Letters.{has_last}
 
 -- the actor knows whether the caller's note came
 note_came : (h : History) (c a n : ℕ) (live : ActorView) → IsLawful h → IsLive h a live → names c (cast_of a h) ≡ true → IsSoundNote h (NoteLetter c a n)

@@ -2,8 +2,7 @@
 use Rattle.act_world.proofs.Common.{◌≡◌, ℕ, ◌+◌, ◌<◌, true, List, length, Some, None, ap, sym, ◌∙◌, arith, Option, ◌==◌, filter, take, slice_get, option_map}
 use Rattle.act_world.proofs.Common.{enumerate_from, eq-eqb, slice_get_within, RunItem, Submission, Letter, items_of, calls_to, number_of, History, calls_of}
 use Rattle.act_world.proofs.Common.{runs_of, ran_count, has_letter, was_sent, slice_get-enumerate_from, slice_get-filter, calls_to-number, has_letter-sound}
-use Rattle.act_world.proofs.Common.{rank, held_call, map-slice_get}
-use Rattle.act_rules.specs.declared.history.Letter.TheVariants.{Call as CallLetter}
+use Rattle.act_world.proofs.Common.{rank, held_call, map-slice_get, CallLetter}
 use Rattle.act_world.proofs.Lawful.{IsLawful}
 use Rattle.act_world.proofs.Lists.{filter_rank}
 

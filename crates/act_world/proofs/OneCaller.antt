@@ -4,8 +4,7 @@ use Rattle.act_world.proofs.Common.{get_or, Option, find, position, slice_get, s
 use Rattle.act_world.proofs.Common.{append-nil, Submission, Event, HandleRefusal, WorldRefusal, NoCaller, Handle, history, needs, number_of, handle_refusal}
 use Rattle.act_world.proofs.Common.{History, contains, under, count_pairs, is_caller, calls_of, copies_of, has_letter, refusal_of, outcome_of, after, was_sent}
 use Rattle.act_world.proofs.Common.{Grows, under-push, times-push, copies_in, OwnerView, NetworkView, is_owner, SlotView, Refines, IsOwnerOf, IsOwnerAt}
-use Rattle.act_world.proofs.Common.{mail_entry, StepsThere}
-use Rattle.act_rules.specs.declared.history.Letter.TheVariants.{Call as CallLetter}
+use Rattle.act_world.proofs.Common.{mail_entry, StepsThere, CallLetter}
 use Rattle.act_handles.specs.Handles.{or_else}
 use Rattle.act_world.proofs.Changes.{refused_follows}
 use Rattle.act_world.proofs.Lawful.{IsLawful}

@@ -2,13 +2,10 @@
 use Rattle.act_world.proofs.Common.{◌≡◌, ◌≢◌, ℕ, suc, ◌+◌, ◌<◌, Bool, true, false, List, [], ◌∷◌, ◌++◌, length, map, filter, take, Option, Some, None, is_some}
 use Rattle.act_world.proofs.Common.{All, AllPairs, get_or, inl, inr, refl, ap, sym, ◌∙◌, subst, arith, ◌==◌, ◌||◌, if◌then◌else◌, find, position}
 use Rattle.act_world.proofs.Common.{option_and_then, unwrap_or, slice_get, replicate, option_or, eqb_tells, append-nil, get_or-map, length-map, take_more}
-use Rattle.act_world.proofs.Common.{map-map, flat_map-append, All-tail, All-map, All-filter, find-append, list_any-append, AllPairs-filter, KindState, IsLimit}
-use Rattle.act_world.proofs.Common.{opening, contains, cast_of, names, limit_of, is_caller, copies-opened, given-opened, find-Some, find-None, Cast}
-use Rattle.act_world.proofs.Common.{ActorsDiffer, none_dead, IsOwnerAt, IsOwnerOf, actor_spec, actor_limit, callers_named, actors_that_name, limits_that_name}
-use Rattle.act_world.proofs.Common.{HasOwners}
-use Rattle.std.proofs.lemmas.List.{append_assoc}
-use Rattle.act_owner.specs.Owner.{OwnerView, opened_with, owner_limit as limit_known}
-use Rattle.act_world.specs.View.{is_owner}
+use Rattle.act_world.proofs.Common.{flat_map-append, All-tail, All-map, All-filter, find-append, list_any-append, AllPairs-filter, KindState, IsLimit, opening}
+use Rattle.act_world.proofs.Common.{contains, cast_of, names, is_caller, copies-opened, given-opened, find-Some, find-None, Cast, ActorsDiffer, none_dead}
+use Rattle.act_world.proofs.Common.{IsOwnerAt, IsOwnerOf, actor_spec, actor_limit, callers_named, limits_that_name, HasOwners, append_assoc, or-false, eq-eqb}
+use Rattle.act_world.proofs.Common.{ActorSpec, OwnerView, opened_with, is_owner}
 
 -- ---- the actors of a caller
 
@@ -36,120 +33,57 @@ limits_fit {K} c casts fit =
     some_calls None is same = cc
     some_calls (Some limit) is same = let none : limit ≡ 0 = cc in absurd (omega (arith, is.0))
 
--- without their limits they are the actors whose casts name the caller
-limits_named : {K : Type 0} (c : ℕ) (casts : List (Cast K)) → map (λ (limit : ℕ × Option ℕ). limit.0) (limits_that_name c casts) ≡ actors_that_name c casts
-limits_named {K} c casts = map-map (λ (limit : ℕ × Option ℕ). limit.0) (λ (cast : Cast K). actor_limit cast) (filter (λ cast. contains c cast.callers) casts)
-
 -- ---- a caller more
 
 is_in_more : (c d : ℕ) (callers : List ℕ) → contains d (callers ++ c ∷ []) ≡ (contains d callers || ((c == d) || false))
 is_in_more c d callers = list_any-append (λ m. m == d) callers (c ∷ [])
 
--- one that was there
-pub owner_known : {K : Type 0} (casts : List (Cast K)) (callers : List ℕ) (owners : List OwnerView) (c : ℕ) → is_some (position (is_owner c) owners) ≡ true → HasOwners casts callers owners → HasOwners casts (callers ++ c ∷ []) owners
-owner_known casts callers owners c there has d =
-    elim (eqb_tells c d) [
-      | inl t ↦ subst (λ b. find (is_owner d) owners ≡ (if b then Some (opened_with d (limits_that_name d casts)) else None)) (here (subst (λ x. contains x callers ≡ true) t.1 is_in)) (has d)
-      | inr f ↦ has d ∙ ap (λ b. if b then Some (opened_with d (limits_that_name d casts)) else None) (sym (is_in_more c d callers ∙ ap (λ b. contains d callers || (b || false)) f.0 ∙ or_none (contains d callers)))
-    ]
+seen : (c : ℕ) (owners : List OwnerView) (place : Option ℕ) → position (is_owner c) owners ≡ place → is_some (find (is_owner c) owners) ≡ is_some place
+seen c owners None at = rw (find-None (is_owner c) owners at) refl
+seen c owners (Some i) at = rw (find-Some (is_owner c) owners i (opened_with c []) at) refl
+
+-- a caller has a place where it is one of these
+listed : {K : Type 0} (casts : List (Cast K)) (callers : List ℕ) (owners : List OwnerView) (c : ℕ) → HasOwners casts callers owners → is_some (position (is_owner c) owners) ≡ contains c callers
+listed casts callers owners c has = sym (seen c owners (position (is_owner c) owners) refl) ∙ ap is_some (has c) ∙ there (contains c callers)
   where
-    or_none : (b : Bool) → (b || false) ≡ b
-    or_none true = refl
-    or_none false = refl
+    there : (b : Bool) → is_some (if b then Some (opened_with c (limits_that_name c casts)) else None) ≡ b
+    there true = refl
+    there false = refl
 
-    found : (o : Option ℕ) → position (is_owner c) owners ≡ o → is_some o ≡ true → is_some (find (is_owner c) owners) ≡ true
-    found None e some = cc
-    found (Some i) e some = go owners e
-      where
-        go : (xs : List OwnerView) → position (is_owner c) xs ≡ Some i → is_some (find (is_owner c) xs) ≡ true
-        go [] e = cc
-        go (x ∷ xs) e = rw (find-Some (is_owner c) (x ∷ xs) i x e) refl
-
-    is_in : contains c callers ≡ true
-    is_in = cases (contains c callers) (sym (ap is_some (has c)) ∙ found (position (is_owner c) owners) refl there)
-      where
-        cases : (b : Bool) → is_some (if b then Some (opened_with c (limits_that_name c casts)) else None) ≡ true → b ≡ true
-        cases true e = refl
-        cases false e = cc
-
-    here : contains d callers ≡ true → contains d callers ≡ contains d (callers ++ c ∷ [])
-    here e = e ∙ sym (is_in_more c d callers ∙ ap (λ b. b || ((c == d) || false)) e)
+-- one that was there
+pub owner_known : {K : Type 0} (casts : List (Cast K)) (callers : List ℕ) (owners : List OwnerView) (c : ℕ) → is_some (position (is_owner c) owners) ≡ true
+    → HasOwners casts callers owners → HasOwners casts (callers ++ c ∷ []) owners
+owner_known casts callers owners c there has d =
+    let is_in : contains c callers ≡ true = sym (listed casts callers owners c has) ∙ there in
+    elim (eqb_tells c d) [
+      | inl t ↦ let e : contains d callers ≡ true = subst (λ x. contains x callers ≡ true) t.1 is_in in rw (is_in_more c d callers, e) (rw e at (has d))
+      | inr f ↦ rw (is_in_more c d callers, f.0, or-false (contains d callers)) (has d)
+    ]
 
 -- one that is new
-pub owner_new : {K : Type 0} (casts : List (Cast K)) (callers : List ℕ) (owners : List OwnerView) (c : ℕ) → is_some (position (is_owner c) owners) ≡ false → HasOwners casts callers owners → HasOwners casts (callers ++ c ∷ []) (owners ++ opened_with c (limits_that_name c casts) ∷ [])
+pub owner_new : {K : Type 0} (casts : List (Cast K)) (callers : List ℕ) (owners : List OwnerView) (c : ℕ) → is_some (position (is_owner c) owners) ≡ false
+    → HasOwners casts callers owners → HasOwners casts (callers ++ c ∷ []) (owners ++ opened_with c (limits_that_name c casts) ∷ [])
 owner_new casts callers owners c absent has d =
-    find-append (is_owner d) owners (opened_with c (limits_that_name c casts) ∷ [])
-    ∙ elim (eqb_tells c d) [
+    let one = opened_with c (limits_that_name c casts) in
+    let is_out : contains c callers ≡ false = sym (listed casts callers owners c has) ∙ absent in
+    elim (eqb_tells c d) [
       | inl t ↦
-          ap (λ o. option_or o (find (is_owner d) (opened_with c (limits_that_name c casts) ∷ []))) (subst (λ x. find (is_owner x) owners ≡ None) t.1 none)
-          ∙ ap (λ b. if b then Some (opened_with c (limits_that_name c casts)) else None) t.0
-          ∙ ap (λ x. Some (opened_with x (limits_that_name x casts))) t.1
-          ∙ ap (λ b. if b then Some (opened_with d (limits_that_name d casts)) else None) (sym (is_in_more c d callers ∙ ap (λ b. contains d callers || (b || false)) t.0 ∙ or_some (contains d callers)))
-      | inr f ↦
-          ap (λ b. option_or (find (is_owner d) owners) (if b then Some (opened_with c (limits_that_name c casts)) else None)) f.0
-          ∙ or_nothing (find (is_owner d) owners)
-          ∙ has d
-          ∙ ap (λ b. if b then Some (opened_with d (limits_that_name d casts)) else None) (sym (is_in_more c d callers ∙ ap (λ b. contains d callers || (b || false)) f.0 ∙ or_none (contains d callers)))
+          subst (λ x. find (is_owner x) (owners ++ one ∷ []) ≡ (if contains x (callers ++ c ∷ []) then Some (opened_with x (limits_that_name x casts)) else None)) t.1
+          (rw (find-append (is_owner c) owners (one ∷ []), is_in_more c c callers, has c, is_out, eq-eqb c c refl) refl)
+      | inr f ↦ rw (find-append (is_owner d) owners (one ∷ []), is_in_more c d callers, f.0, or-false (contains d callers), or_nothing (find (is_owner d) owners)) (has d)
     ]
   where
-    or_none : (b : Bool) → (b || false) ≡ b
-    or_none true = refl
-    or_none false = refl
-
-    or_some : (b : Bool) → (b || true) ≡ true
-    or_some true = refl
-    or_some false = refl
-
     or_nothing : (o : Option OwnerView) → option_or o None ≡ o
     or_nothing None = refl
     or_nothing (Some owner) = refl
 
-    none : find (is_owner c) owners ≡ None
-    none = go (position (is_owner c) owners) refl absent
-      where
-        go : (o : Option ℕ) → position (is_owner c) owners ≡ o → is_some o ≡ false → find (is_owner c) owners ≡ None
-        go None e is = find-None (is_owner c) owners e
-        go (Some i) e is = cc
-
 -- ---- the callers of the opening
-
--- an actor that stands in no cast
-absent : {K : Type 0} (a c : ℕ) (casts : List (Cast K)) → All (λ cast. a ≢ cast.actor) casts → contains a (actors_that_name c casts) ≡ false
-absent a c [] all = refl
-absent {K} a c (cast ∷ casts) all =
-    let rest = absent a c casts (All-tail (λ (cast : Cast K). a ≢ cast.actor) cast casts all) in
-    elim (eqb_tells cast.actor a) [
-      | inl t ↦ absurd (all 0 cast (omega arith) (sym t.1))
-      | inr f ↦ elim (contains c cast.callers) as (λ b. contains a (map (λ (cast : Cast K). cast.actor) (if b then cast ∷ filter (λ cast. contains c cast.callers) casts else filter (λ cast. contains c cast.callers) casts)) ≡ false) [
-        | true ↦ rw f.0 rest
-        | false ↦ rest
-      ]
-    ]
 
 pub differ_tail : {K : Type 0} (cast : Cast K) (casts : List (Cast K)) → ActorsDiffer (cast ∷ casts) → ActorsDiffer casts
 differ_tail cast casts differ = λ i j d below within. differ (suc i) (suc j) d (omega arith) (omega arith)
 
 pub differ_head : {K : Type 0} (cast : Cast K) (casts : List (Cast K)) → ActorsDiffer (cast ∷ casts) → All (λ other. cast.actor ≢ other.actor) casts
 differ_head cast casts differ = λ k d within. differ 0 (suc k) d (omega arith) (omega arith)
-
--- an actor stands among those that name a caller where its cast names the caller
-actor_named : {K : Type 0} (state : K → KindState) (a c : ℕ) (casts : List (Cast K)) → ActorsDiffer casts → contains a (actors_that_name c casts) ≡ names c (cast_of a (opening (map (actor_spec state) casts)))
-actor_named state a c [] differ = refl
-actor_named {K} state a c (cast ∷ casts) differ =
-    let rest = actor_named state a c casts (differ_tail cast casts differ) in
-    elim (eqb_tells cast.actor a) [
-      | inl t ↦
-          let none = absent a c casts (λ k d within same. differ_head cast casts differ k d within (t.1 ∙ same)) in
-          rw t.0 (elim (contains c cast.callers) as (λ b. contains a (map (λ (cast : Cast K). cast.actor) (if b then cast ∷ filter (λ cast. contains c cast.callers) casts else filter (λ cast. contains c cast.callers) casts)) ≡ b) [
-            | true ↦ rw t.0 refl
-            | false ↦ none
-          ])
-      | inr f ↦
-          rw f.0 (elim (contains c cast.callers) as (λ b. contains a (map (λ (cast : Cast K). cast.actor) (if b then cast ∷ filter (λ cast. contains c cast.callers) casts else filter (λ cast. contains c cast.callers) casts)) ≡ names c (cast_of a (opening (map (actor_spec state) casts)))) [
-            | true ↦ rw f.0 rest
-            | false ↦ rest
-          ])
-    ]
 
 -- an actor that stands in no cast has no limit
 no_limit : {K : Type 0} (a c : ℕ) (casts : List (Cast K)) → All (λ cast. a ≢ cast.actor) casts → find (λ limit. limit.0 == a) (limits_that_name c casts) ≡ None
@@ -164,24 +98,47 @@ no_limit {K} a c (cast ∷ casts) all =
       ]
     ]
 
--- the limit among those of a caller is that of the actor's cast, where it names the caller
-limit_named : {K : Type 0} (state : K → KindState) (a c : ℕ) (casts : List (Cast K)) → ActorsDiffer casts → limit_known (opened_with c (limits_that_name c casts)) a ≡ limit_of c a (opening (map (actor_spec state) casts))
-limit_named state a c [] differ = refl
-limit_named {K} state a c (cast ∷ casts) differ =
-    let rest = limit_named state a c casts (differ_tail cast casts differ) in
+-- an actor with its limit, where its cast names the caller
+abbrev limit_at : ℕ → Option ActorSpec → Option (ℕ × Option ℕ)
+limit_at c None = None
+limit_at c (Some cast) = if contains c cast.callers then Some (cast.actor, cast.pending) else None
+
+limit_found : {K : Type 0} (state : K → KindState) (a c : ℕ) (casts : List (Cast K)) → ActorsDiffer casts
+    → find (λ limit. limit.0 == a) (limits_that_name c casts) ≡ limit_at c (cast_of a (opening (map (actor_spec state) casts)))
+limit_found state a c [] differ = refl
+limit_found {K} state a c (cast ∷ casts) differ =
+    let others = filter (λ (cast : Cast K). contains c cast.callers) casts in
+    let rest = limit_found state a c casts (differ_tail cast casts differ) in
     elim (eqb_tells cast.actor a) [
       | inl t ↦
           let none = no_limit a c casts (λ k d within same. differ_head cast casts differ k d within (t.1 ∙ same)) in
-          rw t.0 (elim (contains c cast.callers) as (λ b. option_and_then (λ (limit : ℕ × Option ℕ). limit.1) (find (λ (limit : ℕ × Option ℕ). limit.0 == a) (map (λ (cast : Cast K). actor_limit cast) (if b then cast ∷ filter (λ cast. contains c cast.callers) casts else filter (λ cast. contains c cast.callers) casts))) ≡ (if b then cast.pending else None)) [
+          rw t.0 (elim (contains c cast.callers) as (λ b. find (λ (limit : ℕ × Option ℕ). limit.0 == a) (map (λ (cast : Cast K). actor_limit cast) (if b then cast ∷ others else others))
+          ≡ (if b then Some (cast.actor, cast.pending) else None)) [
             | true ↦ rw t.0 refl
-            | false ↦ rw none refl
+            | false ↦ none
           ])
       | inr f ↦
-          rw f.0 (elim (contains c cast.callers) as (λ b. option_and_then (λ (limit : ℕ × Option ℕ). limit.1) (find (λ (limit : ℕ × Option ℕ). limit.0 == a) (map (λ (cast : Cast K). actor_limit cast) (if b then cast ∷ filter (λ cast. contains c cast.callers) casts else filter (λ cast. contains c cast.callers) casts))) ≡ limit_of c a (opening (map (actor_spec state) casts))) [
+          rw f.0 (elim (contains c cast.callers) as (λ b. find (λ (limit : ℕ × Option ℕ). limit.0 == a) (map (λ (cast : Cast K). actor_limit cast) (if b then cast ∷ others else others))
+          ≡ limit_at c (cast_of a (opening (map (actor_spec state) casts)))) [
             | true ↦ rw f.0 rest
             | false ↦ rest
           ])
     ]
+
+is_among : (a : ℕ) (limits : List (ℕ × Option ℕ)) → contains a (map (λ limit. limit.0) limits) ≡ is_some (find (λ limit. limit.0 == a) limits)
+is_among a [] = refl
+is_among a (limit ∷ limits) = elim (eqb_tells limit.0 a) [ inl t ↦ rw t.0 refl | inr f ↦ rw f.0 (is_among a limits) ]
+
+-- an actor stands among those that name a caller, and has its limit there, where its cast names the caller
+limit_tells : (c : ℕ) (cast : Option ActorSpec) → (is_some (limit_at c cast) ≡ names c cast)
+    × (option_and_then (λ limit. limit.1) (limit_at c cast) ≡ (if names c cast then option_and_then (λ cast. cast.pending) cast else None))
+limit_tells c None = (refl, refl)
+limit_tells c (Some cast) = told (contains c cast.callers) (cast.actor, cast.pending)
+  where
+    told : (b : Bool) (limit : ℕ × Option ℕ) → (is_some (if b then Some limit else None) ≡ b)
+        × (option_and_then (λ (one : ℕ × Option ℕ). one.1) (if b then Some limit else None) ≡ (if b then limit.1 else None))
+    told true limit = (refl, refl)
+    told false limit = (refl, refl)
 
 -- the callers that the casts name are the world's
 caller_named : {K : Type 0} (state : K → KindState) (c : ℕ) (casts : List (Cast K)) → contains c (callers_named casts) ≡ is_caller c (opening (map (actor_spec state) casts))
@@ -196,8 +153,9 @@ nothing_asked a = none_dead 9 a
 owner_opened : {K : Type 0} (state : K → KindState) (c : ℕ) (casts : List (Cast K)) → ActorsDiffer casts → IsOwnerOf (opening (map (actor_spec state) casts)) c (opened_with c (limits_that_name c casts))
 owner_opened state c casts differ = record {
   id = refl;
-  copies = λ a. copies-opened a (map (λ (limit : ℕ × Option ℕ). limit.0) (limits_that_name c casts)) ∙ ap (λ b. if b then Some 1 else None) (ap (contains a) (limits_named c casts) ∙ actor_named state a c casts differ);
-  limits = λ a. limit_named state a c casts differ;
+  copies = λ a. copies-opened a (map (λ (limit : ℕ × Option ℕ). limit.0) (limits_that_name c casts))
+      ∙ ap (λ b. if b then Some 1 else None) (is_among a (limits_that_name c casts) ∙ ap is_some (limit_found state a c casts differ) ∙ (limit_tells c _).0);
+  limits = λ a. ap (option_and_then (λ (limit : ℕ × Option ℕ). limit.1)) (limit_found state a c casts differ) ∙ (limit_tells c _).1;
   given = λ a. given-opened a (map (λ (limit : ℕ × Option ℕ). limit.0) (limits_that_name c casts));
   calls = refl;
   marks = refl;

@@ -3,22 +3,13 @@ use Rattle.act_world.proofs.Common.{◌≡◌, ℕ, ◌+◌, ◌<◌, ◌≤◌,
 use Rattle.act_world.proofs.Common.{IfSome, slice_get-get_or, take_more, Event, ActorSpec, History, opening, history, Outcome, after, after_all, outcome_of}
 use Rattle.act_world.proofs.Common.{outcomes, after_all-append, outcomes-append, NetworkView, WorldView, Refines, IsReachedBy, FollowsRules, IsUnrefused}
 use Rattle.act_world.proofs.Common.{IsUnrefusedAt, HasPlayed, IsGrownBy, TakesMemory, TakesMemoryAt}
-use Rattle.std.proofs.Common.{append-nil}
 
 -- the world stands after one event more
 pub stands_next : (casts : List ActorSpec) (before : List Event) (event : Event) (world : WorldView) → Refines (after (history casts before) event) world → IsReachedBy casts (before ++ event ∷ []) world
 stands_next casts before event world refines = subst (λ (h : History). Refines h world) (sym (after_all-append (opening casts) before (event ∷ []))) refines
 
--- each event adds one letter or notice at most
-pub grown_start : (events : List Event) (network : NetworkView) → IsGrownBy (length events) network network
-grown_start events network = omega arith
-
 pub grown_within : (events : List Event) (i : ℕ) (old new : NetworkView) → i ≤ length events → IsGrownBy i old new → IsGrownBy (length events) old new
 grown_within events i old new within grown = omega arith
-
--- no event yet
-pub Played_none : (world : WorldView) (told : List Outcome) → HasPlayed [] world world told told
-Played_none world told casts before reached = (subst (λ (l : List Event). IsReachedBy casts l world) (sym (append-nil before)) reached, sym (append-nil told))
 
 -- what is told of one event more
 pub Played_next : (events : List Event) (i : ℕ) (d : Event) (old mid new : WorldView) (told told_mid told_new : List Outcome) (outcome : Outcome) → i < length events

@@ -4,8 +4,7 @@ use Rattle.act_world.proofs.Common.{arith, length-append, Option, ◌==◌, ◌|
 use Rattle.act_world.proofs.Common.{KindState, Packet, RunItem, after_item, state_after, items_of, has_terminated, History, contains, cast_of, names, runs_of}
 use Rattle.act_world.proofs.Common.{ran_count, is_ended, is_retired, has_letter, after_run, after_run_grows, under-push, ended_by, IsSoundLetter}
 use Rattle.act_world.proofs.Common.{has_letter-sound, state_after-push, handed_of, waiting_packet, ActorView, item_of, HasRunCall, Runs, dead_slot, bury_ended}
-use Rattle.act_world.proofs.Common.{packet_by_number, held_packet, is_note_of, IsLive, IsDead, IsStage}
-use Rattle.act_rules.specs.declared.history.Letter.TheVariants.{Call as CallLetter}
+use Rattle.act_world.proofs.Common.{packet_by_number, held_packet, is_note_of, IsLive, IsDead, IsStage, CallLetter}
 use Rattle.act_world.proofs.Lawful.{IsLawful}
 use Rattle.act_world.proofs.Frames.{packet_stays}
 

@@ -5,13 +5,13 @@ use Rattle.act_world.proofs.Common.{or-false, eq-eqb, eqb_tells, get_or-set_same
 use Rattle.act_world.proofs.Common.{Handle, calls_to, copies_held, handle_refusal, History, count_pairs, cast_of, names, calls_of, copies_of, has_letter}
 use Rattle.act_world.proofs.Common.{refusal_of, outcome_of, did, add_event, after, and_also, is_last, added_grows, kept_of-same, copies_in, given_in}
 use Rattle.act_world.proofs.Common.{without_copy, copies-without_copy, copies-without_copy-other, given-without_copy, OwnerView, with_handles, release_note}
-use Rattle.act_world.proofs.Common.{release_told, MailEntry, NetworkView, is_owner, SlotView, Refines, IsOwnerOf, mail_entry, takes_memory}
-use Rattle.act_rules.specs.declared.history.Letter.TheVariants.{Call as CallLetter, Note as NoteLetter}
-use Rattle.act_world.specs.declared.network.MailEntry.TheVariants.{Note as NoteEntry}
+use Rattle.act_world.proofs.Common.{release_told, MailEntry, NetworkView, is_owner, SlotView, Refines, IsOwnerOf, mail_entry, takes_memory, CallLetter}
+use Rattle.act_world.proofs.Common.{NoteLetter, NoteEntry}
 use Rattle.act_world.proofs.Changes.{refused_follows, accepted_follows}
 use Rattle.act_world.proofs.Lawful.{IsLawful, has_letter-last}
 use Rattle.act_world.proofs.Frames.{SameCaller, owners_change, mail_stays, go_together}
-use Rattle.act_world.proofs.OneCaller.{or_else-Ok, or_else-Err, caller_here, handle_refused, callers_tie, sent_stays, times-same, times-other_caller, times-other_actor}
+use Rattle.act_world.proofs.OneCaller.{or_else-Ok, or_else-Err, caller_here, handle_refused, callers_tie, sent_stays, times-same, times-other_caller}
+use Rattle.act_world.proofs.OneCaller.{times-other_actor}
 
 -- ---- what the caller tells
 

@@ -1,8 +1,7 @@
 -- The reply of a call that ran.
 use Rattle.act_world.proofs.Common.{◌≡◌, ℕ, List, length, Some, ap, sym, ◌∙◌, Option, slice_get, option_map, option_and_then, KindState, Packet, Reply}
 use Rattle.act_world.proofs.Common.{Answered, RunItem, Answer, after_item, answer_at, state_after, ActorSpec, History, runs_of, answer_of, slice_get_last}
-use Rattle.act_world.proofs.Common.{answer_at-push, ActorView, item_of, reply_of_run, Posted, reply_as, reply_at, posted_notice, IsLive}
-use Rattle.act_rules.specs.declared.history.Post.TheVariants.{Reply as ReplyPost}
+use Rattle.act_world.proofs.Common.{answer_at-push, ActorView, item_of, reply_of_run, Posted, reply_as, reply_at, posted_notice, IsLive, ReplyPost}
 use Rattle.act_world.proofs.RanOn.{ran_on, runs_here}
 
 -- what the reply tells stands in the history after the run

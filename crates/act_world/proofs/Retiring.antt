@@ -1,16 +1,15 @@
 -- An actor that ends by itself.
-use Rattle.act_world.proofs.Common.{◌≡◌, ◌≢◌, ℕ, ◌<◌, Bool, true, false, List, [], ◌∷◌, ◌++◌, length, map, get_or, Some, None, refl, ap, sym, ◌∙◌, subst}
-use Rattle.act_world.proofs.Common.{Option, Ok, Err, ◌==◌, ◌||◌, not, slice_get, slice_set, is_some, list_all, or-false, eqb-true, eq-eqb, ne_eqb, and_parts}
-use Rattle.act_world.proofs.Common.{or_parts, map-set, list_any-append, Retire, Retired, NoActor, WorldRefusal, Handle, ActorEnded}
-use Rattle.act_world.proofs.Common.{NotDrained, history, needs, History, contains, cast_of, callers_in, names, ran_count, is_ended, is_dead, is_retired}
-use Rattle.act_world.proofs.Common.{is_done, is_drained, Outcome, refusal_of, outcome_of, after, Grows, added_grows, handed_of, note_of, IsDrained, ActorView}
-use Rattle.act_world.proofs.Common.{RetiredView, MayRetire, NetworkView, SlotView, Runs, Died, Ended, Vacant, WorldView, with_slots, IsRetiredIn, is_note_of}
-use Rattle.act_world.proofs.Common.{IsLive, IsRetired, IsStage, Refines, FollowsRules, all_from_each}
+use Rattle.act_world.proofs.Common.{◌≡◌, ℕ, ◌<◌, Bool, true, false, List, [], ◌∷◌, ◌++◌, length, map, get_or, Some, None, refl, ap, sym, ◌∙◌, subst, Option, Ok}
+use Rattle.act_world.proofs.Common.{Err, ◌==◌, ◌||◌, not, slice_get, slice_set, is_some, list_all, eqb-true, eq-eqb, ne_eqb, and_parts, or_parts, map-set}
+use Rattle.act_world.proofs.Common.{Retire, Retired, NoActor, WorldRefusal, Handle, ActorEnded, NotDrained, history, needs, History, contains, cast_of}
+use Rattle.act_world.proofs.Common.{callers_in, names, ran_count, is_ended, is_dead, is_retired, is_done, is_drained, Outcome, refusal_of, outcome_of, after}
+use Rattle.act_world.proofs.Common.{Grows, added_grows, handed_of, note_of, IsDrained, ActorView, RetiredView, MayRetire, NetworkView, SlotView, Runs, Died}
+use Rattle.act_world.proofs.Common.{Ended, Vacant, WorldView, with_slots, IsRetiredIn, is_note_of, IsLive, IsRetired, IsStage, Refines, FollowsRules}
+use Rattle.act_world.proofs.Common.{all_from_each}
 use Rattle.act_world.proofs.Lawful.{IsLawful, world_lawful}
 use Rattle.act_world.proofs.Frames.{same_caller, owners_stay, still_lives, stage_stays}
-use Rattle.act_world.proofs.Changes.{refused_follows, accepted_follows, stages_change, slot_within}
-use Rattle.act_world.proofs.Lists.{set-same}
-use Rattle.act_world.proofs.Killing.{contains-last}
+use Rattle.act_world.proofs.Changes.{accepted_follows, refused_in_slot, stages_change, slot_within}
+use Rattle.act_world.proofs.Killing.{contains-last, contains-other}
 
 -- ---- drained, as the actor and as the history tells
 
@@ -59,12 +58,6 @@ retire_refusal h a known ended drained e f g =
 abbrev without : History → ℕ → History
 without h a = record h { retired = h.retired ++ a ∷ [] }
 
-retired_other : (a b : ℕ) (retired : List ℕ) → a ≢ b → contains b (retired ++ a ∷ []) ≡ contains b retired
-retired_other a b retired apart =
-    list_any-append (λ m. m == b) retired (a ∷ [])
-    ∙ ap (λ (x : Bool). contains b retired || (x || false)) (ne_eqb a b apart)
-    ∙ or-false (contains b retired)
-
 live_retired : (h : History) (a : ℕ) (live : ActorView) (retired : RetiredView) → IsLive h a live → retired ≡ record { id = live.id; log = live.log; state = live.state } → IsRetired (without h a) a retired
 live_retired h a live retired is same = record {
   cast = is.cast;
@@ -80,7 +73,7 @@ retired_ties : (h : History) (a : ℕ) (old : WorldView) (slot new : SlotView) �
     → Refines (without h a) (record { network = old.network; slots = slice_set old.slots a new })
 retired_ties h a old slot new lawful refines at is = record {
   owners = owners_stay h (without h a) old.network.owners refl (λ c. same_caller c h (without h a) lawful grows refl refl refl refl refl) refines.owners;
-  actors = stages_change h (without h a) old.slots a slot new refines.actors at is (λ b stage apart was. stage_stays h (without h a) b stage lawful grows refl refl refl (retired_other a b h.retired apart) was);
+  actors = stages_change h (without h a) old.slots a slot new refines.actors at is (λ b stage apart was. stage_stays h (without h a) b stage lawful grows refl refl refl (contains-other a b h.retired (ne_eqb a b apart)) was);
   mail = refines.mail;
   mail_count = refines.mail_count;
   replies = refines.replies;
@@ -97,14 +90,6 @@ pub retire_follows : (h : History) (old : WorldView) (a : ℕ) (slot new : SlotV
     → (told ≡ outcome_of h (Retire a)) × Refines (after h (Retire a)) (record { network = old.network; slots = slice_set old.slots a new })
 retire_follows h old a slot new told lawful refines at went = go slot new told at (subst (IsStage h a) at (refines.actors a)) went
   where
-    -- the actor is as it was
-    stays : (slot new : SlotView) (told : Outcome) (refusal : WorldRefusal) → slice_get old.slots a ≡ Some slot → new ≡ slot → told ≡ Err refusal → refusal_of h (Retire a) ≡ Some refusal
-        → (told ≡ outcome_of h (Retire a)) × Refines (after h (Retire a)) (record { network = old.network; slots = slice_set old.slots a new })
-    stays slot new told refusal at same told_is e =
-        let left = refused_follows h (Retire a) refusal old e refines in
-        let as_it_was : slice_set old.slots a new ≡ old.slots = ap (slice_set old.slots a) same ∙ set-same old.slots a slot at in
-        (told_is ∙ left.0, subst (λ (slots : List SlotView). Refines (after h (Retire a)) (record { network = old.network; slots = slots })) (sym as_it_was) left.1)
-
     undrained : (b : Bool) → is_drained a h ≡ b → (is_drained a h ≡ true → ⊥) → b ≡ false
     undrained true e never = absurd (never e)
     undrained false e never = refl
@@ -120,17 +105,18 @@ retire_follows h old a slot new told lawful refines at went = go slot new told a
         → (told ≡ outcome_of h (Retire a)) × Refines (after h (Retire a)) (record { network = old.network; slots = slice_set old.slots a new })
     by_undrained live new told at is never same told_is =
         let left : is_drained a h ≡ false = undrained (is_drained a h) refl (λ e. never (record { lives = still_lives h a live is; drained = drained_here h a live is e })) in
-        stays (Runs live) new told NotDrained at same told_is (retire_refusal h a true false false (ap is_some is.cast_is) is.runs left)
+        refused_in_slot h (Retire a) NotDrained old a (Runs live) new told at same told_is (retire_refusal h a true false false (ap is_some is.cast_is) is.runs left) refines
 
     go : (slot new : SlotView) (told : Outcome) → slice_get old.slots a ≡ Some slot → IsStage h a (Some slot) → IsRetiredIn slot new told
         → (told ≡ outcome_of h (Retire a)) × Refines (after h (Retire a)) (record { network = old.network; slots = slice_set old.slots a new })
     go (Runs live) (Ended retired) (Ok Retired) at is went = by_drained live retired at is went.0 went.1
     go (Runs live) next told at is went = by_undrained live next told at is went.0 went.1 went.2
-    go Vacant next told at is went = stays Vacant next told (Handle NoActor) at went.0 went.1 (retire_refusal h a false (is_ended a h) (is_drained a h) (ap is_some is) refl refl)
-    go (Died dead) next told at is went = stays (Died dead) next told ActorEnded at went.0 went.1
-        (retire_refusal h a true true (is_drained a h) (ap is_some is.cast_is) (rw is.died refl) refl)
-    go (Ended retired) next told at is went = stays (Ended retired) next told ActorEnded at went.0 went.1
-        (retire_refusal h a true true (is_drained a h) (ap is_some is.cast_is) (rw (is.lived, is.ended) refl) refl)
+    go Vacant next told at is went = refused_in_slot h (Retire a) (Handle NoActor) old a Vacant next told at went.0 went.1
+        (retire_refusal h a false (is_ended a h) (is_drained a h) (ap is_some is) refl refl) refines
+    go (Died dead) next told at is went = refused_in_slot h (Retire a) ActorEnded old a (Died dead) next told at went.0 went.1
+        (retire_refusal h a true true (is_drained a h) (ap is_some is.cast_is) (rw is.died refl) refl) refines
+    go (Ended retired) next told at is went = refused_in_slot h (Retire a) ActorEnded old a (Ended retired) next told at went.0 went.1
+        (retire_refusal h a true true (is_drained a h) (ap is_some is.cast_is) (rw (is.lived, is.ended) refl) refl) refines
 
 -- the same of what is seen of slots
 pub retire_view : {S : Type 0} (f : S → SlotView) (network : NetworkView) (slots : List S) (a p : ℕ) (x y : S) (told : Outcome) → p ≡ a → p < length slots → x ≡ get_or slots p x → IsRetiredIn (f (get_or slots p x)) (f y) told

@@ -1,21 +1,22 @@
 -- A call that is run.
 use Rattle.act_world.proofs.Common.{◌≡◌, ℕ, ◌+◌, ◌<◌, Bool, true, false, List, [], ◌∷◌, ◌++◌, length, map, get_or, Some, None, refl, ap, sym, ◌∙◌, subst}
-use Rattle.act_world.proofs.Common.{length-append, Option, Result, Ok, Err, IfNone, IfSome, IsSome, find, not, slice_get, slice_set, option_map, is_some}
-use Rattle.act_world.proofs.Common.{get_or_from_slice_get, map-set, KindState, Packet, Reply, Answered, RunItem, Run, Ran, Gap, NoActor, WorldRefusal, NoCaller}
-use Rattle.act_world.proofs.Common.{Handle, ActorEnded, history, needs, History, cast_of, names, is_caller, runs_of, is_ended, next_item, refusal_of, did}
-use Rattle.act_world.proofs.Common.{did_run, add_event, after_run, outcome_of, after, Grows, after_run_grows, ActorView, LiveView, live_view, item_of}
-use Rattle.act_world.proofs.Common.{reply_of_run, next_call, HasRunCall, Posted, NetworkView, is_owner, naming_refusal, Slot, SlotView, Runs, Vacant, WorldView}
-use Rattle.act_world.proofs.Common.{slot_view, is_live_slot, has_next_in_slot, bury_ended, HasRunNext, HasRunIn, IsRun, IsRunAt, posted_notice, IsLive, IsStage}
-use Rattle.act_world.proofs.Common.{Refines, FollowsRules, IsUnrefused, TakesMemory}
-use Rattle.act_rules.specs.declared.history.Post.TheVariants.{Reply as ReplyPost}
+use Rattle.act_world.proofs.Common.{length-append, Option, Result, Ok, Err, IfSome, find, not, slice_get, slice_set, option_map, is_some, map-set, KindState}
+use Rattle.act_world.proofs.Common.{Packet, Reply, Answered, RunItem, Run, Ran, Gap, NoActor, WorldRefusal, NoCaller, Handle, ActorEnded, history, needs}
+use Rattle.act_world.proofs.Common.{History, cast_of, names, is_caller, runs_of, is_ended, next_item, refusal_of, did, did_run, add_event, after_run}
+use Rattle.act_world.proofs.Common.{outcome_of, after, Grows, after_run_grows, ActorView, item_of, reply_of_run, next_call, HasRunCall, Posted, NetworkView}
+use Rattle.act_world.proofs.Common.{is_owner, naming_refusal, Slot, SlotView, Runs, WorldView, slot_view, world_view, with_slots, has_next_in_slot, bury_ended}
+use Rattle.act_world.proofs.Common.{HasRunNext, IsRun, posted_notice, IsLive, IsStage, Steps, is_memory, IsGrown, NoMemory, Outcome, OnErr, IfOk, on_err_weaker}
+use Rattle.act_world.proofs.Common.{slice_get-map, slice_get-get_or, Refines, FollowsRules, ReplyPost}
 use Rattle.act_world.proofs.Lawful.{IsLawful, world_lawful}
 use Rattle.act_world.proofs.Frames.{same_caller, owners_stay, mail_stays, replies_stay, go_together, stage_stays, dead_same}
 use Rattle.act_world.proofs.Seeing.{refused, known}
-use Rattle.act_world.proofs.Changes.{refused_follows, accepted_follows, stages_change, has_ended, not_ended, named_cast, slot_within}
+use Rattle.act_world.proofs.Changes.{refused_follows, accepted_follows, refused_in_slot, stages_change, has_ended, named_cast, slot_kept, grown_none}
+use Rattle.act_world.proofs.Changes.{grown_reply}
 use Rattle.act_world.proofs.NextCall.{next_is, item_is}
 use Rattle.act_world.proofs.RanOn.{ran_on, runs_other, slot_ran}
 use Rattle.act_world.proofs.Replying.{reply_posted}
-use Rattle.act_world.proofs.Lists.{get_set-same}
+use Rattle.act_world.proofs.Lists.{set-same}
+use Rattle.act_world.proofs.Stepping.{wanting}
 
 -- ---- what refuses it
 
@@ -92,47 +93,11 @@ no_next h old a c live refines caller named is none =
     accepted_follows h (Run a c) Gap old (run_refusal h a c true true false caller named is.runs) (ap (did_run a h) (sym item))
     (subst (λ (o : Option RunItem). Refines (after_run a c h o) old) (sym item) refines)
 
--- ---- the same of what is seen of slots
-
--- the actor in its slot
-pub ran_here : {K : Type 0} (state : K → KindState) (c : ℕ) (old new : LiveView K) (slot : Slot K) (reply : Option Reply) → reply ≡ option_map (reply_of_run (live_view state old)) (next_call old.log old.inbox c) → IfNone reply (new ≡ old)
-    → IfSome (next_call old.log old.inbox c) (λ packet. HasRunCall c packet (live_view state old) (live_view state new)) → slot_view state slot ≡ bury_ended (Runs (live_view state new)) → HasRunIn c reply (live_view state old) (slot_view state slot)
-ran_here state c old new slot reply reply_is gap ran slot_is = record { new = live_view state new; next = record { reply_is = reply_is; gap = go reply gap; ran = ran }; slot_is = slot_is }
-  where
-    go : (o : Option Reply) → IfNone o (new ≡ old) → IfNone o (live_view state new ≡ live_view state old)
-    go None same = ap (live_view state) same
-    go (Some told) same = tt
-
-pub ran_there : {S : Type 0} (f : S → SlotView) (slots : List S) (c a : ℕ) (x y : S) (told : Result (Option Reply) WorldRefusal) → a < length slots → x ≡ get_or slots a x → IsRun c (f x) (f y) told
-    → IsRunAt c a (map f slots) (map f (slice_set slots a y)) told
-ran_there f slots c a x y told within is went = record {
-  ran = rw (old_is, new_is) went;
-  others = map-set f slots a y ∙ ap (slice_set (map f slots) a) (sym new_is);
-}
-  where
-    here : slice_get (map f slots) a ≡ Some (f x)
-    here = slot_within f slots a x within is
-
-    old_is : get_or (map f slots) a Vacant ≡ f x
-    old_is = get_or_from_slice_get (map f slots) a (f x) Vacant here
-
-    new_is : get_or (map f (slice_set slots a y)) a Vacant ≡ f y
-    new_is = ap (λ (seen : List SlotView). get_or seen a Vacant) (map-set f slots a y)
-        ∙ get_or_from_slice_get (slice_set (map f slots) a (f y)) a (f y) Vacant (get_set-same (map f slots) a (f x) (f y) here)
-
 -- ---- whether the next call has come
-
-none_came : (o : Option Packet) → is_some o ≡ false → o ≡ None
-none_came None e = refl
-none_came (Some packet) e = cc
 
 item_came : (o : Option Packet) → is_some o ≡ true → is_some (option_map item_of o) ≡ true
 item_came None e = cc
 item_came (Some packet) e = refl
-
-replied : (told : Packet → Reply) (o : Option Packet) (reply : Option Reply) → is_some o ≡ true → reply ≡ option_map told o → IsSome reply
-replied told None reply some e = cc
-replied told (Some packet) reply some e = subst IsSome (sym e) refl
 
 -- ---- the event as the world sees it
 
@@ -142,82 +107,76 @@ run_refused network slots a c refusal refuses casts before refines =
     let h = history casts before in
     refused_follows h (Run a c) refusal (record { network = network; slots = slots }) (refused h network.owners c a refines.owners refusal (needs (not (is_ended a h)) ActorEnded None) refuses) refines
 
-module _ (network : NetworkView) (slots : List SlotView) (a c : ℕ) (slot : SlotView) (there : slice_get slots a ≡ Some slot) (free : naming_refusal (find (is_owner c) network.owners) a ≡ None) where
-  pub run_ended : is_live_slot slot ≡ false → FollowsRules (Run a c) (record { network = network; slots = slots }) (record { network = network; slots = slots }) (Err ActorEnded)
-  run_ended off casts before refines =
-      let h = history casts before in
+module _ (network : NetworkView) (slots : List SlotView) (a c : ℕ) (free : naming_refusal (find (is_owner c) network.owners) a ≡ None) where
+  -- where the actor ran a call, had none to run, or has ended, the world goes on as the history does
+  goes : (h : History) (slot new : SlotView) (posted : List Posted) (told : Outcome) → IsLawful h → Refines h (with_slots slots network) → slice_get slots a ≡ Some slot
+      → IsRun c slot new network.replies posted told
+      → (told ≡ outcome_of h (Run a c)) × Refines (after h (Run a c)) (with_slots (slice_set slots a new) (record network { replies = posted }))
+  goes h (Runs live) new posted (Ok (Ran place j)) lawful refines at went =
       let here = known h network.owners c a refines.owners free in
-      let ended : is_ended a h ≡ true = has_ended h a slot (subst (IsStage h a) there (refines.actors a)) off (named_cast c a h here.1) in
-      refused_follows h (Run a c) ActorEnded (record { network = network; slots = slots }) (run_refusal h a c true true true here.0 here.1 ended) refines
-
-  pub run_unrefused : is_live_slot slot ≡ true → IsUnrefused (Run a c) (record { network = network; slots = slots })
-  run_unrefused on casts before refines =
-      let h = history casts before in
+      rw (went.place_is, went.last, went.posted_is, went.slot_is) (run_follows h (with_slots slots network) a c live went.new went.reply lawful refines here.0 here.1 at went.next)
+  goes h (Runs live) new posted told lawful refines at went =
       let here = known h network.owners c a refines.owners free in
-      run_refusal h a c true true false here.0 here.1 (not_ended h a slot (subst (IsStage h a) there (refines.actors a)) on)
+      rw (went.3, went.2, went.1, set-same slots a (Runs live) at)
+      (no_next h (with_slots slots network) a c live refines here.0 here.1 (subst (IsStage h a) at (refines.actors a)) went.0)
+  goes h slot new posted told lawful refines at went =
+      let here = known h network.owners c a refines.owners free in
+      let ended = has_ended h a slot (subst (IsStage h a) at (refines.actors a)) refl (named_cast c a h here.1) in
+      rw went.1 (refused_in_slot h (Run a c) ActorEnded (with_slots slots network) a slot new told at went.0 went.2 (run_refusal h a c true true true here.0 here.1 ended) refines)
 
-  -- the actor has no call of the caller to run
-  pub run_nothing : is_live_slot slot ≡ true → has_next_in_slot c slot ≡ false → FollowsRules (Run a c) (record { network = network; slots = slots }) (record { network = network; slots = slots }) (Ok Gap)
-  run_nothing on none casts before refines = go slot there on none
-    where
-      h : History
-      h = history casts before
+  -- a call that the actor has to run is refused by nothing, and takes memory
+  wants : (h : History) (slot : SlotView) → Refines h (with_slots slots network) → slice_get slots a ≡ Some slot → has_next_in_slot c slot ≡ true
+      → (refusal_of h (Run a c) ≡ None) × (is_some (next_item a c h) ≡ true)
+  wants h (Runs live) refines at some =
+      let here = known h network.owners c a refines.owners free in
+      let is = subst (IsStage h a) at (refines.actors a) in
+      let item : next_item a c h ≡ option_map item_of (next_call live.log live.inbox c) = item_is h a c ∙ ap (option_map item_of) (sym (next_is h a c live is here.1)) in (
+        run_refusal h a c true true false here.0 here.1 is.runs,
+        ap (λ (o : Option RunItem). is_some o) item ∙ item_came (next_call live.log live.inbox c) some,
+      )
+  wants h slot refines at some = absurd (cc)
 
-      go : (slot : SlotView) → slice_get slots a ≡ Some slot → is_live_slot slot ≡ true → has_next_in_slot c slot ≡ false
-          → (Ok Gap ≡ outcome_of (history casts before) (Run a c)) × Refines (after (history casts before) (Run a c)) (record { network = network; slots = slots })
-      go (Runs live) at on none =
-          let here = known h network.owners c a refines.owners free in
-          no_next h (record { network = network; slots = slots }) a c live refines here.0 here.1 (subst (IsStage h a) at (refines.actors a)) (none_came (next_call live.log live.inbox c) none)
-      go other at on none = cc
+-- what is told is the rules', and there is one notice more at most
+run_told : (network : NetworkView) (c : ℕ) (slot new : SlotView) (posted : List Posted) (told : Outcome) → IsRun c slot new network.replies posted told
+    → (is_memory told ≡ false) × IsGrown network (record network { replies = posted })
+run_told network c (Runs live) new posted (Ok (Ran place j)) went = (refl, grown_reply _ _ _ _ went.posted_is)
+run_told network c (Runs live) new posted told went = (ap is_memory went.3, rw went.2 (grown_none network))
+run_told network c slot new posted told went = (ap is_memory went.2, rw went.1 (grown_none network))
 
-  -- a call that the actor has to run takes memory
-  pub run_takes : is_live_slot slot ≡ true → has_next_in_slot c slot ≡ true → TakesMemory (Run a c) (record { network = network; slots = slots })
-  run_takes on some casts before refines = go slot there on some
-    where
-      h : History
-      h = history casts before
+-- the actor ran, in its slot
+module _ {K : Type 0} (state : K → KindState) (network : NetworkView) (slots : List (Slot K)) (a c : ℕ) (x y : Slot K) (posted : List Posted)
+    (free : naming_refusal (find (is_owner c) network.owners) a ≡ None) (within : a < length slots) where
+  there : slice_get (map (slot_view state) slots) a ≡ Some (slot_view state (get_or slots a x))
+  there = slice_get-map (slot_view state) slots a ∙ ap (option_map (slot_view state)) (slice_get-get_or slots a x within)
 
-      go : (slot : SlotView) → slice_get slots a ≡ Some slot → is_live_slot slot ≡ true → has_next_in_slot c slot ≡ true → is_some (next_item a c (history casts before)) ≡ true
-      go (Runs live) at on some =
-          let here = known h network.owners c a refines.owners free in
-          let item : next_item a c h ≡ option_map item_of (next_call live.log live.inbox c) = item_is h a c ∙ ap (option_map item_of) (sym (next_is h a c live (subst (IsStage h a) at (refines.actors a)) here.1)) in
-          ap (λ (o : Option RunItem). is_some o) item ∙ item_came (next_call live.log live.inbox c) some
-      go other at on some = cc
+  same : (y ≡ get_or slots a x) × (posted ≡ network.replies) → with_slots (slice_set slots a y) (record network { replies = posted }) ≡ with_slots slots network
+  same kept = rw kept.1 (slot_kept network slots a x y kept.0)
 
-  -- how the slot went on
-  ran_in : (new : List SlotView) (told : Result (Option Reply) WorldRefusal) → IsRunAt c a slots new told → IsRun c slot (get_or new a Vacant) told
-  ran_in new told ran = subst (λ (s : SlotView). IsRun c s (get_or new a Vacant) told) (get_or_from_slice_get slots a slot Vacant there) ran.ran
+  run_step : (result : Result Outcome NoMemory) → IfOk result (IsRun c (slot_view state (get_or slots a x)) (slot_view state y) network.replies posted)
+      → IfOk result (λ told. OnErr told ((y ≡ get_or slots a x) × (posted ≡ network.replies)))
+      → OnErr result (has_next_in_slot c (slot_view state (get_or slots a x)) ≡ true) → OnErr result ((y ≡ get_or slots a x) × (posted ≡ network.replies))
+      → Steps (world_view state) (Run a c) (with_slots slots network) (with_slots (slice_set slots a y) (record network { replies = posted })) result
+  run_step (Ok told) went kept takes err =
+      let tells = run_told network c _ _ posted told went in
+      record {
+        ok = λ casts before refines. rw (map-set (slot_view state) slots a y)
+            (goes network (map (slot_view state) slots) a c free (history casts before) _ _ posted told (world_lawful casts before) refines there went);
+        told = tells.0;
+        refused = on_err_weaker told same kept;
+        grown = tells.1;
+        memory_last = tt;
+        memory = tt;
+        err = tt;
+      }
+  run_step (Err error) went kept takes err = wanting (world_view state) (Run a c) (with_slots slots network) _ (Err error) (λ e. Unit {0}) tt (same err)
+      (λ casts before refines. (wants network (map (slot_view state) slots) a c free (history casts before) _ refines there takes).0)
+      (λ casts before refines. (wants network (map (slot_view state) slots) a c free (history casts before) _ refines there takes).1)
 
-  pub run_not_refused : (new : List SlotView) (refusal : WorldRefusal) → is_live_slot slot ≡ true → IsRunAt c a slots new (Err refusal) → ⊥
-  run_not_refused new refusal on ran = go slot (get_or new a Vacant) on (ran_in new (Err refusal) ran)
-    where
-      go : (slot next : SlotView) → is_live_slot slot ≡ true → IsRun c slot next (Err refusal) → ⊥
-      go (Runs live) next on ran = ran
-      go other next on ran = cc
-
-  -- what ran had come
-  pub run_replies : (new : List SlotView) (reply : Option Reply) → is_live_slot slot ≡ true → has_next_in_slot c slot ≡ true → IsRunAt c a slots new (Ok reply) → IsSome reply
-  run_replies new reply on some ran = go slot (get_or new a Vacant) on some (ran_in new (Ok reply) ran)
-    where
-      go : (slot next : SlotView) → is_live_slot slot ≡ true → has_next_in_slot c slot ≡ true → IsRun c slot next (Ok reply) → IsSome reply
-      go (Runs live) next on some went = replied (reply_of_run live) (next_call live.log live.inbox c) reply some went.next.reply_is
-      go other next on some went = cc
-
-  pub run_ran : (new : List SlotView) (replies : List Posted) (j : ℕ) (reply : Reply) → is_live_slot slot ≡ true → IsRunAt c a slots new (Ok (Some reply))
-      → j ≡ length network.replies → replies ≡ network.replies ++ (record { caller = c; notice = Answered reply }) ∷ []
-      → FollowsRules (Run a c) (record { network = network; slots = slots }) (record { network = record network { replies = replies }; slots = new }) (Ok (Ran reply.place j))
-  run_ran new replies j reply on ran counted posted_is casts before refines = rw (counted, posted_is) (go slot (get_or new a Vacant) on there (ran_in new (Ok (Some reply)) ran) ran.others)
-    where
-      h : History
-      h = history casts before
-
-      world : List SlotView → WorldView
-      world seen = record { network = record network { replies = network.replies ++ (record { caller = c; notice = Answered reply }) ∷ [] }; slots = seen }
-
-      go : (slot next : SlotView) → is_live_slot slot ≡ true → slice_get slots a ≡ Some slot → IsRun c slot next (Ok (Some reply)) → new ≡ slice_set slots a next
-          → (Ok (Ran reply.place (length network.replies)) ≡ outcome_of (history casts before) (Run a c)) × Refines (after (history casts before) (Run a c)) (world new)
-      go (Runs live) next on at went others =
-          let here = known h network.owners c a refines.owners free in
-          let follows = run_follows h (record { network = network; slots = slots }) a c live went.new reply (world_lawful casts before) refines here.0 here.1 at went.next in
-          (follows.0, subst (λ (seen : List SlotView). Refines (after h (Run a c)) (world seen)) (sym (others ∙ ap (slice_set slots a) went.slot_is)) follows.1)
-      go other next on at went others = cc
+-- the same at a place that is the actor's number
+pub run_put : {K : Type 0} (state : K → KindState) (network : NetworkView) (slots : List (Slot K)) (a p c : ℕ) (x y : Slot K) (posted : List Posted) (result : Result Outcome NoMemory) → p ≡ a
+    → naming_refusal (find (is_owner c) network.owners) a ≡ None → p < length slots → IfOk result (IsRun c (slot_view state (get_or slots p x)) (slot_view state y) network.replies posted)
+    → IfOk result (λ told. OnErr told ((y ≡ get_or slots p x) × (posted ≡ network.replies)))
+    → OnErr result (has_next_in_slot c (slot_view state (get_or slots p x)) ≡ true) → OnErr result ((y ≡ get_or slots p x) × (posted ≡ network.replies))
+    → Steps (world_view state) (Run a c) (with_slots slots network) (with_slots (slice_set slots p y) (record network { replies = posted })) result
+run_put state network slots a p c x y posted result at free within went kept takes err =
+    rw (← at) (run_step state network slots p c x y posted (rw (← at) at free) within result went kept takes err)

@@ -6,15 +6,12 @@ use Rattle.act_world.proofs.Common.{Letter, Mail, SendRefusal, Sending, Answer, 
 use Rattle.act_world.proofs.Common.{has_letter, is_letter, history, Outcome, did, refusal_of, outcome_of, add_event, after, and_also, call_letter, was_sent}
 use Rattle.act_world.proofs.Common.{Grows, added_grows, calls_to-number, letter_is, kept_of-same, Call, OwnerView, is_sent, sending_refusal, numbered_call}
 use Rattle.act_world.proofs.Common.{address_at, with_sent, CallKey, MailEntry, NetworkView, is_owner, SlotView, WorldView, StepsThere, IsOwnerOf, mail_entry}
-use Rattle.act_world.proofs.Common.{Refines, NoMemory}
-use Rattle.act_rules.specs.declared.history.Letter.TheVariants.{Call as CallLetter}
-use Rattle.act_world.specs.declared.network.MailEntry.TheVariants.{Call as CallEntry}
+use Rattle.act_world.proofs.Common.{Refines, NoMemory, CallLetter, CallEntry, is_letter-same}
 use Rattle.act_world.proofs.Changes.{refused_follows, accepted_follows}
 use Rattle.act_world.proofs.Stepping.{refused_there, wanting_there}
 use Rattle.act_world.proofs.Lists.{get_set-same, get_set-other}
 use Rattle.act_world.proofs.Lawful.{IsLawful, has_letter-last}
 use Rattle.act_world.proofs.Frames.{SameCaller, owners_change, owner_here, mail_stays, replies_stay, go_together, stages_stay}
-use Rattle.act_rules.proofs.Letters.{is_letter-same}
 
 -- ---- the refusals
 

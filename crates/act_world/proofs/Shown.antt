@@ -5,8 +5,7 @@ use Rattle.act_world.proofs.Common.{map-append, Event, Submit, Run, Did, Future,
 use Rattle.act_world.proofs.Common.{calls_of, runs_of, next_item, history, Outcome, refusal_of, add_event, after_run, did_run, outcome_by, outcome_of, outcomes}
 use Rattle.act_world.proofs.Common.{after_by, after, after_all, enumerate_from-append, whole_front, front_trans, added_grows, runs_grow, under-push}
 use Rattle.act_world.proofs.Common.{next_item_is, after_keeps, after_all-append, is_owner, WorldView, world_calls, world_log, IsReachedBy, FollowsRules}
-use Rattle.act_world.proofs.Common.{HasPlayed, calls_told, runs_told, new_calls, new_runs, all_new, ShowsWhatIsTold, ShowsNothing}
-use Rattle.std.proofs.Common.{append-nil}
+use Rattle.act_world.proofs.Common.{HasPlayed, calls_told, runs_told, new_calls, new_runs, all_new, ShowsWhatIsTold, ShowsNothing, append-nil}
 use Rattle.act_world.proofs.Lawful.{world_lawful}
 use Rattle.act_world.proofs.Headline.{calls_are, logs_are}
 use Rattle.act_world.proofs.Playing.{stands_next}

@@ -1,5 +1,5 @@
 -- Where an actor's slot stands.
-use Rattle.act_world.proofs.Common.{ℕ, Some, None, Option, History, SlotView, Runs, Died, Ended, Vacant, stage_of_slot, IsStage}
+use Rattle.act_world.proofs.Common.{ℕ, Some, None, Option, History, SlotView, Vacant, stage_of_slot, IsStage}
 
 -- the state that is shown of a slot is where the history says
 pub stage_shown : (h : History) (a : ℕ) (slot : Option SlotView) → IsStage h a slot → IsStage h a (stage_of_slot slot)

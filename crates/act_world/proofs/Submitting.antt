@@ -8,12 +8,10 @@ use Rattle.act_world.proofs.Common.{limit_refusal, is_earlier, History, is_calle
 use Rattle.act_world.proofs.Common.{option_or-none, needs-none, under-push, added_grows, IsSoundLetter, has_letter-sound, calls_to-push, kept_of-submitted}
 use Rattle.act_world.proofs.Common.{death_if, is_death_of, knows_dead, copies_in, given_in, with_number, copies-with_number, given-with_number}
 use Rattle.act_world.proofs.Common.{given-with_number-other, calls_to-length, NetworkView, is_owner, SlotView, Refines, IsOwnerOf, is_death_to, StepsThere}
-use Rattle.act_rules.specs.declared.history.Letter.TheVariants.{Call as CallLetter}
-use Rattle.act_rules.specs.declared.history.Post.TheVariants.{Reply as ReplyPost, Death as DeathPost}
-use Rattle.act_rules.specs.declared.outcome.SubmitRefusal.TheVariants.{NoActor as NoSuchActor, NoHandle as NoCopy, TooManyArgs, BadFuture, TooManyCalls, PendingLimit, NoMemory as NoRoom}
-use Rattle.act_rules.specs.declared.outcome.WorldRefusal.TheVariants.{NoCaller, Submit as SubmitRefused}
-use Rattle.act_rules.specs.Rules.{Outcome, unanswered, submission_refusal as history_refusal, refusal_of, outcome_of, was_sent, add_event, after}
-use Rattle.act_owner.specs.Owner.{OwnerView, owner_limit as limit_known, pending, refusal_to_submit, with_submission}
+use Rattle.act_world.proofs.Common.{CallLetter, ReplyPost, DeathPost, NoCaller, SubmitRefused, Outcome, unanswered, history_refusal, refusal_of, outcome_of}
+use Rattle.act_world.proofs.Common.{was_sent, add_event, after, OwnerView, limit_known, pending, refusal_to_submit, with_submission}
+use Rattle.act_rules.specs.declared.outcome.SubmitRefusal.TheVariants.{NoActor as NoSuchActor, NoHandle as NoCopy, TooManyArgs, BadFuture, TooManyCalls}
+use Rattle.act_rules.specs.declared.outcome.SubmitRefusal.TheVariants.{PendingLimit, NoMemory as NoRoom}
 use Rattle.act_world.proofs.Changes.{refused_follows, accepted_follows}
 use Rattle.act_world.proofs.Lawful.{IsLawful}
 use Rattle.act_world.proofs.Frames.{SameCaller, owners_change, mail_stays}

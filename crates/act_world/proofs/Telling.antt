@@ -2,8 +2,7 @@
 use Rattle.act_world.proofs.Common.{◌≡◌, ℕ, ◌+◌, true, false, List, [], ◌∷◌, ◌++◌, length, Some, None, refl, ap, sym, ◌∙◌, subst, Ok, Err, length-append, find}
 use Rattle.act_world.proofs.Common.{slice_get, or_parts, Death, Tell, Told, WorldRefusal, NotDead, needs, History, cast_of, names, is_caller, is_dead}
 use Rattle.act_world.proofs.Common.{is_retired, did, refusal_of, outcome_of, add_event, after, added_grows, Posted, NetworkView, is_owner, naming_refusal}
-use Rattle.act_world.proofs.Common.{SlotView, Runs, Died, Ended, Vacant, is_dead_slot, IsStage, posted_notice, Refines, telling_unrefused}
-use Rattle.act_rules.specs.declared.history.Post.TheVariants.{Death as DeathPost}
+use Rattle.act_world.proofs.Common.{SlotView, Runs, Died, Ended, Vacant, is_dead_slot, IsStage, posted_notice, Refines, telling_unrefused, DeathPost}
 use Rattle.act_world.proofs.Changes.{refused_follows, accepted_follows}
 use Rattle.act_world.proofs.Lawful.{IsLawful}
 use Rattle.act_world.proofs.Seeing.{refused, known}

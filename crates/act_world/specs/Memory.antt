@@ -2,7 +2,7 @@
 use Rattle.std.specs.Prelude.{◌≡◌, ℕ, Bool, true, false, not, List, slice_get, Option, Some, is_some, is_none, IfSome}
 use Rattle.std.specs.Option.{option_map_or}
 use Rattle.act_rules.specs.declared.event.Event.{Event}
-use Rattle.act_rules.specs.declared.event.Event.TheVariants.{Submit, Copy, Release, Send, Deliver, Run, Collect, AskKill, TakeKill, Tell, Retire}
+use Rattle.act_rules.specs.declared.event.Event.TheVariants.{Submit, Release, Send, Deliver, Run, Collect, Tell}
 use Rattle.act_rules.specs.declared.history.Letter.{Letter}
 use Rattle.act_rules.specs.declared.history.Letter.TheVariants.{Call as CallLetter}
 use Rattle.act_rules.specs.declared.history.Post.{Post}

@@ -1,17 +1,18 @@
 -- What happens to an actor in its slot.
-use Rattle.std.specs.Prelude.{◌≡◌, ℕ, List, slice_index_or, slice_set, Bool, true, false, if◌then◌else◌, Option, Some, option_map, is_some, IfNone, IfSome, Result, Ok, Err}
+use Rattle.std.specs.Prelude.{◌≡◌, ℕ, List, [], ◌∷◌, ◌++◌, length, Bool, true, false, if◌then◌else◌, Option, Some, None, option_map, is_some, IfNone, IfSome, Ok, Err}
 use Rattle.act_types.specs.declared.call.Packet.{Packet}
 use Rattle.act_types.specs.declared.call.ReleaseNote.{ReleaseNote}
 use Rattle.act_owner.specs.Owner.{OwnerView}
 use Rattle.act_world.specs.declared.network.CallKey.{CallKey}
 use Rattle.act_world.specs.declared.network.MailEntry.{MailEntry}
 use Rattle.act_world.specs.declared.network.MailEntry.TheVariants.{Call as CallEntry, Note as NoteEntry}
+use Rattle.act_types.specs.declared.call.Notice.TheVariants.{Answered}
 use Rattle.act_types.specs.declared.call.Reply.{Reply}
+use Rattle.act_world.specs.declared.network.Posted.{Posted}
 use Rattle.act_rules.specs.declared.outcome.Arrival.{Arrival}
 use Rattle.act_rules.specs.declared.outcome.Arrival.TheVariants.{New}
-use Rattle.act_rules.specs.declared.outcome.Did.TheVariants.{Arrived, Dead, Retired}
+use Rattle.act_rules.specs.declared.outcome.Did.TheVariants.{Arrived, Dead, Retired, Ran, Gap}
 use Rattle.act_rules.specs.declared.outcome.HandleRefusal.TheVariants.{NoActor}
-use Rattle.act_rules.specs.declared.outcome.WorldRefusal.{WorldRefusal}
 use Rattle.act_rules.specs.declared.outcome.WorldRefusal.TheVariants.{Handle, ActorEnded, NoKill, NotDrained}
 use Rattle.act_rules.specs.RunList.{has_terminated}
 use Rattle.act_rules.specs.Rules.{Outcome}
@@ -20,10 +21,6 @@ use Rattle.act_actor.specs.View.{ActorView}
 use Rattle.act_actor.specs.Actor.{call_arrival_at, arrival_at, note_arrival_at, reply_of_run, next_call, MayRetire, HasRunCall}
 use Rattle.act_world.specs.Network.{packet_in, named_as}
 use Rattle.act_world.specs.View.{SlotView, Runs, Died, Ended, Vacant}
-
-abbrev pub IsLiveSlot : SlotView → Type 0
-IsLiveSlot (Runs live) = Unit {0}
-IsLiveSlot slot = ⊥
 
 abbrev pub is_live_slot : SlotView → Bool
 is_live_slot (Runs live) = true
@@ -90,21 +87,21 @@ abbrev pub bury_ended : SlotView → SlotView
 bury_ended (Runs live) = if has_terminated live.log then dead_slot live else Runs live
 bury_ended slot = slot
 
--- the running actor ran the caller's next call, or it has not arrived, and this is its slot then
-pub record HasRunIn (c : ℕ) (reply : Option Reply) (old : ActorView) (slot : SlotView) : Type 0 where
+-- the running actor ran the caller's next call at this place, this is its slot then, and the reply is the last notice
+pub record HasRunIn (c : ℕ) (old : ActorView) (slot : SlotView) (replies posted : List Posted) (place j : ℕ) : Type 0 where
+  pub reply : Reply
   pub new : ActorView
-  pub next : HasRunNext c reply old new
+  pub next : HasRunNext c (Some reply) old new
   pub slot_is : slot ≡ bury_ended (Runs new)
+  pub place_is : place ≡ reply.place
+  pub last : j ≡ length replies
+  pub posted_is : posted ≡ replies ++ (record { caller = c; notice = Answered reply }) ∷ []
 
-abbrev pub IsRun : ℕ → SlotView → SlotView → Result (Option Reply) WorldRefusal → Type 0
-IsRun c (Runs old) new (Ok reply) = HasRunIn c reply old new
-IsRun c (Runs old) new told = ⊥
-IsRun c old new told = (new ≡ old) × (told ≡ Err ActorEnded)
-
--- in a list of actors one ran, and the others stay
-pub record IsRunAt (c a : ℕ) (old new : List SlotView) (told : Result (Option Reply) WorldRefusal) : Type 0 where
-  pub ran : IsRun c (slice_index_or old a Vacant) (slice_index_or new a Vacant) told
-  pub others : new ≡ slice_set old a (slice_index_or new a Vacant)
+-- a running actor ran the caller's next call, or that has not arrived; or the actor has ended
+abbrev pub IsRun : ℕ → SlotView → SlotView → List Posted → List Posted → Outcome → Type 0
+IsRun c (Runs old) new replies posted (Ok (Ran place j)) = HasRunIn c old new replies posted place j
+IsRun c (Runs old) new replies posted told = (next_call old.log old.inbox c ≡ None) × (new ≡ Runs old) × (posted ≡ replies) × (told ≡ Ok Gap)
+IsRun c old new replies posted told = (new ≡ old) × (posted ≡ replies) × (told ≡ Err ActorEnded)
 
 -- the actor's slot after it took a kill, if one was asked, and what is told
 abbrev pub take_kill : Bool → SlotView → SlotView × Outcome

@@ -110,10 +110,12 @@ fn submissions(events: &[Event]) -> [usize; CALLER_NUMBERS] {
     counts
 }
 
-/// Makes room for so many calls more of each caller, as far as memory serves.
-fn make_room_for(owners: &mut [Owner], counts: &[usize; CALLER_NUMBERS])
+/// Makes room for the calls that events submit. Where memory doesn't serve for so many at once,
+/// room is made call by call.
+pub(crate) fn make_room_for(owners: &mut [Owner], events: &[Event])
     ensures { owners.new ≡ owners.old }
 {
+    let counts = submissions(events);
     for owner in owners.iter_mut() {
         let count = counts[owner.id().number() as usize];
         let _ = owner.reserve(count.min(MAX_CALLS as usize));
@@ -121,14 +123,6 @@ fn make_room_for(owners: &mut [Owner], counts: &[usize; CALLER_NUMBERS])
 }
 
 impl Network {
-    /// Makes room for the calls that events submit. Where memory doesn't serve for so many at once,
-    /// room is made call by call.
-    pub(crate) fn make_room(&mut self, events: &[Event])
-        ensures { self.new ≡ self.old }
-    {
-        make_room_for(&mut self.owners, &submissions(events));
-    }
-
     /// Where it asks for memory.
     pub(crate) fn alloc(&self) -> Global {
         *self.mail.allocator()

@@ -1,19 +1,20 @@
 //! Where an actor is.
 
-ghost use Rattle.std.specs.Prelude.{◌≡◌, ◌<◌, ℕ, map, Some, slice_get, IfOk, OnErr, false};
+ghost use Rattle.std.specs.Prelude.{◌≡◌, ◌<◌, map, length, Some, slice_get, IfOk, OnErr, true, false};
 ghost use Rattle.std.specs.Option.{option_map};
 ghost use Rattle.act_rules.specs.declared.outcome.Arrival.TheVariants.{New};
 ghost use Rattle.act_actor.specs.Actor.{call_arrival_at};
 ghost use Rattle.act_actor.specs.StateViews.{live_view};
+ghost use Rattle.act_actor.specs.View.{ActorView};
 ghost use Rattle.act_world.specs.View.{Runs, slot_view, stage_view, stage_of_slot};
 ghost use Rattle.act_world.specs.IsReachedBy.{is_memory};
-ghost use Rattle.act_world.specs.Slots.{IsLiveSlot, is_live_slot, is_dead_slot, has_next_in_slot, HasTakenCall, HasArrived, IsNewCall, IsBrought, IsRun, IsRunAt, IsRetiredIn, bury_ended, take_kill};
+ghost use Rattle.act_world.specs.Slots.{is_dead_slot, has_next_in_slot, HasTakenCall, IsNewCall, IsBrought, IsRun, IsRetiredIn, dead_slot, take_kill};
 
-use crate::network::{CallKey, MailEntry, Network};
+use crate::network::{CallKey, MailEntry, Network, Posted};
 use act_actor::{Dead, Live, Retired};
 use act_kinds::{Actor, Boxed};
 use act_rules::{Arrival, Did, HandleRefusal, Outcome, WorldRefusal};
-use act_types::{ACTOR_NUMBERS, ActorId, CallerId, NoMemory, Reply};
+use act_types::{ACTOR_NUMBERS, ActorId, CallerId, NoMemory, Notice};
 use std::mem;
 
 /// An actor in one of its states. A slot is vacant where there is no such actor, and while an actor
@@ -80,25 +81,11 @@ pub(crate) fn bring<K: Actor>(
     let Slot::Live(live) = slot else {
         return Ok(Err(WorldRefusal::ActorEnded));
     };
-    let arrival = arrive(network, live, letter)?;
+    let arrival = match letter {
+        MailEntry::Call(call) => take_in(network, live, call)?,
+        MailEntry::Note(note) => live.released(*note),
+    };
     Ok(Ok(Did::Arrived(arrival)))
-}
-
-/// The actor takes a letter in.
-fn arrive<K: Actor>(
-    network: &Network,
-    live: &mut Live<K>,
-    letter: &MailEntry,
-) -> Result<Arrival, NoMemory>
-    ensures ok { IfOk result (λ arrival.
-        HasArrived network.now.owners letter.now arrival (live_view K.state live.old) (live_view K.state live.new)) }
-    ensures memory_last { OnErr result (IsNewCall letter.now (Runs (live_view K.state live.old))) }
-    ensures err { OnErr result (live.new ≡ live.old) }
-{
-    match letter {
-        MailEntry::Call(call) => take_in(network, live, call),
-        MailEntry::Note(note) => Ok(live.released(*note)),
-    }
 }
 
 /// The actor takes a call in. Its packet is made only where it is new.
@@ -131,55 +118,55 @@ pub(crate) fn put<K: Actor>(slot: &mut Slot<K>, actor: Slot<K>)
     drop(mem::replace(slot, actor));
 }
 
-/// Where the actor's last call was a `terminate` that ended it, it is dead. This takes no memory.
+/// The actor is dead. This takes no memory.
 fn bury<K: Actor>(slot: &mut Slot<K>)
-    ensures { slot_view K.state slot.new ≡ bury_ended (slot_view K.state slot.old) }
+    ensures { (live : ActorView) → slot_view K.state slot.old ≡ Runs live → slot_view K.state slot.new ≡ dead_slot live }
 {
     match mem::replace(slot, Slot::Vacant) {
-        Slot::Live(live) => {
-            let actor = if live.terminated() {
-                Slot::Dead(live.kill())
-            } else {
-                Slot::Live(live)
-            };
-            put(slot, actor);
-        }
+        Slot::Live(live) => put(slot, Slot::Dead(live.kill())),
         ended => put(slot, ended),
     }
 }
 
-/// The actor runs the caller's next call, if it has arrived, and is dead then if that call ended it.
-fn run_in<K: Actor>(
+/// The actor runs the caller's next call, if it has arrived, and its reply is posted. Where that call
+/// ended the actor, it is dead then.
+pub(crate) fn run_in<K: Actor>(
     slot: &mut Slot<K>,
     c: CallerId,
-) -> Result<Result<Option<Reply>, WorldRefusal>, NoMemory>
-    ensures ok { IfOk result (IsRun c (slot_view K.state slot.old) (slot_view K.state slot.new)) }
-    ensures refused { IfOk result (λ ran. OnErr ran (slot.new ≡ slot.old)) }
-    ensures memory_last { OnErr result (IsLiveSlot (slot_view K.state slot.old)) }
-    ensures err { OnErr result (slot.new ≡ slot.old) }
+    replies: &mut Vec<Posted>,
+) -> Result<Outcome, NoMemory>
+    requires room { length replies.old.items < 4294967296 }
+    ensures ok { IfOk result (IsRun c (slot_view K.state slot.old) (slot_view K.state slot.new)
+        replies.old.items replies.new.items) }
+    ensures refused { IfOk result (λ told.
+        OnErr told ((slot.new ≡ slot.old) × (replies.new.items ≡ replies.old.items))) }
+    ensures memory_last { OnErr result (has_next_in_slot c (slot_view K.state slot.old) ≡ true) }
+    ensures err { OnErr result ((slot.new ≡ slot.old) × (replies.new.items ≡ replies.old.items)) }
 {
     let Slot::Live(live) = slot else {
         return Ok(Err(WorldRefusal::ActorEnded));
     };
-    let reply = live.run(c)?;
+    if replies.reserve(1).is_err() {
+        return if live.has_next(c) {
+            Err(NoMemory)
+        } else {
+            Ok(Ok(Did::Gap))
+        };
+    }
+    let Some(reply) = live.run(c)? else {
+        return Ok(Ok(Did::Gap));
+    };
+    let place = reply.place;
+    let j = replies.len() as u32;
+    replies.push_reserved(Posted {
+        caller: c,
+        notice: Notice::Answered(reply),
+    });
     // An actor is moved only at its end, since each run would pay for it.
     if live.terminated() {
         bury(slot);
     }
-    Ok(Ok(reply))
-}
-
-/// The actor with this number runs the caller's next call, if it has arrived.
-pub(crate) fn run_at<K: Actor>(
-    slots: &mut [Slot<K>; ACTOR_NUMBERS],
-    a: ActorId,
-    c: CallerId,
-) -> Result<Result<Option<Reply>, WorldRefusal>, NoMemory>
-    ensures ok { IfOk result (IsRunAt c a (map (slot_view K.state) slots.old) (map (slot_view K.state) slots.new)) }
-    ensures refused { IfOk result (λ ran. OnErr ran (slots.new ≡ slots.old)) }
-    ensures err { OnErr result (slots.new ≡ slots.old) }
-{
-    run_in(&mut slots[slot_of(a)], c)
+    Ok(Ok(Did::Ran(place, j)))
 }
 
 /// Ends the actor where its kill was asked.
@@ -210,23 +197,6 @@ pub(crate) fn is_dead_in<K: Actor>(slot: &Slot<K>) -> bool
     ensures { result ≡ is_dead_slot (slot_view K.state slot.now) }
 {
     matches!(slot, Slot::Dead(_))
-}
-
-/// Whether the actor runs.
-pub(crate) fn is_live_in<K: Actor>(slot: &Slot<K>) -> bool
-    ensures { result ≡ is_live_slot (slot_view K.state slot.now) }
-{
-    matches!(slot, Slot::Live(_))
-}
-
-/// Whether the actor runs, and the caller's next call has come to it.
-pub(crate) fn has_next_in<K: Actor>(slot: &Slot<K>, c: CallerId) -> bool
-    ensures { result ≡ has_next_in_slot c (slot_view K.state slot.now) }
-{
-    match slot {
-        Slot::Live(live) => live.has_next(c),
-        _ => false,
-    }
 }
 
 /// The actor ends by itself, where it is drained.

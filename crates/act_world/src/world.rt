@@ -23,10 +23,9 @@ ghost use Rattle.act_owner.specs.Owner.{opened_with};
 ghost use Rattle.act_world.specs.Openings.{HasOwners};
 ghost use Rattle.act_rules.specs.declared.event.Event.TheVariants as event;
 
-use crate::network::{Network, Posted, place_of};
+use crate::network::{Network, Posted, make_room_for, place_of};
 use crate::slot::{
-    Slot, Stage, bring, has_next_in, is_dead_in, is_live_in, kill_in, put, retire_in, run_at,
-    slot_at, slot_of,
+    Slot, Stage, bring, is_dead_in, kill_in, put, retire_in, run_in, slot_at, slot_of,
 };
 use act_actor::{Cast, Live, limits_of};
 use act_kinds::{Actor, Boxed};
@@ -84,25 +83,8 @@ impl<K: Actor> World<K> {
         if let Some(refusal) = self.network.naming_refusal(c, a) {
             return Ok(Err(refusal));
         }
-        let slot = slot_at(&self.slots, a);
-        if !is_live_in(slot) {
-            return Ok(Err(WorldRefusal::ActorEnded));
-        }
-        if !has_next_in(slot, c) {
-            return Ok(Ok(Did::Gap));
-        }
-        self.network.replies.reserve(1)?;
-        let Ok(reply) = run_at(&mut self.slots, a, c)? else {
-            return Ok(Err(WorldRefusal::ActorEnded));
-        };
-        let reply = reply.unwrap();
-        let place = reply.place;
-        let j = self.network.replies.len() as u32;
-        self.network.replies.push_reserved(Posted {
-            caller: c,
-            notice: Notice::Answered(reply),
-        });
-        Ok(Ok(Did::Ran(place, j)))
+        let World { network, slots } = self;
+        run_in(&mut slots[slot_of(a)], c, &mut network.replies)
     }
 
     /// The actor takes a kill, if one was asked.
@@ -160,17 +142,6 @@ impl<K: Actor> World<K> {
         }
     }
 
-    /// The same of an event that is handed over: the arguments of a submission are moved.
-    fn step_owned(&mut self, event: Event) -> Result<Outcome, NoMemory>
-        requires room { HasRoom 1 self.old.network }
-        ensures { Steps (world_view K.state) event self.old self.new result }
-    {
-        match event {
-            Event::Submit(c, a, method, args) => self.network.submit(c, a, method, args),
-            other => self.step(&other),
-        }
-    }
-
     /// Whether there is room for so many events more: each adds one letter or notice at most.
     pub fn has_room(&self, count: usize) -> bool
         ensures { IsTrue result ↔ HasRoom count self.now.network }
@@ -188,7 +159,7 @@ impl<K: Actor> World<K> {
     pub fn make_room(&mut self, events: &[Event])
         ensures { self.new ≡ self.old }
     {
-        self.network.make_room(events);
+        make_room_for(&mut self.network.owners, events);
     }
 
     /// Does an event, and tells what it did or the first refusal that met it.
@@ -233,8 +204,13 @@ impl<K: Actor> World<K> {
         ensures memory { is_memory result ≡ true → TakesMemory event (world_view K.state self.old) }
         ensures err { OnErr result (self.new ≡ self.old) }
     {
-        self.step_owned(event)
-            .unwrap_or(Err(WorldRefusal::NoMemory))
+        match event {
+            Event::Submit(c, a, method, args) => self
+                .network
+                .submit(c, a, method, args)
+                .unwrap_or(Err(WorldRefusal::NoMemory)),
+            other => self.apply(&other),
+        }
     }
 
     /// Does events in order, and adds what is told of each. It stops only where memory is refused,
@@ -334,16 +310,7 @@ impl<K: Actor> World<K> {
     }
 }
 
-/// A caller with its first handles, and with the limits of its actors.
-fn new_owner<K>(alloc: Global, casts: &[Cast<K>], c: CallerId) -> Result<Owner, NoMemory>
-    requires fit { IsFitting casts.now }
-    ensures { IfOk result (λ owner. owner ≡ opened_with c (limits_that_name c casts.now)) }
-{
-    let limits = limits_of(alloc, casts, c)?;
-    Owner::open_with(alloc, c, limits.as_slice())
-}
-
-/// Adds a caller that isn't there yet.
+/// Adds a caller that isn't there yet, with its first handles and the limits of its actors.
 fn add_owner<K>(
     alloc: Global,
     owners: &mut Vec<Owner>,
@@ -357,7 +324,8 @@ fn add_owner<K>(
     if place_of(owners.as_slice(), c).is_some() {
         return Ok(());
     }
-    let owner = new_owner(alloc, casts, c)?;
+    let limits = limits_of(alloc, casts, c)?;
+    let owner = Owner::open_with(alloc, c, limits.as_slice())?;
     owners.push(owner)?;
     Ok(())
 }
@@ -434,7 +402,7 @@ fn slots_of<K: Actor>(
             kind,
             pending: _,
         } = cast;
-        let live = Live::open(alloc, actor, callers.as_slice(), kind)?;
+        let live = Live::open_keeping(alloc, actor, callers.as_slice(), kind)?;
         fill_slot(&mut slots, actor, live);
     }
     Ok(slots)

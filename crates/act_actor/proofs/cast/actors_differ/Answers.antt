@@ -1,5 +1,4 @@
-use Rattle.std.proofs.Common.{◌≢◌, true≢false, sym, ◌∙◌, refl}
-use Rattle.act_actor.specs.declared.cast.Cast.{Cast}
+use Rattle.act_actor.proofs.Common.{◌≢◌, true≢false, sym, ◌∙◌, refl, Cast}
 use Rattle.act_actor.proofs.Pairs.{differ_more, differ_not, pairs_all}
 use Rattle.act_actor.proofs.cast.actors_differ.Goals as goal
 

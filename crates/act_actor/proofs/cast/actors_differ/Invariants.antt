@@ -1,5 +1,4 @@
-use Rattle.std.proofs.Common.{take}
-use Rattle.act_actor.specs.Cast.{ActorsDiffer}
+use Rattle.act_actor.proofs.Common.{take, ActorsDiffer}
 use Rattle.act_actor.proofs.cast.actors_differ.Given as goal
 
 -- the actors so far are distinct

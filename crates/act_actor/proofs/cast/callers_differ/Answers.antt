@@ -1,4 +1,4 @@
-use Rattle.std.proofs.Common.{◌≢◌, ℕ, sym, ◌∙◌, refl}
+use Rattle.act_actor.proofs.Common.{◌≢◌, ℕ, sym, ◌∙◌, refl}
 use Rattle.act_actor.proofs.Pairs.{differ_more, pairs_all}
 use Rattle.act_actor.proofs.cast.callers_differ.Goals as goal
 

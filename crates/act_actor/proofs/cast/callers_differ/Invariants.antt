@@ -1,5 +1,4 @@
-use Rattle.std.proofs.Common.{take}
-use Rattle.act_actor.specs.Cast.{CallersDiffer}
+use Rattle.act_actor.proofs.Common.{take, CallersDiffer}
 use Rattle.act_actor.proofs.cast.callers_differ.Given as goal
 
 -- the callers so far are distinct

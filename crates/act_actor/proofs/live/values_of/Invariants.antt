@@ -1,5 +1,4 @@
-use Rattle.std.proofs.Common.{◌≡◌, take, map}
-use Rattle.act_types.specs.declared.call.Settled.TheVariants.{Good}
+use Rattle.act_actor.proofs.Common.{◌≡◌, take, map, Good}
 use Rattle.act_actor.proofs.live.values_of.Given as goal
 
 -- the arguments so far are good, and these are their values

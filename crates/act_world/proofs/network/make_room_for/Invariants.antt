@@ -1,4 +1,4 @@
-use Rattle.std.proofs.Common.{◌≡◌}
+use Rattle.act_world.proofs.Common.{◌≡◌}
 use Rattle.act_world.proofs.network.make_room_for.Given as goal
 
 -- no caller has changed

@@ -3,8 +3,8 @@ use Rattle.act_world.proofs.Common.{live_view, IsOpened, slot_view, actor_spec}
 use Rattle.act_world.proofs.OpenedSlots.{IsToOpen, AreOpened, to_open, none_opened, one_more}
 use Rattle.act_world.proofs.world.slots_of.Goals as goal
 
-pub open-requires : goal.open-requires
-open-requires g c =
+pub open_keeping-requires : goal.open_keeping-requires
+open_keeping-requires g c =
     let state = g.K.Actor.state in
     let rest = subst (AllByRecursion (IsToOpen state (opening (map (actor_spec state) c.args.casts.items)))) c.in-Some.ensures.steps.0 c.loop-cast.invariant.1 in
     record { distinct = subst (λ callers. CallersDiffer callers) (sym c.as_slice.ensures) rest.0.1 }

@@ -1,5 +1,6 @@
 use Rattle.act_inbox.proofs.Common.{◌≡◌, ◌<◌, ℕ, Some, None, sym, ◌∙◌, arith, refl, if◌then◌else◌, slice_set, length-set, key_of}
-use Rattle.act_inbox.proofs.Keys.{is_same, is_same_itself, key_at, key_of-set, key_of-kept, names, held_same, none_held, one_held, held_gone, found_gone, all_after}
+use Rattle.act_inbox.proofs.Keys.{is_same, is_same_itself, key_at, key_of-set, key_of-kept, names, held_same, none_held, one_held, held_gone, found_gone}
+use Rattle.act_inbox.proofs.Keys.{all_after}
 use Rattle.act_inbox.proofs.inbox.HeldCalls.remove.Goals as goal
 use Rattle.act_inbox.proofs.inbox.HeldCalls.remove.Goals.{After-remove-2}
 

@@ -1,5 +1,4 @@
-use Rattle.act_world.proofs.Common.{◌≡◌, ◌++◌, ◌∷◌, [], List, length, refl, ap, sym, ◌∙◌, arith, common_steps, history, CallKey, MailEntry}
-use Rattle.act_world.specs.declared.network.MailEntry.TheVariants.{Call as CallEntry}
+use Rattle.act_world.proofs.Common.{◌≡◌, ◌++◌, ◌∷◌, [], List, length, refl, ap, sym, ◌∙◌, arith, common_steps, history, CallKey, MailEntry, CallEntry}
 use Rattle.act_world.proofs.Changes.{grown_letter}
 use Rattle.act_world.proofs.Lawful.{world_lawful}
 use Rattle.act_world.proofs.OneCaller.{no_caller, put_back}

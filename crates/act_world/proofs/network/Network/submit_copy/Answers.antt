@@ -1,4 +1,4 @@
-use Rattle.std.proofs.Common.{refl}
+use Rattle.act_world.proofs.Common.{refl}
 use Rattle.act_world.proofs.Stepping.{wanting_there}
 use Rattle.act_world.proofs.network.Network.submit_copy.Goals as goal
 

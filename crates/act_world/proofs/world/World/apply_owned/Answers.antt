@@ -1,21 +1,18 @@
-use Rattle.act_world.specs.View.{world_view}
+use Rattle.act_world.proofs.Common.{world_view}
 use Rattle.act_world.proofs.Applying.{applied}
+use Rattle.act_world.proofs.Stepping.{of_network}
 use Rattle.act_world.proofs.world.World.apply_owned.Goals as goal
 
-pub returns-clause-outcome : goal.returns-clause-outcome
-returns-clause-outcome g c = rw c.unwrap_or.ensures (applied (world_view g.K.Actor.state) _ _ _ _ c.step_owned.ensures).outcome
-
-pub returns-clause-reached : goal.returns-clause-reached
-returns-clause-reached g c = rw c.unwrap_or.ensures (applied (world_view g.K.Actor.state) _ _ _ _ c.step_owned.ensures).reached
-
-pub returns-clause-shown : goal.returns-clause-shown
-returns-clause-shown g c = rw c.unwrap_or.ensures (applied (world_view g.K.Actor.state) _ _ _ _ c.step_owned.ensures).shown
-
-pub returns-clause-memory_last : goal.returns-clause-memory_last
-returns-clause-memory_last g c = rw c.unwrap_or.ensures (applied (world_view g.K.Actor.state) _ _ _ _ c.step_owned.ensures).memory_last
-
-pub returns-clause-memory : goal.returns-clause-memory
-returns-clause-memory g c = rw c.unwrap_or.ensures (applied (world_view g.K.Actor.state) _ _ _ _ c.step_owned.ensures).memory
-
-pub returns-clause-err : goal.returns-clause-err
-returns-clause-err g c = rw c.unwrap_or.ensures (applied (world_view g.K.Actor.state) _ _ _ _ c.step_owned.ensures).err
+pub returns-in-Submit : goal.returns-in-Submit
+returns-in-Submit g c =
+    let step = of_network g.K.Actor.state c.self.inside.slots _ _ c.self.inside.network c.submit.new.self c.submit.result c.in-Submit.is c.submit.ensures in
+    let done = applied (world_view g.K.Actor.state) _ _ _ _ step in
+    record {
+      outcome = rw (c.unwrap_or.ensures, ← c.self.view_is) done.outcome;
+      reached = rw (c.unwrap_or.ensures, ← c.self.view_is) done.reached;
+      shown = rw (c.unwrap_or.ensures, ← c.self.view_is) done.shown;
+      grown = rw (← c.self.view_is) step.grown;
+      memory_last = rw (c.unwrap_or.ensures, ← c.self.view_is) done.memory_last;
+      memory = rw (c.unwrap_or.ensures, ← c.self.view_is) done.memory;
+      err = rw (c.unwrap_or.ensures, ← c.self.view_is) done.err;
+    }

@@ -1,4 +1,4 @@
-use Rattle.act_world.specs.View.{world_view}
+use Rattle.act_world.proofs.Common.{world_view}
 use Rattle.act_world.proofs.Headline.{stands_consistent}
 use Rattle.act_world.proofs.world.World.consistent.Goals as goal
 

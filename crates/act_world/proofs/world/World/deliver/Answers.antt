@@ -1,4 +1,4 @@
-use Rattle.std.proofs.Common.{◌∙◌}
+use Rattle.act_world.proofs.Common.{◌∙◌}
 use Rattle.act_world.proofs.Delivering.{brought_step, no_letter_step}
 use Rattle.act_world.proofs.world.World.deliver.Goals as goal
 

@@ -1,4 +1,4 @@
-use Rattle.std.proofs.Common.{Ok}
+use Rattle.act_world.proofs.Common.{Ok}
 use Rattle.act_world.proofs.Stepping.{of_network}
 use Rattle.act_world.proofs.world.World.step.Goals as goal
 

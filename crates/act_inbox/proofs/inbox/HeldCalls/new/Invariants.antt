@@ -1,5 +1,5 @@
-use Rattle.std.proofs.Common.{◌≡◌, [], length, All}
-use Rattle.act_inbox.proofs.inbox.no_keys.Given as goal
+use Rattle.act_inbox.proofs.Common.{◌≡◌, [], length, All}
+use Rattle.act_inbox.proofs.inbox.HeldCalls.new.Given as goal
 
 abbrev pub invariant-loop : goal.invariant-loop
 invariant-loop l = (length l.keys.items ≡ l.counter) × All (λ index. index ≡ []) l.keys.items

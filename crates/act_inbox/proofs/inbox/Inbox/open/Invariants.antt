@@ -1,5 +1,5 @@
 use Rattle.act_inbox.proofs.Common.{◌≡◌, ◌≤◌, All, map, take, lane_at_first}
-use Rattle.act_inbox.proofs.inbox.lanes_of.Given as goal
+use Rattle.act_inbox.proofs.inbox.Inbox.open.Given as goal
 
 abbrev pub invariant-loop-caller : goal.invariant-loop-caller
 invariant-loop-caller l =
