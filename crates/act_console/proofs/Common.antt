@@ -6,7 +6,8 @@ pub use Rattle.act_console.specs.Console.{IsPlayOutput, ScriptPlayed}
 pub use Rattle.act_console.specs.Input.{IsWholeInput}
 pub use Rattle.act_console.specs.Output.{AppendsPrefix, Wrote}
 pub use Rattle.act_console.specs.Parts.{AreTold, caller_lines, owner_line, owner_lines, stage_lines, standing_in, standing_text, world_report}
-pub use Rattle.act_console.specs.Plans.{AreSorted, Explains, HasLine, add_step, first_stranger, line_in, mark_view, plan_from, script_of, step_view, with_step}
+pub use Rattle.act_console.specs.Plans.{AreSorted, Explains, HasLine, add_step, first_stranger, line_in, plan_from, script_of, step_line_view, step_view}
+pub use Rattle.act_console.specs.Plans.{with_step}
 pub use Rattle.act_console.specs.Stock.{HasEach, HasOf}
 pub use Rattle.act_console.specs.Threads.{IsSummary, IsThreadsOutput, IsToldOf, Threaded, end_lines_in, end_text, end_text_in, joined_summary, owner_lines_in}
 pub use Rattle.act_console.specs.Threads.{plans_in, spelled_threads}
@@ -14,10 +15,9 @@ pub use Rattle.act_console.specs.declared.console.Stock.{Stock}
 pub use Rattle.act_console.specs.declared.fault.ConsoleFault.{ConsoleFault}
 pub use Rattle.act_console.specs.declared.streams.Output.{Output}
 pub use Rattle.act_console.specs.declared.streams.Output.TheVariants.{Refusal, Report}
-pub use Rattle.act_console.specs.declared.threads.Mark.{Mark}
 pub use Rattle.act_console.specs.declared.threads.Sorted.{Sorted}
+pub use Rattle.act_console.specs.declared.threads.StepLine.{StepLine}
 pub use Rattle.act_executor.proofs.PlaysOfThreads.AsPlay.{casts_stay}
-pub use Rattle.act_rules.proofs.Elements.{all_in, all_of_map, found_is}
 pub use Rattle.act_executor.specs.Joined.{IsJoined, RanAll, calls_in, calls_of_owner, end_of, kept_in, kept_of_owner, log_in, log_of_end, owner_of}
 pub use Rattle.act_executor.specs.PlanPlays.{IsPlayedAsPlanned}
 pub use Rattle.act_executor.specs.Plays.{IsEndIn, IsOwnerIn, IsPlayOf}
@@ -30,12 +30,13 @@ pub use Rattle.act_plans.proofs.Keys.{none_any, pairs_of_map}
 pub use Rattle.act_plans.proofs.Matching.{numbers_differ}
 pub use Rattle.act_plans.proofs.Numbers.{fails_more, in_one_to, passes_more}
 pub use Rattle.act_plans.proofs.Taking.{find_some}
-pub use Rattle.act_plans.specs.Runs.{first_bad_plan}
+pub use Rattle.act_plans.specs.Runs.{bad_step_of, callers_of_casts as callers_cast, first_bad_plan, plan_of as plan_among, steps_of_plan}
 pub use Rattle.act_plans.specs.Setups.{PlansFit}
+pub use Rattle.act_rules.proofs.Elements.{all_in, all_of_map, found_is}
 pub use Rattle.act_rules.proofs.Finding.{find-None}
 pub use Rattle.act_rules.proofs.Lists.{filter_map-same, find-map, length-filter_least, list_any-map, numbers_alike}
 pub use Rattle.act_rules.proofs.Steps.{after_all-append, outcomes-append}
-pub use Rattle.act_rules.specs.Grammar.{Script, spelled}
+pub use Rattle.act_rules.specs.Grammar.{Script, Script as Spelled, spelled}
 pub use Rattle.act_rules.specs.History.{ActorSpec, History, actors_naming, calls_of, cast_of, contains, is_caller, is_dead, is_retired, kept_of, opening}
 pub use Rattle.act_rules.specs.History.{runs_of}
 pub use Rattle.act_rules.specs.Laws.{history}
@@ -57,7 +58,7 @@ pub use Rattle.act_rules.specs.declared.script.Step.{Step}
 pub use Rattle.act_rules.specs.declared.script.Wrong.{Wrong}
 pub use Rattle.act_rules.specs.declared.script.Wrong.TheVariants.{BadPlan, TooMany}
 pub use Rattle.act_scripts.specs.Roles.{AreFitting}
-pub use Rattle.act_scripts.specs.Spelled.{FailsAt, spelled_script}
+pub use Rattle.act_scripts.specs.Spelled.{FailsAt, events_among, spelled_script, steps_among as items_steps}
 pub use Rattle.act_scripts.specs.declared.line.ScriptFault.{ScriptFault}
 pub use Rattle.act_scripts.specs.declared.script.Items.{Items}
 pub use Rattle.act_scripts.specs.declared.script.Items.TheVariants.{Steps}
@@ -77,7 +78,7 @@ pub use Rattle.std.proofs.Common.{All, AllPairs, Bool, Err, IfSome, IsSome, List
 pub use Rattle.std.proofs.Common.{decimal, drop, drop-cons, eq-eqb, false, filter, filter_map, find, get_or, if◌then◌else◌, inl, inr, is_some, length}
 pub use Rattle.std.proofs.Common.{length-append, map, nat_lt, not, option_and_then, option_copied, option_map, position, refl, reverse, rules, slice_get}
 pub use Rattle.std.proofs.Common.{string_bytes, subst, suc, sym, take, true, vec_len, zero, ℕ, ◌&&◌, ◌++◌, ◌+◌, ◌-◌, ◌<◌, ◌==◌, ◌||◌, ◌∙◌, ◌∷◌, ◌≡◌, ◌≢◌, ◌≤◌}
-pub use Rattle.std.proofs.KnownBytes.{Appends-trans, Keeps-refl}
+pub use Rattle.std.proofs.KnownBytes.{Keeps-refl}
 pub use Rattle.std.proofs.Math.Bool.{or-true}
 pub use Rattle.std.proofs.Math.ListN.{drop_of_length-le, set}
 pub use Rattle.std.proofs.lemmas.Bool.{eqb-true, ne_eqb, or_parts}
@@ -85,7 +86,7 @@ pub use Rattle.std.proofs.lemmas.Bool.Decides.{eqb_tells, leb_tells, nat_tests}
 pub use Rattle.std.proofs.lemmas.Fmt.{IsAscii-decimal, length-decimal-le}
 pub use Rattle.std.proofs.lemmas.Grind.{flat_map-append}
 pub use Rattle.std.proofs.lemmas.List.{append-nil, drop_more, get_or-map, length-drop, length-map, map-append, map_push, nil_from_length, reverse-append}
-pub use Rattle.std.proofs.lemmas.List.{reverse-reverse, take-append-drop, take_all, take_more}
+pub use Rattle.std.proofs.lemmas.List.{reverse-reverse, take-append-drop, take_all, take_more, take_rest}
 pub use Rattle.std.proofs.lemmas.List.Elements.{All-cons, All-map, filter-append, filter_agree, filter_passes}
 pub use Rattle.std.proofs.lemmas.List.Folds.{flat_map-map, list_any_at}
 pub use Rattle.std.proofs.lemmas.List.Kept.{AllPairs-filter}

@@ -1,11 +1,11 @@
 -- A play that ends as the threads did shows their summary.
-use Rattle.act_console.proofs.Common.{◌≡◌, ℕ, ◌+◌, ◌<◌, ◌≤◌, ◌==◌, Bool, true, false, cond, List, [], ◌∷◌, ◌++◌, length, Option, Some, None, refl}
-use Rattle.act_console.proofs.Common.{ap, sym, ◌∙◌, subst, arith, ◌||◌, find, is_some, list_any, eqb-true, space, actor_text, Event}
-use Rattle.act_console.proofs.Common.{Submission, Step, Answer, state_after, kept_at, ActorSpec, opening, contains, cast_of, is_caller, calls_of, kept_of}
-use Rattle.act_console.proofs.Common.{runs_of, is_retired, history, one_to, numbered_lines, line, future_text, kept_text, future_line, future_lines}
-use Rattle.act_console.proofs.Common.{actor_lines, stage_of, summary, list_any-map, OwnerView, EndView, Killed, Retired, Starved, end_id, IfRetired, owner_of}
-use Rattle.act_console.proofs.Common.{end_of, calls_of_owner, kept_of_owner, log_of_end, calls_in, kept_in, log_in, RanAll, IsJoined, casts_stay, all_in}
-use Rattle.act_console.proofs.Common.{found_is, world_lawful, calls_are, IsOwnerIn, IsEndIn, IsPlayOf, end_text, end_text_in, none_any, numbers_alike}
+use Rattle.act_console.proofs.Common.{◌≡◌, ℕ, ◌+◌, ◌<◌, ◌≤◌, ◌==◌, Bool, true, false, cond, List, [], ◌∷◌, ◌++◌, length, Option, Some, None, refl, ap, sym, ◌∙◌}
+use Rattle.act_console.proofs.Common.{subst, arith, ◌||◌, find, is_some, list_any, eqb-true, space, actor_text, Event, Submission, Step, Answer, state_after}
+use Rattle.act_console.proofs.Common.{kept_at, ActorSpec, contains, cast_of, is_caller, calls_of, kept_of, runs_of, is_retired, history, one_to, numbered_lines}
+use Rattle.act_console.proofs.Common.{line, future_text, kept_text, future_line, future_lines, actor_lines, stage_of, summary, list_any-map, OwnerView, EndView}
+use Rattle.act_console.proofs.Common.{Killed, Retired, Starved, end_id, IfRetired, owner_of, end_of, calls_of_owner, kept_of_owner, log_of_end, calls_in}
+use Rattle.act_console.proofs.Common.{kept_in, log_in, RanAll, IsJoined, casts_stay, all_in, found_is, world_lawful, calls_are, IsOwnerIn, IsEndIn, IsPlayOf}
+use Rattle.act_console.proofs.Common.{end_text, end_text_in, none_any, numbers_alike}
 use Rattle.std.proofs.Common.{flat_map}
 use Rattle.std.specs.Option.{option_map}
 use Rattle.act_console.specs.Threads.{joined_summary}

@@ -3,8 +3,8 @@ use Rattle.act_console.proofs.Common.{◌≡◌, ℕ, suc, ◌+◌, ◌<◌, ◌
 use Rattle.act_console.proofs.Common.{None, refl, sym, ◌∙◌, ap, arith, eq-eqb, inl, inr, filter, filter_map, find, slice_get, option_map, option_and_then}
 use Rattle.act_console.proofs.Common.{list_any, AllByRecursion, eqb_tells, length-map, filter_agree, or-true, filter_map-same, element, Step, Role, ActorSpec}
 use Rattle.act_console.proofs.Common.{contains, actors_naming, Script, Progress, nothing_done, is_refused, do_step, first_bad, first_bad_from, one_to}
-use Rattle.act_console.proofs.Common.{actor_spec_of, callers_of_roles, actors_of_roles, plan_in_script, bad_line, bad_lines, plans_in}
-use Rattle.act_plans.specs.Runs.{callers_of_casts as callers_cast, plan_of as plan_among, bad_step_of, first_bad_plan, steps_of_plan}
+use Rattle.act_console.proofs.Common.{actor_spec_of, callers_of_roles, actors_of_roles, plan_in_script, bad_line, bad_lines, plans_in, callers_cast, plan_among}
+use Rattle.act_console.proofs.Common.{bad_step_of, first_bad_plan, steps_of_plan}
 
 -- ---- the first refused step stands in its plan
 
@@ -48,7 +48,9 @@ any_cast c (role ∷ roles) = ap (λ (b : Bool). contains c role.callers || b) (
 callers_same : (roles : List Role) → callers_cast (map actor_spec_of roles) ≡ callers_of_roles roles
 callers_same roles = filter_agree (λ c. list_any (λ (cast : ActorSpec). contains c cast.callers) (map actor_spec_of roles)) (λ c. list_any (λ (role : Role). contains c role.callers) roles) (λ c. any_cast c roles) (one_to 16)
 
-actors_step : (c : ℕ) (role : Role) (roles : List Role) (b : Bool) → contains c role.callers ≡ b → actors_naming c (map actor_spec_of roles) ≡ actors_of_roles c roles → actors_naming c (map actor_spec_of (role ∷ roles)) ≡ actors_of_roles c (role ∷ roles)
+actors_step : (c : ℕ) (role : Role) (roles : List Role) (b : Bool) → contains c role.callers ≡ b
+    → actors_naming c (map actor_spec_of roles) ≡ actors_of_roles c roles
+    → actors_naming c (map actor_spec_of (role ∷ roles)) ≡ actors_of_roles c (role ∷ roles)
 actors_step c role roles true is same = rw is (ap (λ (rest : List ℕ). role.actor ∷ rest) same)
 actors_step c role roles false is same = rw is same
 
@@ -93,7 +95,8 @@ bad_same script c has =
     ∙ ap (λ (steps : List Step). with_caller c (first_bad (actors_of_roles c script.roles) steps)) (plan_found script c has)
 
 -- all callers in a row
-rows_same : (script : Script) → filter_map (bad_step_of (map actor_spec_of script.roles) (plans_in script)) (callers_cast (map actor_spec_of script.roles)) ≡ filter_map (λ (c : ℕ). with_caller c (bad_place script c)) (callers_of_roles script.roles)
+rows_same : (script : Script) → filter_map (bad_step_of (map actor_spec_of script.roles) (plans_in script))
+    (callers_cast (map actor_spec_of script.roles)) ≡ filter_map (λ (c : ℕ). with_caller c (bad_place script c)) (callers_of_roles script.roles)
 rows_same script =
     ap (filter_map (bad_step_of (map actor_spec_of script.roles) (plans_in script))) (callers_same script.roles)
     ∙ filter_map-same (bad_step_of (map actor_spec_of script.roles) (plans_in script)) (λ (c : ℕ). with_caller c (bad_place script c)) (callers_of_roles script.roles)
@@ -101,7 +104,13 @@ rows_same script =
 
 has_line : (script : Script) (c place : ℕ) → bad_place script c ≡ Some place → (line : ℕ) × (line_at script c place ≡ Some line)
 has_line script c place is =
-    let below : place < length (plan_in_script c script) = omega (arith, bad_within (actors_of_roles c script.roles) (map (λ (s : ℕ × Step × ℕ). s.1) (plan_in_script c script)) place is, length-map (plan_in_script c script) (λ (s : ℕ × Step × ℕ). s.1)) in
+    let below : place < length (plan_in_script c script) =
+    omega (
+      arith,
+      bad_within (actors_of_roles c script.roles) (map (λ (s : ℕ × Step × ℕ). s.1) (plan_in_script c script)) place is,
+      length-map
+          (plan_in_script c script) (λ (s : ℕ × Step × ℕ). s.1),
+    ) in
     let step = element (plan_in_script c script) place below in
     (step.0.2, ap (option_map (λ (s : ℕ × Step × ℕ). s.2)) step.1)
 
@@ -142,8 +151,12 @@ pub bad_plan_line : (script : Script) (c place : ℕ) → first_bad_plan (map ac
     → (line : ℕ) × (slice_get (bad_lines script) 0 ≡ Some line) × (option_map (λ (s : ℕ × Step × ℕ). s.2) (slice_get (plan_in_script c script) place) ≡ Some line)
 unfolding line_of_bad
 bad_plan_line script c place is known =
-    let found = head_found (bad_place script) (line_at script) (has_line script) c place (callers_of_roles script.roles) (ap (λ (l : List (ℕ × ℕ)). slice_get l 0) (sym (rows_same script)) ∙ is) in
-    (found.0, after_none (map (λ (s : ℕ × Step × ℕ). s.2) (filter (λ (s : ℕ × Step × ℕ). not (contains s.0 (callers_of_roles script.roles))) script.steps)) (filter_map (λ (c : ℕ). bad_line c script) (callers_of_roles script.roles)) known ∙ found.1, found.2)
+    let found = head_found (bad_place script) (line_at script) (has_line script) c place (callers_of_roles script.roles) (ap (λ (l : List (ℕ × ℕ)). slice_get l 0) (sym (rows_same script)) ∙ is) in (
+      found.0,
+      after_none (map (λ (s : ℕ × Step × ℕ). s.2) (filter (λ (s : ℕ × Step × ℕ). not (contains s.0 (callers_of_roles script.roles))) script.steps))
+          (filter_map (λ (c : ℕ). bad_line c script) (callers_of_roles script.roles)) known ∙ found.1,
+      found.2,
+    )
 
 -- a script has no bad line where each step is of a caller that a role names, and no plan has a step that is refused
 pub no_bad_line : (script : Script) → first_bad_plan (map actor_spec_of script.roles) (plans_in script) ≡ None

@@ -58,7 +58,8 @@ one_stage world seen a n is found =
 pub uncast : (h : History) (a : ℕ) → cast_of a h ≡ None → stage_of a h ≡ None
 uncast h a none = ap (λ (cast : Option ActorSpec). option_map (λ state. stage_text (is_dead a h) (is_retired a h) (state_after state (runs_of a h))) (option_map (λ cast. cast.opening) cast)) none
 
-pub stage_at : (h : History) (a : ℕ) (cast : ActorSpec) (dead retired : Bool) (state : KindState) → cast_of a h ≡ Some cast → is_dead a h ≡ dead → is_retired a h ≡ retired → state ≡ state_after cast.opening (runs_of a h) → stage_of a h ≡ Some (stage_text dead retired state)
+pub stage_at : (h : History) (a : ℕ) (cast : ActorSpec) (dead retired : Bool) (state : KindState) → cast_of a h ≡ Some cast → is_dead a h ≡ dead
+    → is_retired a h ≡ retired → state ≡ state_after cast.opening (runs_of a h) → stage_of a h ≡ Some (stage_text dead retired state)
 stage_at h a cast dead retired state is died ended same =
     ap (λ (cast : Option ActorSpec). option_map (λ state. stage_text (is_dead a h) (is_retired a h) (state_after state (runs_of a h))) (option_map (λ cast. cast.opening) cast)) is
     ∙ ap (λ (b : Bool). Some (stage_text b (is_retired a h) (state_after cast.opening (runs_of a h)))) died
@@ -73,9 +74,10 @@ stages_are h a (Some (Died dead)) is = stage_at h a is.cast true (is_retired a h
 stages_are h a (Some (Ended retired)) is = stage_at h a is.cast false true retired.state is.cast_is is.lived is.ended is.state
 
 -- the lines of one number more
-pub next_lines : (lines : ℕ → List ℕ) (n : ℕ) (old new text : List ℕ) → new ≡ text ++ lines (n + 1) → text ≡ old ++ flat_map lines (one_to n) → new ≡ old ++ flat_map lines (one_to (n + 1))
-next_lines lines n old new text one so_far =
-    one
+pub next_lines : (lines : ℕ → List ℕ) (n : ℕ) (old new text shown : List ℕ) → new ≡ text ++ shown → shown ≡ lines (n + 1)
+    → text ≡ old ++ flat_map lines (one_to n) → new ≡ old ++ flat_map lines (one_to (n + 1))
+next_lines lines n old new text shown is one so_far =
+    is ∙ ap (λ (back : List ℕ). text ++ back) one
     ∙ ap (λ (front : List ℕ). front ++ lines (n + 1)) so_far
     ∙ append_assoc old (flat_map lines (one_to n)) (lines (n + 1))
     ∙ ap (λ (m : ℕ). old ++ (flat_map lines (one_to n) ++ lines m)) (add-one n)
@@ -113,7 +115,8 @@ summary_is casts events world refines =
     (subst (λ (f : ℕ → List RunItem). summary h ≡ summary_of (λ c. calls_of c h) (λ c. kept_of c h) (λ a. stage_of a h) f) (λ i a. logs_are h a (slice_get world.slots a) lawful (refines.actors a) i) refl))))
 
 -- the report of events that were told in full, and of the world after them
-pub report_is : (casts : List ActorSpec) (events : List Event) (old new : WorldView) (empty told shown : List Outcome) → IsReachedBy casts [] old → HasPlayed events old new empty told → empty ≡ [] → shown ≡ told → world_report shown new ≡ report (opening casts) events
+pub report_is : (casts : List ActorSpec) (events : List Event) (old new : WorldView) (empty told shown : List Outcome) → IsReachedBy casts [] old
+    → HasPlayed events old new empty told → empty ≡ [] → shown ≡ told → world_report shown new ≡ report (opening casts) events
 report_is casts events old new empty told shown opened played none same =
     let after = played casts [] opened in
     ap (λ (told : List Outcome). world_report told new) (same ∙ after.1 ∙ ap (λ (front : List Outcome). front ++ outcomes (opening casts) events) none)

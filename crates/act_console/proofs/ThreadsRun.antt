@@ -1,16 +1,15 @@
 -- A script's roles and plans as a run takes them, and what the run tells of the script.
 use Rattle.act_console.proofs.Common.{◌≡◌, ◌≢◌, ℕ, ◌<◌, ◌≤◌, ◌==◌, Bool, true, false, not, ◌||◌, if◌then◌else◌, List, [], ◌∷◌, ◌++◌, length, map, get_or}
 use Rattle.act_console.proofs.Common.{Option, Some, None, Result, Ok, Err, All, AllPairs, refl, sym, ◌∙◌, ap, subst, arith, filter, slice_get, nat_lt}
-use Rattle.act_console.proofs.Common.{option_map, IsSome, Vec, list_any, nat_tests, length-map, All-cons, All-map, filter_passes, slice_get-map}
-use Rattle.act_console.proofs.Common.{KindState, Role, Step, Wrong, TooMany, BadPlan, ActorSpec, contains, one_to, Threads, actor_spec_of, callers_of_roles}
+use Rattle.act_console.proofs.Common.{option_map, IsSome, Vec, list_any, nat_tests, length-map, All-cons, All-map, filter_passes, slice_get-map, KindState}
+use Rattle.act_console.proofs.Common.{Role, Step, Wrong, TooMany, BadPlan, ActorSpec, contains, one_to, Threads, actor_spec_of, callers_of_roles}
 use Rattle.act_console.proofs.Common.{plan_in_script, is_too_many, bad_lines, or_fault, with_good_plans, list_any-map, length-filter_least, Cast, actor_spec}
 use Rattle.act_console.proofs.Common.{OwnerView, EndView, PlansFit, pairs_of_map, first_bad_plan, IsJoined, IsPlayedAsPlanned, RunFault, plan_view, IsFault}
-use Rattle.act_console.proofs.Common.{Items, Steps, AreFitting, Mark, plan_from, script_of, mark_view, step_view, line_in, first_stranger, HasLine, Explains}
-use Rattle.act_console.proofs.Common.{plans_in, joined_summary, IsSummary, all_of_map, Sorted, AreSorted}
-use Rattle.act_rules.specs.Grammar.{Script as Spelled, spelled}
+use Rattle.act_console.proofs.Common.{Items, Steps, AreFitting, StepLine, plan_from, script_of, step_line_view, step_view, line_in, first_stranger, HasLine}
+use Rattle.act_console.proofs.Common.{Explains, plans_in, joined_summary, IsSummary, all_of_map, Sorted, AreSorted, Spelled, spelled, events_among, items_steps}
+use Rattle.act_console.proofs.Common.{spelled_script}
 use Rattle.act_executor.specs.declared.run.RunFault.TheVariants as faults
 use Rattle.act_scripts.specs.declared.script.Script.{Script}
-use Rattle.act_scripts.specs.Spelled.{events_among, steps_among as items_steps, spelled_script}
 use Rattle.act_console.specs.Threads.{spelled_threads}
 use Rattle.act_console.proofs.Ended.{summary_same}
 use Rattle.act_console.proofs.Sorting.{callers_differ}
@@ -80,7 +79,8 @@ module _ {K : Type 0} (state : K → KindState) (casts : List (Cast K)) (roles :
         (subst (λ (plans : List (ℕ × List Step)). IsJoined (map (actor_spec state) casts) plans owners ends) sorted joined)
 
     -- and a play of its plans is one of theirs
-    pub planned_same : (owners : List OwnerView) (ends : List EndView) → IsPlayedAsPlanned (map (actor_spec state) casts) (map plan_view plans) owners ends → IsPlayedAsPlanned (map actor_spec_of roles) (plans_in (script_of roles steps)) owners ends
+    pub planned_same : (owners : List OwnerView) (ends : List EndView) → IsPlayedAsPlanned (map (actor_spec state) casts) (map plan_view plans) owners ends
+        → IsPlayedAsPlanned (map actor_spec_of roles) (plans_in (script_of roles steps)) owners ends
     planned_same owners ends planned =
         subst (λ (casts : List ActorSpec). IsPlayedAsPlanned casts (plans_in (script_of roles steps)) owners ends) same
         (subst (λ (plans : List (ℕ × List Step)). IsPlayedAsPlanned (map (actor_spec state) casts) plans owners ends) sorted planned)
@@ -125,14 +125,16 @@ not_too_many roles steps fit =
     go a c below under = grind (arith, nat_tests)
 
 -- a script whose plans are good
-pub good_script : (roles : List Role) (steps : List (ℕ × Step × ℕ)) → AreFitting (map actor_spec_of roles) → slice_get (bad_lines (script_of roles steps)) 0 ≡ None → with_good_plans 16 8 (Ok (script_of roles steps)) ≡ Ok (script_of roles steps)
+pub good_script : (roles : List Role) (steps : List (ℕ × Step × ℕ)) → AreFitting (map actor_spec_of roles)
+    → slice_get (bad_lines (script_of roles steps)) 0 ≡ None → with_good_plans 16 8 (Ok (script_of roles steps)) ≡ Ok (script_of roles steps)
 good_script roles steps fit none =
     let script : Spelled = script_of roles steps in
     ap (λ b. or_fault (if b then Some (0, TooMany) else option_map (λ n. (n, BadPlan)) (slice_get (bad_lines script) 0)) script) (not_too_many roles steps fit)
     ∙ ap (λ (line : Option ℕ). or_fault (option_map (λ n. (n, BadPlan)) line) script) none
 
 -- a script with a bad line
-pub bad_script : (roles : List Role) (steps : List (ℕ × Step × ℕ)) (line : ℕ) → AreFitting (map actor_spec_of roles) → slice_get (bad_lines (script_of roles steps)) 0 ≡ Some line → with_good_plans 16 8 (Ok (script_of roles steps)) ≡ Err (line, BadPlan)
+pub bad_script : (roles : List Role) (steps : List (ℕ × Step × ℕ)) (line : ℕ) → AreFitting (map actor_spec_of roles)
+    → slice_get (bad_lines (script_of roles steps)) 0 ≡ Some line → with_good_plans 16 8 (Ok (script_of roles steps)) ≡ Err (line, BadPlan)
 bad_script roles steps line fit bad =
     let script : Spelled = script_of roles steps in
     ap (λ b. or_fault (if b then Some (0, TooMany) else option_map (λ n. (n, BadPlan)) (slice_get (bad_lines script) 0)) script) (not_too_many roles steps fit)
@@ -143,7 +145,8 @@ some_first [] ys x is = absurd (cc is)
 some_first (first ∷ xs) ys x is = is
 
 -- a script with a caller that no role names
-pub strange_script : (script : Script) (steps : List (ℕ × Step × ℕ)) (line : ℕ) → script.items ≡ Steps steps → first_stranger script.casts steps ≡ Some line → AreFitting (map actor_spec_of script.casts) → with_good_plans 16 8 (Ok (spelled_script script)) ≡ Err (line, BadPlan)
+pub strange_script : (script : Script) (steps : List (ℕ × Step × ℕ)) (line : ℕ) → script.items ≡ Steps steps → first_stranger script.casts steps ≡ Some line
+    → AreFitting (map actor_spec_of script.casts) → with_good_plans 16 8 (Ok (spelled_script script)) ≡ Err (line, BadPlan)
 strange_script script steps line is strange fit =
     ap (λ (items : Items). with_good_plans 16 8 (Ok (record { roles = script.casts; events = events_among items; steps = items_steps items }))) is
     ∙ bad_script script.casts steps line fit (some_first (map (λ (s : ℕ × Step × ℕ). s.2) (filter (λ (s : ℕ × Step × ℕ). not (contains s.0 (callers_of_roles script.casts))) steps)) _ line strange)
@@ -169,29 +172,32 @@ kept_mapped {X} g p f (x ∷ xs) = go (p (f x)) (kept_mapped g p f xs)
     go true same = ap (λ rest. g (f x) ∷ rest) same
     go false same = same
 
--- the line of a caller's step is that of its mark
-line_of_mark : (roles : List Role) (steps : List (ℕ × Step × ℕ)) (marks : List Mark) (c place : ℕ) → map mark_view marks ≡ map step_view steps → line_in c place marks ≡ option_map (λ (s : ℕ × Step × ℕ). s.2) (slice_get (plan_in_script c (script_of roles steps)) place)
-line_of_mark roles steps marks c place same =
+-- the line of a caller's step is that of its place
+line_of_step : (roles : List Role) (steps : List (ℕ × Step × ℕ)) (step_lines : List StepLine) (c place : ℕ)
+    → map step_line_view step_lines ≡ map step_view steps
+    → line_in c place step_lines ≡ option_map (λ (s : ℕ × Step × ℕ). s.2) (slice_get (plan_in_script c (script_of roles steps)) place)
+line_of_step roles steps step_lines c place same =
     ap (λ (lines : List ℕ). slice_get lines place)
-    (sym (kept_mapped (λ (m : ℕ × ℕ). m.1) (λ (m : ℕ × ℕ). m.0 == c) mark_view marks)
+    (sym (kept_mapped (λ (m : ℕ × ℕ). m.1) (λ (m : ℕ × ℕ). m.0 == c) step_line_view step_lines)
     ∙ ap (λ (seen : List (ℕ × ℕ)). map (λ (m : ℕ × ℕ). m.1) (filter (λ (m : ℕ × ℕ). m.0 == c) seen)) same
     ∙ kept_mapped (λ (m : ℕ × ℕ). m.1) (λ (m : ℕ × ℕ). m.0 == c) step_view steps)
     ∙ slice_get-map (λ (s : ℕ × Step × ℕ). s.2) (plan_in_script c (script_of roles steps)) place
 
-module _ (roles : List Role) (steps : List (ℕ × Step × ℕ)) (marks : List Mark) (marked : map mark_view marks ≡ map step_view steps) (known : first_stranger roles steps ≡ None) (casts : List ActorSpec) (plans : List (ℕ × List Step))
+module _ (roles : List Role) (steps : List (ℕ × Step × ℕ)) (step_lines : List StepLine) (listed : map step_line_view step_lines ≡ map step_view steps)
+    (known : first_stranger roles steps ≡ None) (casts : List ActorSpec) (plans : List (ℕ × List Step))
     (same : first_bad_plan casts plans ≡ first_bad_plan (map actor_spec_of roles) (plans_in (script_of roles steps))) where
-  bad_line_of : (c place : ℕ) → first_bad_plan casts plans ≡ Some (c, place) → (line : ℕ) × (slice_get (bad_lines (script_of roles steps)) 0 ≡ Some line) × (line_in c place marks ≡ Some line)
+  bad_line_of : (c place : ℕ) → first_bad_plan casts plans ≡ Some (c, place) → (line : ℕ) × (slice_get (bad_lines (script_of roles steps)) 0 ≡ Some line) × (line_in c place step_lines ≡ Some line)
   bad_line_of c place is =
       let bad = bad_plan_line (script_of roles steps) c place (sym same ∙ is) known in
-      (bad.0, bad.1, line_of_mark roles steps marks c place marked ∙ bad.2)
+      (bad.0, bad.1, line_of_step roles steps step_lines c place listed ∙ bad.2)
 
-  -- the step of a bad plan has a mark
-  pub has_line : (fault : RunFault) → IsFault casts plans fault → HasLine marks fault
+  -- the step of a bad plan has a line
+  pub has_line : (fault : RunFault) → IsFault casts plans fault → HasLine step_lines fault
   has_line (faults.BadPlan c place) told = let bad = bad_line_of c place told in subst IsSome (sym bad.2) refl
   has_line fault told = tt
 
   -- what a run's fault tells is so of its script, if the roles fit: the line of the first fault, or that plans are good
-  pub explains : (fault : RunFault) → AreFitting (map actor_spec_of roles) → IsFault casts plans fault → Explains marks fault (with_good_plans 16 8 (Ok (script_of roles steps)))
+  pub explains : (fault : RunFault) → AreFitting (map actor_spec_of roles) → IsFault casts plans fault → Explains step_lines fault (with_good_plans 16 8 (Ok (script_of roles steps)))
   explains faults.TooMany fit told = absurd told
   explains (faults.BadPlan c place) fit told = let bad = bad_line_of c place told in (bad.0, bad.2, bad_script roles steps bad.0 fit bad.1)
   explains faults.NoThread fit told = (script_of roles steps, good_script roles steps fit (no_bad_line (script_of roles steps) (sym same ∙ told) known))

@@ -1,7 +1,7 @@
 -- What a play and a run in threads wrote, by what there was to be written.
-use Rattle.act_console.proofs.Common.{ℕ, ◌+◌, List, Option, Result, Ok, Err, ap, subst, sym, ◌∙◌, string_bytes, Appends}
-use Rattle.act_console.proofs.Common.{MAX_SCRIPT_BYTES, Wrong, Play, Script, spelled, text_of, Output, Report, Refusal, ConsoleFault, IsWholeInput}
-use Rattle.act_console.proofs.Common.{AppendsPrefix, Wrote, IsPlayOutput, ScriptPlayed, IsToldOf, IsThreadsOutput, Threaded, spelled_threads, Keeps-refl}
+use Rattle.act_console.proofs.Common.{ℕ, ◌+◌, List, Option, Result, Ok, Err, ap, subst, sym, ◌∙◌, string_bytes, Appends, MAX_SCRIPT_BYTES, Wrong, Play, Script}
+use Rattle.act_console.proofs.Common.{spelled, text_of, Output, Report, Refusal, ConsoleFault, IsWholeInput, AppendsPrefix, Wrote, IsPlayOutput, ScriptPlayed}
+use Rattle.act_console.proofs.Common.{IsToldOf, IsThreadsOutput, Threaded, spelled_threads, Keeps-refl}
 use Rattle.act_console.specs.declared.fault.ConsoleFault.TheVariants as faults
 
 module _ (had left old new : Option (List ℕ)) (bytes : List ℕ) (whole : IsWholeInput (MAX_SCRIPT_BYTES + 1) had left bytes) where

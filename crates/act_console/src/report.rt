@@ -428,47 +428,17 @@ fn push_actor<K: Actor>(
     Ok(())
 }
 
-/// Adds a line for each future of the caller of this number, where the world has it.
-fn push_caller<K: Actor>(text: &mut String, world: &World<K>, number: u8) -> Result<(), NoMemory>
-    requires { (1 ≤ number) × (number ≤ MAX_CALLERS) }
-    ensures { OnOk result (string_bytes text.new
-        ≡ string_bytes text.old ++ caller_lines (world_view K.state world.now) number) }
-{
-    let Some(caller) = CallerId::new(number) else {
-        return Ok(());
-    };
-    let Some(owner) = world.owner(caller) else {
-        return Ok(());
-    };
-    push_futures(text, owner)?;
-    Ok(())
-}
-
 /// Adds a line for each future, callers by rising number.
 fn push_callers<K: Actor>(text: &mut String, world: &World<K>) -> Result<(), NoMemory>
     ensures { OnOk result (string_bytes text.new ≡
         string_bytes text.old ++ flat_map (caller_lines (world_view K.state world.now)) (one_to MAX_CALLERS)) }
 {
     for before in 0..MAX_CALLERS {
-        push_caller(text, world, before + 1)?;
+        let caller = CallerId::new(before + 1).unwrap();
+        if let Some(owner) = world.owner(caller) {
+            push_futures(text, owner)?;
+        }
     }
-    Ok(())
-}
-
-/// Adds the lines of the actor of this number, where the world has it.
-fn push_stage<K: Actor>(text: &mut String, world: &World<K>, number: u8) -> Result<(), NoMemory>
-    requires { (1 ≤ number) × (number ≤ MAX_ACTORS) }
-    ensures { OnOk result (string_bytes text.new
-        ≡ string_bytes text.old ++ stage_lines (world_view K.state world.now) number) }
-{
-    let Some(actor) = ActorId::new(number) else {
-        return Ok(());
-    };
-    let Some(stage) = world.stage(actor) else {
-        return Ok(());
-    };
-    push_actor(text, actor, &stage)?;
-    push_items(text, actor, log_of(&stage))?;
     Ok(())
 }
 
@@ -478,7 +448,11 @@ fn push_stages<K: Actor>(text: &mut String, world: &World<K>) -> Result<(), NoMe
         string_bytes text.old ++ flat_map (stage_lines (world_view K.state world.now)) (one_to MAX_ACTORS)) }
 {
     for before in 0..MAX_ACTORS {
-        push_stage(text, world, before + 1)?;
+        let actor = ActorId::new(before + 1).unwrap();
+        if let Some(stage) = world.stage(actor) {
+            push_actor(text, actor, &stage)?;
+            push_items(text, actor, log_of(&stage))?;
+        }
     }
     Ok(())
 }

@@ -71,46 +71,17 @@ fn push_actor<K: Actor>(text: &mut String, actor: ActorId, ended: &Ended<K>) -> 
     Ok(())
 }
 
-/// Adds a line for each future of the caller of this number, if it is there.
-fn push_owner(text: &mut String, owners: &[Owner], number: u8) -> Result<(), NoMemory>
-    requires { (1 ≤ number) × (number ≤ MAX_CALLERS) }
-    ensures { OnOk result (string_bytes text.new ≡ string_bytes text.old ++ owner_lines_in owners.now number) }
-{
-    let caller = CallerId::new(number).unwrap();
-    let Some(owner) = owner_of(owners, caller) else {
-        return Ok(());
-    };
-    push_futures(text, owner)?;
-    Ok(())
-}
-
 /// Adds a line for each future, callers by rising number.
 fn push_owners(text: &mut String, owners: &[Owner]) -> Result<(), NoMemory>
     ensures { OnOk result (string_bytes text.new
         ≡ string_bytes text.old ++ flat_map (owner_lines_in owners.now) (one_to MAX_CALLERS)) }
 {
     for before in 0..MAX_CALLERS {
-        push_owner(text, owners, before + 1)?;
+        let caller = CallerId::new(before + 1).unwrap();
+        if let Some(owner) = owner_of(owners, caller) {
+            push_futures(text, owner)?;
+        }
     }
-    Ok(())
-}
-
-/// Adds the lines of the actor of this number, if it is there.
-fn push_ended<K: Actor>(
-    text: &mut String,
-    actors: &[Finished<K>],
-    number: u8,
-) -> Result<(), NoMemory>
-    requires { (1 ≤ number) × (number ≤ MAX_ACTORS) }
-    ensures { OnOk result (string_bytes text.new ≡
-        string_bytes text.old ++ end_lines_in (map (λ actor. end_view K.state actor.ended) actors.now) number) }
-{
-    let actor = ActorId::new(number).unwrap();
-    let Some(ended) = end_of(actors, actor) else {
-        return Ok(());
-    };
-    push_actor(text, actor, ended)?;
-    push_items(text, actor, ended.log())?;
     Ok(())
 }
 
@@ -121,7 +92,11 @@ fn push_ends<K: Actor>(text: &mut String, actors: &[Finished<K>]) -> Result<(), 
         (one_to MAX_ACTORS)) }
 {
     for before in 0..MAX_ACTORS {
-        push_ended(text, actors, before + 1)?;
+        let actor = ActorId::new(before + 1).unwrap();
+        if let Some(ended) = end_of(actors, actor) {
+            push_actor(text, actor, ended)?;
+            push_items(text, actor, ended.log())?;
+        }
     }
     Ok(())
 }

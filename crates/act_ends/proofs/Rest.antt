@@ -1,53 +1,19 @@
 -- Actors that retire, one after another.
-use Rattle.std.proofs.Common.{◌≡◌, ℕ, ◌+◌, ◌≤◌, arith, Bool, true, false, List, [], ◌∷◌, ◌++◌, Option, Some, None, Ok, refl, ap, sym, ◌∙◌, subst}
-use Rattle.std.specs.Prelude.{◌||◌, ◌==◌, is_some, map}
+use Rattle.act_ends.proofs.Common.{◌≡◌, ℕ, ◌+◌, ◌≤◌, arith, Bool, true, false, List, [], ◌∷◌, ◌++◌, Option, Some, None, Ok, refl, ap, sym, ◌∙◌, subst, ◌||◌}
+use Rattle.act_ends.proofs.Common.{◌==◌, is_some, map, ActorSpec, History, contains, cast_of, is_dead, is_ended, history, WorldView, world_summary, IsResting}
 use Rattle.std.proofs.lemmas.Bool.{eqb-true, eqb-false, eq-eqb}
 use Rattle.act_rules.specs.declared.event.Event.{Event}
 use Rattle.act_rules.specs.declared.event.Event.TheVariants as event
 use Rattle.act_rules.specs.declared.outcome.Did.{Did}
 use Rattle.act_rules.specs.declared.outcome.WorldRefusal.{WorldRefusal}
-use Rattle.act_rules.specs.History.{ActorSpec, History, contains, cast_of, is_dead, is_ended}
-use Rattle.act_rules.specs.Laws.{history}
 use Rattle.act_rules.specs.Report.{summary}
 use Rattle.act_rules.specs.Rules.{outcome_by, outcome_of, refusal_of, add_event, after_by}
-use Rattle.act_world.specs.View.{WorldView}
 use Rattle.act_world.specs.IsReachedBy.{IsReachedBy}
 use Rattle.act_early.specs.Told.{told_at_rest}
 use Rattle.act_early.proofs.Told.{ended_told, at_rest}
 use Rattle.act_early.proofs.Worlds.{contains_push, or_second}
-use Rattle.act_console.specs.Parts.{world_summary}
 use Rattle.act_console.proofs.Shown.{summary_is}
-use Rattle.act_ends.specs.Rest.{IsResting}
 use Rattle.act_rules.proofs.Events.{history_more}
-
--- an actor that has its cast, and doesn't run, ended
-pub rest_none : (h : History) (a : ℕ) → cast_of a h ≡ None → is_some (cast_of a h) ≡ true → is_ended a h ≡ true
-rest_none h a none there = let bad : false ≡ true = sym (ap (λ (cast : Option ActorSpec). is_some cast) none) ∙ there in cc
-
--- before an actor more, where that one ended
-pub rest_still : (casts : List ActorSpec) (h : History) (n a : ℕ) (world : WorldView) → a ≡ n + 1
-    → ((events : List Event) → IsReachedBy casts events world → is_some (cast_of a (history casts events)) ≡ true → is_ended a (history casts events) ≡ true)
-    → IsResting casts h n world → IsResting casts h (n + 1) world
-rest_still casts h n a world next ended is = record {
-  events = is.events;
-  reached = is.reached;
-  retired = is.retired;
-  same = is.same;
-  rests = rests;
-}
-  where
-    Rests : ℕ → Type 0
-    Rests b = is_some (cast_of b h) ≡ true → (is_dead b h || contains b is.retired) ≡ true
-
-    last : Rests a
-    last = subst (λ (g : History). is_some (cast_of a g) ≡ true → is_ended a g ≡ true) is.same (ended is.events is.reached)
-
-    go : (b : ℕ) → 1 ≤ b → (c : Bool) → (b == a) ≡ c → b ≤ n + 1 → Rests b
-    go b low true same high = subst Rests (sym (eqb-true b a same)) last
-    go b low false other high = let differs : b ≡ a → ⊥ = eqb-false b a other in is.rests b low (omega arith)
-
-    rests : (b : ℕ) → 1 ≤ b → b ≤ n + 1 → Rests b
-    rests b low high = go b low (b == a) refl high
 
 accepted : (h : History) (event : Event) (refusal : Option WorldRefusal) (did : Did) → Ok did ≡ outcome_by h event refusal → refusal ≡ None
 accepted h event None did e = refl
@@ -96,7 +62,8 @@ rest_more casts h n a old new did next told reached is = record {
     rests b low high = go b low (b == a) refl high
 
 -- nothing rests yet
-pub rest_none_yet : (casts : List ActorSpec) (events : List Event) (world : WorldView) → IsReachedBy casts events world → IsResting casts (history casts events) 0 world
+pub rest_none_yet : (casts : List ActorSpec) (events : List Event) (world : WorldView) → IsReachedBy casts events world
+    → IsResting casts (history casts events) 0 world
 rest_none_yet casts events world reached = record {
   events = events;
   reached = reached;

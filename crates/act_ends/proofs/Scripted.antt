@@ -1,8 +1,7 @@
 -- The plans of a script that was read.
-use Rattle.std.proofs.Common.{◌≡◌, ℕ, List, map, ap, sym, ◌∙◌}
+use Rattle.act_ends.proofs.Common.{◌≡◌, ℕ, List, map, ap, sym, ◌∙◌, callers_of_roles}
 use Rattle.act_rules.specs.declared.script.Role.{Role}
 use Rattle.act_rules.specs.declared.script.Step.{Step}
-use Rattle.act_rules.specs.Scripts.{callers_of_roles}
 use Rattle.act_scripts.specs.declared.script.Items.{Items}
 use Rattle.act_scripts.specs.declared.script.Items.TheVariants.{Steps}
 use Rattle.act_scripts.specs.declared.script.Script.{Script}
@@ -13,7 +12,8 @@ use Rattle.act_console.specs.Plans.{AreSorted, plan_from}
 use Rattle.act_ends.specs.declared.planned.Planned.{Planned}
 use Rattle.act_ends.specs.Scripted.{AreOf}
 
-pub planned_as : (script : Script) (steps : List (ℕ × Step × ℕ)) (seen : List Role) (sorted : Sorted) (planned : Planned) → script.items ≡ Steps steps → seen ≡ script.casts
+pub planned_as : (script : Script) (steps : List (ℕ × Step × ℕ)) (seen : List Role) (sorted : Sorted) (planned : Planned) → script.items ≡ Steps steps
+    → seen ≡ script.casts
     → AreSorted (callers_of_roles seen) steps sorted → planned.roles ≡ script.casts → planned.plans ≡ sorted.plans → AreOf (spelled_script script) planned
 planned_as script steps seen sorted planned items same are roles plans = record {
   roles = roles;

@@ -5,7 +5,7 @@ ghost use Rattle.act_ends.specs.Frontier.{Extends};
 
 use crate::fault::PlansFault;
 use act_actor::{Cast, cast_fits};
-use act_console::{Mark, Sorted, first_stranger, line_of, sort};
+use act_console::{Sorted, StepLine, first_stranger, line_of, sort};
 use act_plans::{CallerSetup, Plan, Prepared, first_bad_setup, plans_fit, prepare};
 use act_rules::{KindName, Mode, Role, Step, Wrong};
 use act_scripts::{Items, Script, ScriptFault, read_script};
@@ -34,7 +34,7 @@ fn good_plans(
     alloc: Global,
     casts: Vec<Cast<KindName>>,
     plans: Vec<(CallerId, Plan)>,
-    marks: &[Mark],
+    step_lines: &[StepLine],
 ) -> Result<Plans, PlansFault> {
     if !cast_fits(&casts) || !plans_fit(&casts, &plans) {
         drop(casts);
@@ -46,7 +46,7 @@ fn good_plans(
         Ok(None) => Ok(prepared),
         Ok(Some((caller, place))) => {
             drop(prepared);
-            let line = line_of(marks, caller, place).unwrap_or(0);
+            let line = line_of(step_lines, caller, place).unwrap_or(0);
             Err(PlansFault::Line(line, Wrong::BadPlan))
         }
         Err(error) => {
@@ -67,9 +67,9 @@ fn plans_of(
         drop(steps);
         return Err(PlansFault::Line(line, Wrong::BadPlan));
     }
-    let Sorted { plans, marks } = sort(alloc, roles.as_slice(), steps)?;
+    let Sorted { plans, step_lines } = sort(alloc, roles.as_slice(), steps)?;
     let casts = casts_of(alloc, roles)?;
-    good_plans(alloc, casts, plans, &marks)
+    good_plans(alloc, casts, plans, &step_lines)
 }
 
 /// The plans that a script for threads spells.

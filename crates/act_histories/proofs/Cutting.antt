@@ -1,10 +1,9 @@
 -- Where the lines of what was left begin, line by line.
-use Rattle.std.proofs.Common.{◌≡◌, ◌≢◌, ◌⊎◌, inl, inr, ℕ, ◌+◌, ◌-◌, ◌==◌, cond, Bool, true, false, List, [], ◌∷◌, ◌++◌, length, drop, refl, sym, ap, ◌∙◌, arith, append_assoc}
+use Rattle.act_histories.proofs.Common.{◌≡◌, ◌≢◌, inl, inr, ℕ, ◌+◌, ◌-◌, ◌==◌, cond, Bool, true, false, List, [], ◌∷◌, ◌++◌, refl, sym, ap, ◌∙◌, append_assoc}
+use Rattle.act_histories.proofs.Common.{tells_left, told_part}
 use Rattle.std.proofs.lemmas.Bool.{eqb-true}
-use Rattle.std.proofs.lemmas.List.{length-append}
 use Rattle.std.proofs.lemmas.List.Elements.{All-head, All-tail}
-use Rattle.act_decisions.proofs.Exact.{IsOfOneLine, IsCut, drop_front}
-use Rattle.act_histories.specs.Cut.{tells_left, told_part}
+use Rattle.act_decisions.proofs.Exact.{IsOfOneLine, IsCut}
 
 other_byte : (b : ℕ) (line : List ℕ) → IsOfOneLine (b ∷ line) → (b == 10) ≡ false
 other_byte b line plain = go (b == 10) refl
@@ -21,7 +20,8 @@ inside (b ∷ line) below plain =
 
 inside_last : (line : List ℕ) → IsOfOneLine line → told_part false line ≡ []
 inside_last [] plain = refl
-inside_last (b ∷ line) plain = ap (λ (begins : Bool). told_part begins line) (other_byte b line plain) ∙ inside_last line (All-tail (λ (b : ℕ). b ≢ 10) b line plain)
+inside_last (b ∷ line) plain = ap (λ (begins : Bool). told_part begins line) (other_byte b line plain)
+    ∙ inside_last line (All-tail (λ (b : ℕ). b ≢ 10) b line plain)
 
 -- a first line that tells nothing of what was left
 first_line : (line below : List ℕ) → IsOfOneLine line → tells_left (line ++ 10 ∷ below) ≡ false → told_part true (line ++ 10 ∷ below) ≡ told_part true below
@@ -42,19 +42,18 @@ pub record IsLeft (bytes left : List ℕ) : Type 0 where
   pub parts : bytes ≡ front ++ left
   pub told : told_part true bytes ≡ told_part true left
 
-pub all_left : (bytes : List ℕ) → IsLeft bytes bytes
-all_left bytes = record { front = []; parts = refl; told = refl }
-
 -- one line less
 pub one_less : (bytes left line below : List ℕ) → IsOfOneLine line → IsCut left line below → tells_left left ≡ false → IsLeft bytes left → IsLeft bytes below
 one_less bytes left line below plain (inl cut) none so_far = record {
   front = so_far.front ++ (line ++ 10 ∷ []);
-  parts = so_far.parts ∙ ap (λ (l : List ℕ). so_far.front ++ l) (cut ∙ sym (append_assoc line (10 ∷ []) below)) ∙ sym (append_assoc so_far.front (line ++ 10 ∷ []) below);
+  parts = so_far.parts ∙ ap (λ (l : List ℕ). so_far.front ++ l) (cut ∙ sym (append_assoc line (10 ∷ []) below))
+      ∙ sym (append_assoc so_far.front (line ++ 10 ∷ []) below);
   told = so_far.told ∙ ap (told_part true) cut ∙ first_line line below plain (ap tells_left (sym cut) ∙ none);
 }
 one_less bytes left line below plain (inr (all, empty)) none so_far = record {
   front = so_far.front ++ left;
-  parts = so_far.parts ∙ (let e : so_far.front ++ left ≡ (so_far.front ++ left) ++ [] = sym (append_assoc so_far.front left [] ∙ ap (λ (l : List ℕ). so_far.front ++ l) (append_none left)) in e)
+  parts = so_far.parts ∙ (let e : so_far.front ++ left ≡ (so_far.front ++ left) ++ [] = sym (append_assoc so_far.front left []
+      ∙ ap (λ (l : List ℕ). so_far.front ++ l) (append_none left)) in e)
       ∙ ap (λ (l : List ℕ). (so_far.front ++ left) ++ l) (sym empty);
   told = so_far.told ∙ ap (told_part true) all ∙ only_line line plain (ap tells_left (sym all) ∙ none) ∙ sym (ap (told_part true) empty);
 }
@@ -67,14 +66,3 @@ one_less bytes left line below plain (inr (all, empty)) none so_far = record {
 here : (left : List ℕ) → tells_left left ≡ true → told_part true left ≡ left
 here [] tells = refl
 here (b ∷ left) tells = ap (λ (is : Bool). cond is (b ∷ left) (told_part (b == 10) left)) tells
-
-pub ends_here : (left : List ℕ) → (left ≡ []) ⊎ (tells_left left ≡ true) → told_part true left ≡ left
-ends_here left (inl empty) = ap (told_part true) empty ∙ sym empty
-ends_here left (inr tells) = here left tells
-
--- so it is what stands behind the rest
-pub behind_rest : (bytes left : List ℕ) (at : ℕ) → IsLeft bytes left → at ≡ length bytes - length left → told_part true left ≡ left → drop at bytes ≡ told_part true bytes
-behind_rest bytes left at so_far is ends =
-    let long : length bytes ≡ length so_far.front + length left = ap length so_far.parts ∙ length-append so_far.front left in
-    let there : at ≡ length so_far.front = omega arith in
-    (λ i. drop (there i) (so_far.parts i)) ∙ drop_front so_far.front left ∙ sym ends ∙ sym so_far.told

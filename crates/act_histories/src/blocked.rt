@@ -6,7 +6,7 @@
 //! answer. A dead actor whose run list is through waits for a kill, which may come after an await.
 
 use crate::history::{Between, Call, Ending, History, Ran, future_at, slot_of};
-use crate::progress::{Asked, Progress};
+use crate::progress::{CallerProgress, Progress};
 use crate::reason::{Blame, Blames, CallName, Reason};
 use crate::rules::name_of;
 use act_types::{ACTOR_NUMBERS, ActorId, Arg, CallerId, MAX_ACTORS, MAX_CALLERS, NoMemory};
@@ -20,7 +20,7 @@ struct Stuck<'a> {
 }
 
 impl<'a> Stuck<'a> {
-    fn asked_by(&self, c: CallerId) -> Option<&'a Asked> {
+    fn asked_by(&self, c: CallerId) -> Option<&'a CallerProgress> {
         self.progress.callers.get(c.number() as usize)
     }
 

@@ -6,7 +6,7 @@ use std::alloc::Global;
 
 /// What a caller did so far.
 #[derive(Drop)]
-pub(crate) struct Asked {
+pub(crate) struct CallerProgress {
     /// Which of the calls that it submitted have an answer.
     answered: Vec<bool>,
     /// How many calls of each actor have none.
@@ -17,10 +17,10 @@ pub(crate) struct Asked {
     pub(crate) passed: usize,
 }
 
-impl Asked {
+impl CallerProgress {
     /// A caller that did nothing yet.
-    pub(crate) fn new(alloc: Global) -> Asked {
-        Asked {
+    pub(crate) fn new(alloc: Global) -> CallerProgress {
+        CallerProgress {
             answered: Vec::new(alloc),
             pending: [0; ACTOR_NUMBERS],
             bereaved: [false; ACTOR_NUMBERS],
@@ -134,7 +134,7 @@ const NOTHING_DONE: Done = Done {
 /// How far all of them are.
 #[derive(Drop)]
 pub(crate) struct Progress {
-    pub(crate) callers: Vec<Asked>,
+    pub(crate) callers: Vec<CallerProgress>,
     pub(crate) actors: [Done; ACTOR_NUMBERS],
 }
 
@@ -143,7 +143,7 @@ impl Progress {
     pub(crate) fn open(alloc: Global, history: &History) -> Result<Progress, NoMemory> {
         let mut callers = Vec::new(alloc);
         for _caller in &history.callers {
-            callers.push(Asked::new(alloc))?;
+            callers.push(CallerProgress::new(alloc))?;
         }
         Ok(Progress {
             callers,

@@ -10,7 +10,7 @@
 //! No contract says so, and the events aren't kept: what is found only says why a history was refused.
 
 use crate::history::{Between, Caller, Ending, History, Ran, Served, slot_of};
-use crate::progress::{Asked, Done, Progress, is_bereaved};
+use crate::progress::{CallerProgress, Done, Progress, is_bereaved};
 use crate::rules::has_terminated;
 use act_types::{ACTOR_NUMBERS, ActorId, CallerId, MAX_ACTORS, NoMemory};
 use std::alloc::Global;
@@ -19,7 +19,7 @@ use std::alloc::Global;
 const MAX_ROUNDS: u32 = 4_294_967_295;
 
 /// Does the caller's next step, where that submits nothing and nothing that it awaits is missing.
-fn pass(asked: &mut Asked, actors: &mut [Done; ACTOR_NUMBERS], caller: &Caller) -> bool {
+fn pass(asked: &mut CallerProgress, actors: &mut [Done; ACTOR_NUMBERS], caller: &Caller) -> bool {
     let Some(placed) = asked.next_between(caller) else {
         return false;
     };
@@ -37,7 +37,11 @@ fn pass(asked: &mut Asked, actors: &mut [Done; ACTOR_NUMBERS], caller: &Caller) 
 }
 
 /// Does the caller's steps up to its next submission, or to an await that holds it back.
-fn pass_all(asked: &mut Asked, actors: &mut [Done; ACTOR_NUMBERS], caller: &Caller) -> bool {
+fn pass_all(
+    asked: &mut CallerProgress,
+    actors: &mut [Done; ACTOR_NUMBERS],
+    caller: &Caller,
+) -> bool {
     let before = asked.passed;
     for _step in 0..caller.between.len() {
         if !pass(asked, actors, caller) {
@@ -49,7 +53,7 @@ fn pass_all(asked: &mut Asked, actors: &mut [Done; ACTOR_NUMBERS], caller: &Call
 
 /// Does the caller's steps as far as its limits and its awaits allow.
 fn submit_all(
-    asked: &mut Asked,
+    asked: &mut CallerProgress,
     actors: &mut [Done; ACTOR_NUMBERS],
     history: &History,
     caller: &Caller,
@@ -74,7 +78,7 @@ fn limit_of(history: &History, a: ActorId) -> Option<u32> {
 
 /// Sends a call, runs it and collects its reply, where it can be sent. A reply is collected where it gave
 /// the answer that is told.
-fn run(callers: &mut Vec<Asked>, history: &History, ran: &Ran) -> bool {
+fn run(callers: &mut Vec<CallerProgress>, history: &History, ran: &Ran) -> bool {
     let k = ran.item.future;
     if let Some(call) = history.call(ran.item.caller, k)
         && let Some(asked) = callers.get_mut(ran.item.caller.number() as usize)
@@ -124,7 +128,7 @@ fn may_die(history: &History, actor: &Served, done: &Done) -> bool {
 }
 
 /// The dead actor tells each caller that has calls which its death answered, and which collects the notice.
-fn tell_all(callers: &mut Vec<Asked>, history: &History, a: ActorId, told: &[CallerId]) {
+fn tell_all(callers: &mut Vec<CallerProgress>, history: &History, a: ActorId, told: &[CallerId]) {
     for c in told {
         if let Some(caller) = history.caller(*c)
             && is_bereaved(caller, a)

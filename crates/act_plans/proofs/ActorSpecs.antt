@@ -1,13 +1,12 @@
 -- The prepared casts and parts, told of the actor specifications and the plans of a run.
-use Rattle.act_plans.proofs.Common.{◌≡◌, ℕ, ◌==◌, List, [], ◌∷◌, map, Option, Some, None, refl, sym, ◌∙◌, ap, All, find}
-use Rattle.act_plans.proofs.Common.{filter, filter_map, slice_get, option_map, list_any, cons_option, Vec, map-map, All-weaker, filter_agree, KindState, Step}
-use Rattle.act_plans.proofs.Common.{first_bad, one_to, find-map, list_any-map, Cast, actor_spec, actors_that_name, limits_that_name, actors_naming-actor_spec}
-use Rattle.act_plans.proofs.Common.{CallerSetup, Role, setup_view, setup_of, plan_in, steps_given, bad_of_setup, HasNumbers, filter_mapped}
-use Rattle.act_rules.specs.History.{ActorSpec, contains, actors_naming as naming_view}
+use Rattle.act_plans.proofs.Common.{◌≡◌, ℕ, ◌==◌, List, [], ◌∷◌, map, Option, Some, None, refl, sym, ◌∙◌, ap, All, find, filter, filter_map, slice_get}
+use Rattle.act_plans.proofs.Common.{option_map, list_any, cons_option, Vec, map-map, All-weaker, filter_agree, KindState, Step, first_bad, one_to, find-map}
+use Rattle.act_plans.proofs.Common.{list_any-map, Cast, actor_spec, actors_that_name, limits_that_name, actors_naming-actor_spec, CallerSetup, Role, setup_view}
+use Rattle.act_plans.proofs.Common.{setup_of, plan_in, steps_given, bad_of_setup, filter_mapped, ActorSpec, contains, naming_view}
 use Rattle.act_plans.specs.Prepared.{by_rising_actor, callers_named_by}
 use Rattle.act_plans.specs.Runs.{limits_naming as limits_view, callers_of_casts, actors_of_casts, cast_at, steps_of_plan, plan_of, bad_step_of, first_bad_plan}
 use Rattle.act_plans.proofs.Keys.{each_first}
-use Rattle.act_plans.proofs.Matching.{actors_rising, found_rising, callers_are, roles_are}
+use Rattle.act_plans.proofs.Matching.{actors_rising, callers_are, roles_are}
 
 -- ---- lists that are mapped
 
@@ -45,10 +44,6 @@ module _ {K : Type 0} (state : K → KindState) (casts : List (Cast K)) where
   -- the cast of an actor
   pub cast_view : (a : ℕ) → cast_at a (map (actor_spec state) casts) ≡ option_map (actor_spec state) (find (λ (cast : Cast K). cast.actor == a) casts)
   cast_view a = find-map (λ (cast : ActorSpec). cast.actor == a) (actor_spec state) casts
-
-  -- the same, among the casts by rising actor
-  pub cast_rising : (a : ℕ) → All HasNumbers casts → cast_at a (map (actor_spec state) casts) ≡ option_map (actor_spec state) (find (λ (cast : Cast K). cast.actor == a) (by_rising_actor casts))
-  cast_rising a numbers = cast_view a ∙ ap (option_map (actor_spec state)) (sym (found_rising casts a numbers))
 
   -- each cast by rising actor is the one of its actor
   pub each_cast_view : All (λ (cast : Cast K). cast_at cast.actor (map (actor_spec state) casts) ≡ Some (actor_spec state cast)) (by_rising_actor casts)

@@ -18,7 +18,7 @@ pub use Rattle.act_plans.specs.declared.rising.CallerSetup.{CallerSetup}
 pub use Rattle.act_rules.proofs.Ended.{needs-none}
 pub use Rattle.act_rules.proofs.Finding.{find-None}
 pub use Rattle.act_rules.proofs.Lists.{find-map, list_any-map}
-pub use Rattle.act_rules.specs.History.{contains}
+pub use Rattle.act_rules.specs.History.{ActorSpec, actors_naming as naming_view, contains}
 pub use Rattle.act_rules.specs.Plans.{Progress, do_step, first_bad, first_bad_from, holds, is_refused, nothing_done}
 pub use Rattle.act_rules.specs.Report.{one_to}
 pub use Rattle.act_rules.specs.Submissions.{IsLimit, copies_held, copy_refusal, handle_refusal, is_earlier, submit_refusal}
@@ -30,11 +30,13 @@ pub use Rattle.act_types.specs.declared.call.Arg.{Arg}
 pub use Rattle.act_types.specs.declared.call.Method.{Method}
 pub use Rattle.std.proofs.Common.{All, AllPairs, Bool, Contains, Err, List, None, Ok, OnOk, Option, Result, Some, [], add-one, ap, append-nil, arith, drop}
 pub use Rattle.std.proofs.Common.{eq-eqb, false, filter, filter_map, find, get_or, if◌then◌else◌, inl, inr, is_some, length, length-append, map, nat_le, nat_lt}
-pub use Rattle.std.proofs.Common.{not, option_map, position, refl, slice_get, subst, suc, sym, take, true, true≢false, zero, ℕ, ◌&&◌, ◌++◌, ◌+◌, ◌-◌, ◌<◌, ◌==◌}
-pub use Rattle.std.proofs.Common.{◌||◌, ◌∙◌, ◌∷◌, ◌≡◌, ◌≢◌, ◌≤◌}
+pub use Rattle.std.proofs.Common.{not, option_map, position, refl, rules, slice_get, subst, suc, sym, take, tests, true, true≢false, zero, ℕ, ◌&&◌, ◌++◌, ◌+◌}
+pub use Rattle.std.proofs.Common.{◌-◌, ◌<◌, ◌==◌, ◌||◌, ◌∙◌, ◌∷◌, ◌≡◌, ◌≢◌, ◌≤◌}
 pub use Rattle.std.proofs.Math.Bool.{or-false}
 pub use Rattle.std.proofs.lemmas.Bool.{eqb-true, le-leb, ne_eqb}
 pub use Rattle.std.proofs.lemmas.Bool.Decides.{eqb_tells, leb_tells}
+pub use Rattle.std.proofs.lemmas.Iterator.{YieldsList-from_slice}
+pub use Rattle.std.proofs.lemmas.Iterator.Search.{position_from_yields_List}
 pub use Rattle.std.proofs.lemmas.List.{drop_more, get_or-map, length-map, map-append, map_push, take-append-drop, take_all, take_more}
 pub use Rattle.std.proofs.lemmas.List.Elements.{All-cons, All-filter, All-map, All-more, All-nil, All-push, All-weaker, Contains-append_left}
 pub use Rattle.std.proofs.lemmas.List.Elements.{Contains-append_right, Contains-push, filter-append, filter_agree, filter_map-append}

@@ -11,12 +11,6 @@ pub pairs_of_map : {X : Type 0} (f : X → ℕ) (xs : List X) → AllPairs (λ o
 pairs_of_map f xs apart i j d before below same =
     apart i j (f d) before (omega (arith, length-map xs f)) (get_or-map f xs i d (f d) (omega arith) ∙ same ∙ sym (get_or-map f xs j d (f d) below))
 
-pub map_of_pairs : {X : Type 0} (f : X → ℕ) (xs : List X) → AllPairs (λ one other. f one ≢ f other) xs → AllPairs (λ one other. one ≢ other) (map f xs)
-map_of_pairs f [] apart i j d before below same = absurd (omega arith)
-map_of_pairs f (x ∷ xs) apart i j d before below same =
-    let long = length-map (x ∷ xs) f in
-    apart i j x before (omega (arith, long)) (sym (get_or-map f (x ∷ xs) i x d (omega (arith, long))) ∙ same ∙ get_or-map f (x ∷ xs) j x d (omega (arith, long)))
-
 -- ---- what a search finds
 
 pub found_within : {X : Type 0} (p : X → Bool) (xs : List X) (x : X) → find p xs ≡ Some x → (position_or_len p xs < length xs) × (get_or xs (position_or_len p xs) x ≡ x)

@@ -1,18 +1,9 @@
 -- A play that ends as the threads did shows their summary.
-use Rattle.std.proofs.Common.{ℕ, List, map, refl}
-use Rattle.act_rules.specs.declared.event.Event.{Event}
-use Rattle.act_rules.specs.declared.script.Role.{Role}
-use Rattle.act_rules.specs.declared.script.Step.{Step}
-use Rattle.act_rules.specs.Scripts.{actor_spec_of}
+use Rattle.act_record.proofs.Common.{ℕ, List, map, refl, Event, Role, Step, actor_spec_of, EndView, IsPlayOf, script_of, plans_in, IsPlay}
 use Rattle.act_owner.specs.Owner.{OwnerView}
-use Rattle.act_serve.specs.Served.{EndView}
 use Rattle.act_executor.specs.Joined.{IsJoined}
-use Rattle.act_executor.specs.Plays.{IsPlayOf}
 use Rattle.act_executor.specs.PlanPlays.{IsPlayedAsPlanned}
-use Rattle.act_console.specs.Plans.{script_of}
-use Rattle.act_console.specs.Threads.{plans_in}
 use Rattle.act_console.proofs.Ended.{summary_same}
-use Rattle.act_record.specs.Record.{IsPlay}
 
 -- a play of what a run of a script's plans left, which some play of the plans left, is a play of the script
 pub plays : (roles : List Role) (steps : List (ℕ × Step × ℕ)) (owners : List OwnerView) (ends : List EndView) (events : List Event)

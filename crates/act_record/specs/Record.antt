@@ -13,8 +13,8 @@ use Rattle.act_console.specs.declared.fault.ConsoleFault.TheVariants as faults
 use Rattle.act_console.specs.Input.{IsWholeInput}
 use Rattle.act_console.specs.Output.{AppendsPrefix}
 use Rattle.act_console.specs.Threads.{IsSummary, Threaded, spelled_threads}
-use Rattle.act_record.specs.declared.answer.Written.{Written}
-use Rattle.act_record.specs.declared.answer.Written.TheVariants.{Play, LongPlay}
+use Rattle.act_record.specs.declared.output.Written.{Written}
+use Rattle.act_record.specs.declared.output.Written.TheVariants.{Play, LongPlay}
 use Rattle.act_record.specs.declared.fault.RecordingFault.{RecordingFault}
 use Rattle.act_record.specs.declared.fault.RecordingFault.TheVariants.{Console, Unplayed}
 
@@ -47,7 +47,7 @@ abbrev pub IsRecordOf : Result Script (ℕ × Wrong) → List ℕ → Type 0
 IsRecordOf (Ok script) text = (written : Written) × IsWritten written script text
 IsRecordOf (Err fault) text = text ≡ fault_line fault
 
--- what a recorded run read and wrote, by its answer; its faults are those of a run in threads, and one more
+-- what a recorded run read and wrote, by its output; its faults are those of a run in threads, and one more
 abbrev pub IsRecorded : Option (List ℕ) → Option (List ℕ) → Option (List ℕ) → Option (List ℕ) →
     Result Written RecordingFault → Type 0
 IsRecorded had left old new (Ok written) =

@@ -2,14 +2,14 @@
 //! events, a play that ends as the threads did.
 #![tactic(auto)]
 
-mod answer;
 mod copied;
 mod fault;
+mod output;
 mod printed;
 mod reading;
 mod record;
 
 pub use act_replay::Source;
-pub use answer::Written;
 pub use fault::RecordingFault;
+pub use output::Written;
 pub use record::record_script;

@@ -2,10 +2,10 @@
 
 ghost use Rattle.std.specs.Prelude.{◌≡◌, IfOk, IfErr, IsTrue};
 ghost use Rattle.act_scripts.specs.Spelled.{spelled_script};
-ghost use Rattle.act_record.specs.Answer.{IsMissing, IsReadAs, IsTextOf};
+ghost use Rattle.act_record.specs.Output.{IsMissing, IsReadAs, IsTextOf};
 
-use crate::answer::{PlayText, Written};
 use crate::fault::RecordingFault;
+use crate::output::{PlayText, Written};
 use crate::printed::play_text;
 use act_compare::{same_events, same_roles};
 use act_console::{Items, Script, ScriptFault, read_script};

@@ -11,15 +11,15 @@ ghost use Rattle.act_console.specs.Plans.{HasLine, Explains, first_stranger, scr
 ghost use Rattle.act_console.specs.Stock.{IsReady};
 ghost use Rattle.act_console.specs.Threads.{spelled_threads};
 ghost use Rattle.act_record.specs.Record.{IsPlay, IsRecorded};
-ghost use Rattle.act_record.specs.Answer.{HasLineOf, IsAnswer, IsExplained, WroteRecord};
+ghost use Rattle.act_record.specs.Output.{HasLineOf, IsOutput, IsExplained, WroteRecord};
 
-use crate::answer::{Answer, PlayText, Written};
 use crate::copied::copy_of_roles;
 use crate::fault::RecordingFault;
+use crate::output::{Output, PlayText, Written};
 use crate::reading::text_of;
 use act_console::{
-    ConsoleFault, Gate, Items, Mark, Script, ScriptFault, Sorted, Stock, casts_of, first_stranger,
-    line_of, read_script, read_whole, refusal_of, sort, write_whole,
+    ConsoleFault, Gate, Items, Script, ScriptFault, Sorted, StepLine, Stock, casts_of,
+    first_stranger, line_of, read_script, read_whole, refusal_of, sort, write_whole,
 };
 use act_executor::RunFault;
 use act_kinds::{Actor, Boxed};
@@ -32,15 +32,19 @@ use std::sync::Wait;
 use std::thread::Threads;
 
 /// What there is to be written of a run that has no end to show, or why nothing is.
-fn answer_of_fault(alloc: Global, fault: RunFault, marks: &[Mark]) -> Result<Answer, RecordingFault>
-    requires { HasLine marks.now fault }
-    ensures { (read : Result Spelled (ℕ × Wrong)) → Explains marks.now fault read → IsAnswer result read }
+fn output_of_fault(
+    alloc: Global,
+    fault: RunFault,
+    step_lines: &[StepLine],
+) -> Result<Output, RecordingFault>
+    requires { HasLine step_lines.now fault }
+    ensures { (read : Result Spelled (ℕ × Wrong)) → Explains step_lines.now fault read → IsOutput result read }
 {
     match fault {
-        RunFault::TooMany => Ok(Answer::Refusal(refusal_of(alloc, 0, Wrong::TooMany)?)),
+        RunFault::TooMany => Ok(Output::Refusal(refusal_of(alloc, 0, Wrong::TooMany)?)),
         RunFault::BadPlan(caller, place) => {
-            let line = line_of(marks, caller, place).unwrap();
-            Ok(Answer::Refusal(refusal_of(alloc, line, Wrong::BadPlan)?))
+            let line = line_of(step_lines, caller, place).unwrap();
+            Ok(Output::Refusal(refusal_of(alloc, line, Wrong::BadPlan)?))
         }
         RunFault::NoThread => Err(RecordingFault::Console(ConsoleFault::Thread)),
         RunFault::NoMemory => Err(RecordingFault::Console(ConsoleFault::Memory)),
@@ -48,37 +52,37 @@ fn answer_of_fault(alloc: Global, fault: RunFault, marks: &[Mark]) -> Result<Ans
 }
 
 /// What there is to be written where a run has no play to show, or why nothing is.
-fn answer_of_no_play(
+fn output_of_no_play(
     alloc: Global,
     fault: RecordFault,
-    marks: &[Mark],
-) -> Result<Answer, RecordingFault>
-    requires { HasLineOf marks.now fault }
-    ensures { (read : Result Spelled (ℕ × Wrong)) → IsExplained marks.now fault read → IsAnswer result read }
+    step_lines: &[StepLine],
+) -> Result<Output, RecordingFault>
+    requires { HasLineOf step_lines.now fault }
+    ensures { (read : Result Spelled (ℕ × Wrong)) → IsExplained step_lines.now fault read → IsOutput result read }
 {
     match fault {
-        RecordFault::Run(fault) => answer_of_fault(alloc, fault, marks),
+        RecordFault::Run(fault) => output_of_fault(alloc, fault, step_lines),
         RecordFault::Unplayed => Err(RecordingFault::Unplayed),
     }
 }
 
 /// What there is to be written of roles and events that are a play.
-fn answer_of_play(
+fn output_of_play(
     alloc: Global,
     roles: &[Role],
     events: &[Event],
     source: Source,
-) -> Result<Answer, RecordingFault>
-    ensures { (script : Spelled) → script.roles ≡ roles.now → IsPlay script events.now → IsAnswer result (Ok script) }
+) -> Result<Output, RecordingFault>
+    ensures { (script : Spelled) → script.roles ≡ roles.now → IsPlay script events.now → IsOutput result (Ok script) }
 {
     match text_of(alloc, roles, events, source) {
-        Ok(play) => Ok(Answer::Play(play)),
+        Ok(play) => Ok(Output::Play(play)),
         Err(fault) => Err(fault),
     }
 }
 
 /// What there is to be written of roles and steps, all of whose callers have a role.
-fn answer_of_steps<Rt: Threads + Wait + Sync, G: Gate>(
+fn output_of_steps<Rt: Threads + Wait + Sync, G: Gate>(
     rt: &Rt,
     alloc: Global,
     stock: Stock,
@@ -86,16 +90,16 @@ fn answer_of_steps<Rt: Threads + Wait + Sync, G: Gate>(
     roles: ListOf<Role>,
     steps: ListOf<(CallerId, Step, u32)>,
     gate: &G,
-) -> Result<Answer, RecordingFault>
+) -> Result<Output, RecordingFault>
     requires ready { IsReady ⟦<Boxed as Actor>⟧.state stock }
     requires twins { IsReady ⟦<Boxed as Actor>⟧.state twins }
     requires roles { AreFitting (map actor_spec_of roles) }
     requires few { length steps < 2 ^ 32 }
     requires known { first_stranger roles steps ≡ None }
-    ensures { IsAnswer result (with_good_plans MAX_CALLERS MAX_ACTORS (Ok (script_of roles steps))) }
+    ensures { IsOutput result (with_good_plans MAX_CALLERS MAX_ACTORS (Ok (script_of roles steps))) }
 {
     let sorted = sort(alloc, roles.as_slice(), steps)?;
-    let Sorted { plans, marks } = sorted;
+    let Sorted { plans, step_lines } = sorted;
     let one = copy_of_roles(alloc, roles.as_slice())?;
     let other = copy_of_roles(alloc, roles.as_slice())?;
     let casts = casts_of(alloc, stock, one)?;
@@ -108,27 +112,27 @@ fn answer_of_steps<Rt: Threads + Wait + Sync, G: Gate>(
                 source,
             } = recorded;
             drop(joined);
-            answer_of_play(alloc, roles.as_slice(), &events, source)
+            output_of_play(alloc, roles.as_slice(), &events, source)
         }
-        Err(fault) => answer_of_no_play(alloc, fault, &marks),
+        Err(fault) => output_of_no_play(alloc, fault, &step_lines),
     }
 }
 
 /// What there is to be written of a script that was read.
-fn answer_of_script<Rt: Threads + Wait + Sync, G: Gate>(
+fn output_of_script<Rt: Threads + Wait + Sync, G: Gate>(
     rt: &Rt,
     alloc: Global,
     stock: Stock,
     twins: Stock,
     script: Script,
     gate: &G,
-) -> Result<Answer, RecordingFault>
+) -> Result<Output, RecordingFault>
     requires ready { IsReady ⟦<Boxed as Actor>⟧.state stock }
     requires twins { IsReady ⟦<Boxed as Actor>⟧.state twins }
     requires mode { mode_of script.items ≡ Threads }
     requires roles { AreFitting (map actor_spec_of script.casts) }
     requires few { count_of script.items < 2 ^ 32 }
-    ensures { IsAnswer result (with_good_plans MAX_CALLERS MAX_ACTORS (Ok (spelled_script script))) }
+    ensures { IsOutput result (with_good_plans MAX_CALLERS MAX_ACTORS (Ok (spelled_script script))) }
 {
     let Script {
         casts: roles,
@@ -138,43 +142,43 @@ fn answer_of_script<Rt: Threads + Wait + Sync, G: Gate>(
         unreachable!()
     };
     if let Some(line) = first_stranger(roles.as_slice(), steps.as_slice()) {
-        return Ok(Answer::Refusal(refusal_of(alloc, line, Wrong::BadPlan)?));
+        return Ok(Output::Refusal(refusal_of(alloc, line, Wrong::BadPlan)?));
     }
-    answer_of_steps(rt, alloc, stock, twins, roles, steps, gate)
+    output_of_steps(rt, alloc, stock, twins, roles, steps, gate)
 }
 
 /// What there is to be written of the script that bytes spell, or why nothing is.
-fn answer_of<Rt: Threads + Wait + Sync, G: Gate>(
+fn output_of<Rt: Threads + Wait + Sync, G: Gate>(
     rt: &Rt,
     alloc: Global,
     stock: Stock,
     twins: Stock,
     bytes: &[u8],
     gate: &G,
-) -> Result<Answer, RecordingFault>
+) -> Result<Output, RecordingFault>
     requires ready { IsReady ⟦<Boxed as Actor>⟧.state stock }
     requires twins { IsReady ⟦<Boxed as Actor>⟧.state twins }
-    ensures { IsAnswer result (spelled_threads bytes.now) }
+    ensures { IsOutput result (spelled_threads bytes.now) }
 {
     match read_script(alloc, bytes, Mode::Threads) {
-        Ok(script) => answer_of_script(rt, alloc, stock, twins, script, gate),
+        Ok(script) => output_of_script(rt, alloc, stock, twins, script, gate),
         Err(ScriptFault::NoMemory) => Err(RecordingFault::Console(ConsoleFault::Memory)),
         Err(ScriptFault::Line(line, wrong)) => {
-            Ok(Answer::Refusal(refusal_of(alloc, line, wrong)?))
+            Ok(Output::Refusal(refusal_of(alloc, line, wrong)?))
         }
     }
 }
 
 /// Writes what there is to be written of a script. A refusal is told as the script's fault.
-fn write_answer<W: Write>(writer: &mut W, answer: Answer) -> Result<Written, RecordingFault>
-    ensures { WroteRecord (W.contents writer.old) (W.contents writer.new) answer result }
+fn write_output<W: Write>(writer: &mut W, output: Output) -> Result<Written, RecordingFault>
+    ensures { WroteRecord (W.contents writer.old) (W.contents writer.new) output result }
 {
-    match answer {
-        Answer::Play(PlayText { text, written }) => {
+    match output {
+        Output::Play(PlayText { text, written }) => {
             write_whole(writer, &text)?;
             Ok(written)
         }
-        Answer::Refusal(text) => {
+        Output::Refusal(text) => {
             write_whole(writer, &text)?;
             Err(RecordingFault::Console(ConsoleFault::Script))
         }
@@ -204,8 +208,8 @@ pub fn record_script<Rt: Threads + Wait + Sync, R: Read, W: Write, G: Gate>(
         (W.contents writer.new) result }
 {
     let bytes = read_whole(alloc, reader)?;
-    match answer_of(rt, alloc, stock, twins, &bytes, gate) {
-        Ok(answer) => write_answer(writer, answer),
+    match output_of(rt, alloc, stock, twins, &bytes, gate) {
+        Ok(output) => write_output(writer, output),
         Err(fault) => Err(fault),
     }
 }

@@ -35,7 +35,8 @@ quiet_after c h event e = go (refusal_of h event)
     go None = quiet_added c h event e
     go (Some refusal) = refl
 
-quiet_all : (c : ℕ) (h : History) (events : List Event) → AllByRecursion (λ event. step_of c event ≡ None) events → calls_of c (after_all h events) ≡ calls_of c h
+quiet_all : (c : ℕ) (h : History) (events : List Event) → AllByRecursion (λ event. step_of c event ≡ None) events
+    → calls_of c (after_all h events) ≡ calls_of c h
 quiet_all c h [] quiet = refl
 quiet_all c h (event ∷ events) quiet = quiet_all c (after h event) events quiet.1 ∙ quiet_after c h event quiet.0
 
@@ -43,7 +44,8 @@ quiet_calls : (c : ℕ) (h : History) (events : List Event) → IsMeanwhile c ev
 quiet_calls c h events quiet = quiet_all c h events (recursion_from_All (λ event. step_of c event ≡ None) events quiet)
 
 -- it has no second call where it submitted once
-one_call : (c : ℕ) (h : History) (a : ℕ) (method : Method) (args : List Arg) (second : Submission) → calls_of c h ≡ [] → slice_get (calls_of c (after h (Submit c a method args))) 1 ≡ Some second → ⊥
+one_call : (c : ℕ) (h : History) (a : ℕ) (method : Method) (args : List Arg) (second : Submission) → calls_of c h ≡ []
+    → slice_get (calls_of c (after h (Submit c a method args))) 1 ≡ Some second → ⊥
 one_call c h a method args second none e = go (refusal_of h (Submit c a method args)) e
   where
     call : Submission
@@ -54,7 +56,8 @@ one_call c h a method args second none e = go (refusal_of h (Submit c a method a
     last false e = cc
 
     go : (o : Option WorldRefusal) → slice_get (calls_of c (after_by h (Submit c a method args) o)) 1 ≡ Some second → ⊥
-    go None e = last (c == c) (sym (ap (λ (l : List Submission). slice_get l 1) (under-push c c h.submitted call ∙ ap (λ (l : List Submission). l ++ cond (c == c) (call ∷ []) []) none)) ∙ e)
+    go None e = last (c == c) (sym (ap (λ (l : List Submission). slice_get l 1) (under-push c c h.submitted call
+        ∙ ap (λ (l : List Submission). l ++ cond (c == c) (call ∷ []) []) none)) ∙ e)
     go (Some refusal) e = let bad : slice_get [] 1 ≡ Some second = subst (λ (l : List Submission). slice_get l 1 ≡ Some second) none e in cc
 
 -- a front of the events in which the caller submitted once, and after which its first call is answered
@@ -65,11 +68,13 @@ record IsAwaited (c : ℕ) (events : List Event) : Type 0 where
   answered : is_some (kept_at (kept_of c (history circle_casts front)) 0) ≡ true
   once : (second : Submission) → slice_get (calls_of c (history circle_casts front)) 1 ≡ Some second → ⊥
 
-awaited : (c o : ℕ) (more : List Step) (events : List Event) → DoesPlanIn circle_casts c (SubmitStep o Push (five_arg ∷ []) ∷ AwaitStep 0 ∷ more) [] events → IsAwaited c events
+awaited : (c o : ℕ) (more : List Step) (events : List Event) → DoesPlanIn circle_casts c (SubmitStep o Push (five_arg ∷ []) ∷ AwaitStep 0 ∷ more) [] events
+    → IsAwaited c events
 awaited c o more events (first, done, later, whole, quiet, did, (second, nothing, rest, cut, still, (none, answered), goes)) = record {
   front = (first ++ done) ++ second;
   rest = rest;
-  whole = whole ∙ ap (λ (l : List Event). (first ++ done) ++ l) (cut ∙ ap (λ (l : List Event). (second ++ l) ++ rest) none ∙ ap (λ (l : List Event). l ++ rest) (append-nil second))
+  whole = whole ∙ ap (λ (l : List Event). (first ++ done) ++ l) (cut ∙ ap (λ (l : List Event). (second ++ l) ++ rest) none
+      ∙ ap (λ (l : List Event). l ++ rest) (append-nil second))
       ∙ sym (append_assoc (first ++ done) second rest);
   answered = answered;
   once = λ call e. one_call c (after_all (opening circle_casts) first) o Push (five_arg ∷ []) call (quiet_calls c (opening circle_casts) first quiet)
@@ -79,7 +84,8 @@ awaited c o more events (first, done, later, whole, quiet, did, (second, nothing
     submitted : after_all (opening circle_casts) (first ++ done) ≡ after (after_all (opening circle_casts) first) (Submit c o Push (five_arg ∷ []))
     submitted = after_all-append (opening circle_casts) first done ∙ ap (after_all (after_all (opening circle_casts) first)) did
 
-    calls : calls_of c (history circle_casts ((first ++ done) ++ second)) ≡ calls_of c (after (after_all (opening circle_casts) first) (Submit c o Push (five_arg ∷ [])))
+    calls : calls_of c (history circle_casts ((first ++ done) ++ second)) ≡ calls_of c
+        (after (after_all (opening circle_casts) first) (Submit c o Push (five_arg ∷ [])))
     calls = ap (calls_of c) (after_all-append (opening circle_casts) (first ++ done) second)
         ∙ quiet_calls c (after_all (opening circle_casts) (first ++ done)) second still
         ∙ ap (calls_of c) submitted
@@ -87,7 +93,8 @@ awaited c o more events (first, done, later, whole, quiet, did, (second, nothing
 -- ---- what ran by then
 
 module _ (c o : ℕ) where
-  first_ran : (log : List RunItem) (place : ℕ) (item : RunItem) → IsPrefix log (await_log o c) → slice_get log place ≡ Some item → slice_get log 0 ≡ Some (circle_ran o 1 5)
+  first_ran : (log : List RunItem) (place : ℕ) (item : RunItem) → IsPrefix log (await_log o c) → slice_get log place ≡ Some item
+      → slice_get log 0 ≡ Some (circle_ran o 1 5)
   first_ran [] place item front at = cc
   first_ran (x ∷ log) place item front at =
       let e : x ∷ (log ++ front.0) ≡ circle_ran o 1 5 ∷ circle_ran c 0 5 ∷ [] = front.1 in
@@ -142,12 +149,14 @@ dead_on : (a : ℕ) (h : History) (events : List Event) → is_dead a (after_all
 dead_on a h events alive = go (is_dead a h) refl
   where
     go : (b : Bool) → is_dead a h ≡ b → is_dead a h ≡ false
-    go true dead = let bad : true ≡ false = sym (after_all_keeps (λ (g : History). is_dead a g ≡ true) (λ g event was accepted. dead_stays a g event accepted was) h events dead) ∙ alive in cc
+    go true dead = let bad : true ≡ false = sym
+        (after_all_keeps (λ (g : History). is_dead a g ≡ true) (λ g event was accepted. dead_stays a g event accepted was) h events dead) ∙ alive in cc
     go false living = living
 
 -- the caller that awaits no later than the other can't be answered by then
 too_soon : (c o : ℕ) (events : List Event) (one : IsAwaited c events) (other : IsAwaited o events) → IsPrefix one.front other.front
-    → calls_of c (history circle_casts events) ≡ await_calls c o → runs_of o (history circle_casts events) ≡ await_log o c → is_dead o (history circle_casts events) ≡ false → ⊥
+    → calls_of c (history circle_casts events) ≡ await_calls c o → runs_of o (history circle_casts events) ≡ await_log o c
+    → is_dead o (history circle_casts events) ≡ false → ⊥
 too_soon c o events one other front calls_are runs_are alive = other.once second.0 there
   where
     h : History
@@ -178,10 +187,12 @@ awaits_unplanned (events, plays) = elim (meet one.front one.rest two.front two.r
 ]
   where
     one : IsAwaited 1 events
-    one = let does : (closing : List ℕ) × DoesPlanIn circle_casts 1 (await_plan 1 2 ++ map (λ a. ReleaseStep a) closing) [] events = plays.does 0 (await_owner 1 2) (omega arith) in awaited 1 2 (own_push 1 does.0) events does.1
+    one = let does : (closing : List ℕ) × DoesPlanIn circle_casts 1 (await_plan 1 2 ++ map (λ a. ReleaseStep a) closing) [] events =
+        plays.does 0 (await_owner 1 2) (omega arith) in awaited 1 2 (own_push 1 does.0) events does.1
 
     two : IsAwaited 2 events
-    two = let does : (closing : List ℕ) × DoesPlanIn circle_casts 2 (await_plan 2 1 ++ map (λ a. ReleaseStep a) closing) [] events = plays.does 1 (await_owner 1 2) (omega arith) in awaited 2 1 (own_push 2 does.0) events does.1
+    two = let does : (closing : List ℕ) × DoesPlanIn circle_casts 2 (await_plan 2 1 ++ map (λ a. ReleaseStep a) closing) [] events =
+        plays.does 1 (await_owner 1 2) (omega arith) in awaited 2 1 (own_push 2 does.0) events does.1
 
     owner_1 : IsOwnerIn (history circle_casts events) (await_owner 1 2)
     owner_1 = plays.play.callers 0 (await_owner 1 2) (omega arith)

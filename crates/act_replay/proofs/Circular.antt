@@ -73,10 +73,12 @@ answered (suc zero) (suc (suc k)) below = absurd (omega arith)
 answered (suc (suc zero)) zero below = refl
 answered (suc (suc zero)) (suc zero) below = refl
 answered (suc (suc zero)) (suc (suc k)) below = absurd (omega arith)
-answered (suc (suc (suc c))) k below = let len : length (calls_in circle_owners (suc (suc (suc c)))) ≡ 0 = ap length (no_calls c) in absurd (omega (arith, below, len))
+answered (suc (suc (suc c))) k below = let len : length (calls_in circle_owners (suc (suc (suc c)))) ≡ 0 = ap length (no_calls c) in
+    absurd (omega (arith, below, len))
 
 abbrev InOrder : ℕ → ℕ → Type 0
-InOrder a c = IsPrefix (map (λ (i : RunItem). (i.number, i.future)) (items_of c (log_in circle_ends a))) (enumerate_from 0 (map (λ (call : ℕ × Submission). call.0) (calls_to a (calls_in circle_owners c))))
+InOrder a c = IsPrefix (map (λ (i : RunItem). (i.number, i.future)) (items_of c (log_in circle_ends a)))
+    (enumerate_from 0 (map (λ (call : ℕ × Submission). call.0) (calls_to a (calls_in circle_owners c))))
 
 abbrev numbered : RunItem → ℕ × ℕ
 numbered i = (i.number, i.future)
@@ -93,7 +95,8 @@ in_order (suc zero) (suc (suc (suc c))) = (due 1 (suc (suc (suc c))), ap (λ (l 
 in_order (suc (suc zero)) zero = (_, refl)
 in_order (suc (suc zero)) (suc zero) = ([], refl)
 in_order (suc (suc zero)) (suc (suc zero)) = ([], refl)
-in_order (suc (suc zero)) (suc (suc (suc c))) = (due 2 (suc (suc (suc c))), ap (λ (l : List RunItem). map numbered l ++ due 2 (suc (suc (suc c)))) (no_items_2 c))
+in_order (suc (suc zero)) (suc (suc (suc c))) =
+    (due 2 (suc (suc (suc c))), ap (λ (l : List RunItem). map numbered l ++ due 2 (suc (suc (suc c)))) (no_items_2 c))
 in_order (suc (suc (suc a))) c = (due (suc (suc (suc a))) c, ap (λ (l : List RunItem). map numbered (items_of c l) ++ due (suc (suc (suc a))) c) (no_log a))
 
 as_submitted : (a : ℕ) → AllByRecursion (IsAsSubmitted (calls_in circle_owners) (kept_in circle_owners)) (log_in circle_ends a)
@@ -106,7 +109,8 @@ as_submitted (suc (suc zero)) = (
   record { call = circle_push 2 first_future; at = refl; method = refl; known = refl; args = refl },
   (record { call = circle_push 2 five_arg; at = refl; method = refl; known = refl; args = refl }, tt),
 )
-as_submitted (suc (suc (suc a))) = subst (λ (l : List RunItem). AllByRecursion (IsAsSubmitted (calls_in circle_owners) (kept_in circle_owners)) l) (sym (no_log a)) tt
+as_submitted (suc (suc (suc a))) = subst (λ (l : List RunItem). AllByRecursion (IsAsSubmitted (calls_in circle_owners) (kept_in circle_owners)) l)
+    (sym (no_log a)) tt
 
 abbrev open_at : ℕ → Option KindState
 open_at a = opening_of a (opening circle_casts)
@@ -164,14 +168,18 @@ IsRight c k x = IsAnswerOfRun open_at (log_in circle_ends) c k x
 answers : (c k : ℕ) (x : Answer) → kept_at (kept_in circle_owners c) k ≡ Some x → x ≢ Err ActorDied → IsRight c k x
 answers zero k x e alive = absurd (none_kept k x e)
 answers (suc zero) zero x e alive = let same : answer 2 ≡ x = cc in
-    subst (λ (y : Answer). IsRight 1 0 y) same (record { actor = 1; place = 1; item = circle_ran 1 0 5; at = refl; caller = refl; future = refl; answered = refl; only = only_10 })
+    subst (λ (y : Answer). IsRight 1 0 y) same
+    (record { actor = 1; place = 1; item = circle_ran 1 0 5; at = refl; caller = refl; future = refl; answered = refl; only = only_10 })
 answers (suc zero) (suc zero) x e alive = let same : answer 1 ≡ x = cc in
-    subst (λ (y : Answer). IsRight 1 1 y) same (record { actor = 2; place = 0; item = circle_ran 1 1 2; at = refl; caller = refl; future = refl; answered = refl; only = only_11 })
+    subst (λ (y : Answer). IsRight 1 1 y) same
+    (record { actor = 2; place = 0; item = circle_ran 1 1 2; at = refl; caller = refl; future = refl; answered = refl; only = only_11 })
 answers (suc zero) (suc (suc k)) x e alive = cc
 answers (suc (suc zero)) zero x e alive = let same : answer 2 ≡ x = cc in
-    subst (λ (y : Answer). IsRight 2 0 y) same (record { actor = 2; place = 1; item = circle_ran 2 0 5; at = refl; caller = refl; future = refl; answered = refl; only = only_20 })
+    subst (λ (y : Answer). IsRight 2 0 y) same
+    (record { actor = 2; place = 1; item = circle_ran 2 0 5; at = refl; caller = refl; future = refl; answered = refl; only = only_20 })
 answers (suc (suc zero)) (suc zero) x e alive = let same : answer 1 ≡ x = cc in
-    subst (λ (y : Answer). IsRight 2 1 y) same (record { actor = 1; place = 0; item = circle_ran 2 1 2; at = refl; caller = refl; future = refl; answered = refl; only = only_21 })
+    subst (λ (y : Answer). IsRight 2 1 y) same
+    (record { actor = 1; place = 0; item = circle_ran 2 1 2; at = refl; caller = refl; future = refl; answered = refl; only = only_21 })
 answers (suc (suc zero)) (suc (suc k)) x e alive = cc
 answers (suc (suc (suc c))) k x e alive = absurd (not_kept c k x e)
 
@@ -208,17 +216,21 @@ last (suc zero) = last_of 1 2
 last (suc (suc zero)) = last_of 2 1
 last (suc (suc (suc a))) = subst NothingFollowsAnEnd (sym (no_log a)) last_none
 
-ran_1 : (c : ℕ) → map (λ (i : RunItem). i.future) (items_of c (circle_log 1 2)) ≡ map (λ (call : ℕ × Submission). call.0) (calls_to 1 (calls_in circle_owners c))
+ran_1 : (c : ℕ) → map (λ (i : RunItem). i.future) (items_of c (circle_log 1 2)) ≡ map (λ (call : ℕ × Submission). call.0)
+    (calls_to 1 (calls_in circle_owners c))
 ran_1 zero = refl
 ran_1 (suc zero) = refl
 ran_1 (suc (suc zero)) = refl
-ran_1 (suc (suc (suc c))) = ap (λ (l : List RunItem). map (λ (i : RunItem). i.future) l) (no_items_1 c) ∙ sym (ap (λ (l : List Submission). map (λ (call : ℕ × Submission). call.0) (calls_to 1 l)) (no_calls c))
+ran_1 (suc (suc (suc c))) = ap (λ (l : List RunItem). map (λ (i : RunItem). i.future) l) (no_items_1 c)
+    ∙ sym (ap (λ (l : List Submission). map (λ (call : ℕ × Submission). call.0) (calls_to 1 l)) (no_calls c))
 
-ran_2 : (c : ℕ) → map (λ (i : RunItem). i.future) (items_of c (circle_log 2 1)) ≡ map (λ (call : ℕ × Submission). call.0) (calls_to 2 (calls_in circle_owners c))
+ran_2 : (c : ℕ) → map (λ (i : RunItem). i.future) (items_of c (circle_log 2 1)) ≡ map (λ (call : ℕ × Submission). call.0)
+    (calls_to 2 (calls_in circle_owners c))
 ran_2 zero = refl
 ran_2 (suc zero) = refl
 ran_2 (suc (suc zero)) = refl
-ran_2 (suc (suc (suc c))) = ap (λ (l : List RunItem). map (λ (i : RunItem). i.future) l) (no_items_2 c) ∙ sym (ap (λ (l : List Submission). map (λ (call : ℕ × Submission). call.0) (calls_to 2 l)) (no_calls c))
+ran_2 (suc (suc (suc c))) = ap (λ (l : List RunItem). map (λ (i : RunItem). i.future) l) (no_items_2 c)
+    ∙ sym (ap (λ (l : List Submission). map (λ (call : ℕ × Submission). call.0) (calls_to 2 l)) (no_calls c))
 
 pub circle_joined : IsJoined circle_casts circle_plans circle_owners circle_ends
 circle_joined = record {

@@ -8,10 +8,15 @@ use Rattle.act_replay.proofs.Common.{Vacant, WorldView, IsOwnerAt, IsStage, IsRe
 
 -- a caller that the world doesn't have
 pub no_owner_in : (h : History) (c : ℕ) (owner : OwnerView) → c ≡ owner.id → IsOwnerAt h c None → IsTrue false ↔ IsOwnerIn h owner
-no_owner_in h c owner is none = (λ holds. absurd (true≢false (sym holds)), λ known. absurd (true≢false (sym known.known ∙ ap (λ (c : ℕ). is_caller c h) (sym is) ∙ none)))
+no_owner_in h c owner is none = (
+  λ holds. absurd (true≢false (sym holds)),
+  λ known. absurd
+      (true≢false (sym known.known ∙ ap (λ (c : ℕ). is_caller c h) (sym is) ∙ none)),
+)
 
 -- a caller that the world has
-pub owner_in : (h : History) (c : ℕ) (owner other : OwnerView) (r : Bool) → c ≡ owner.id → IsOwnerAt h c (Some other) → (IsTrue r ↔ AreSame owner other) → IsTrue r ↔ IsOwnerIn h owner
+pub owner_in : (h : History) (c : ℕ) (owner other : OwnerView) (r : Bool) → c ≡ owner.id → IsOwnerAt h c (Some other) → (IsTrue r ↔ AreSame owner other)
+    → IsTrue r ↔ IsOwnerIn h owner
 owner_in h c owner other r is at tells = (
   λ holds. let same = tells.0 holds in record {
     known = ap (λ (c : ℕ). is_caller c h) (sym is) ∙ at.0;
@@ -36,10 +41,12 @@ no_end_in h a end is none = (
 -- an actor in the world's slot, beside one that ended
 module _ (h : History) where
   same_to : (slot : SlotView) (end : EndView) → IsStage h (end_id end) (Some slot) → IsSameEnd slot end → IsEndIn h end
-  same_to (Died dead) (Killed other) at same = record { known = ap (λ (cast : Option ActorSpec). is_some cast) at.cast_is; runs = sym same ∙ at.log; ended = at.died }
+  same_to (Died dead) (Killed other) at same =
+      record { known = ap (λ (cast : Option ActorSpec). is_some cast) at.cast_is; runs = sym same ∙ at.log; ended = at.died }
   same_to (Died dead) (Retired other) at same = absurd same
   same_to (Died dead) (Starved other) at same = absurd same
-  same_to (Ended retired) (Retired other) at same = record { known = ap (λ (cast : Option ActorSpec). is_some cast) at.cast_is; runs = sym same ∙ at.log; ended = (at.lived, at.ended) }
+  same_to (Ended retired) (Retired other) at same =
+      record { known = ap (λ (cast : Option ActorSpec). is_some cast) at.cast_is; runs = sym same ∙ at.log; ended = (at.lived, at.ended) }
   same_to (Ended retired) (Killed other) at same = absurd same
   same_to (Ended retired) (Starved other) at same = absurd same
   same_to (Runs live) (Killed other) at same = absurd same
@@ -61,7 +68,8 @@ module _ (h : History) where
   same_from Vacant (Retired other) at known = absurd (true≢false (sym known.known ∙ ap (λ (cast : Option ActorSpec). is_some cast) at))
 
 -- an actor that the world has
-pub end_in : (h : History) (a : ℕ) (slot : SlotView) (end : EndView) (r : Bool) → a ≡ end_id end → IsStage h a (Some slot) → (IsTrue r ↔ IsSameEnd slot end) → IsTrue r ↔ IsEndIn h end
+pub end_in : (h : History) (a : ℕ) (slot : SlotView) (end : EndView) (r : Bool) → a ≡ end_id end → IsStage h a (Some slot) → (IsTrue r ↔ IsSameEnd slot end)
+    → IsTrue r ↔ IsEndIn h end
 end_in h a slot end r is at tells =
     let here : IsStage h (end_id end) (Some slot) = subst (λ (a : ℕ). IsStage h a (Some slot)) is at in
     (λ holds. same_to h slot end here (tells.0 holds), λ known. tells.1 (same_from h slot end here known))

@@ -28,9 +28,11 @@ pub twins_fit : {K J : Type 0} (state : K → KindState) (other : J → KindStat
     → map (actor_spec other) twins ≡ map (actor_spec state) casts → IsFitting casts → IsFitting twins
 twins_fit state other casts twins same fit = record {
   actors = pairs_there (actor_spec other) (λ (one two : ActorSpec). one.actor ≢ two.actor) twins
-      (subst (AllPairs (λ (one two : ActorSpec). one.actor ≢ two.actor)) (sym same) (pairs_view (actor_spec state) (λ (one two : ActorSpec). one.actor ≢ two.actor) casts fit.actors));
+      (subst (AllPairs (λ (one two : ActorSpec). one.actor ≢ two.actor)) (sym same)
+      (pairs_view (actor_spec state) (λ (one two : ActorSpec). one.actor ≢ two.actor) casts fit.actors));
   callers = all_there (actor_spec other) (λ (it : ActorSpec). CallersDiffer it.callers) twins
-      (subst (All (λ (it : ActorSpec). CallersDiffer it.callers)) (sym same) (All-map (λ (it : ActorSpec). CallersDiffer it.callers) (actor_spec state) casts fit.callers));
+      (subst (All (λ (it : ActorSpec). CallersDiffer it.callers)) (sym same)
+      (All-map (λ (it : ActorSpec). CallersDiffer it.callers) (actor_spec state) casts fit.callers));
   limits = all_there (actor_spec other) (λ (it : ActorSpec). IsLimit it.pending) twins
       (subst (All (λ (it : ActorSpec). IsLimit it.pending)) (sym same) (All-map (λ (it : ActorSpec). IsLimit it.pending) (actor_spec state) casts fit.limits));
 }

@@ -22,7 +22,8 @@ after_step h g event so_far accepted =
     }
 
 pub is_after : (h : History) (events : List Event) → IsAfter h (after_all h events)
-is_after h events = after_all_keeps (IsAfter h) (after_step h) h events (record { runs = λ a. whole_front (runs_of a h); calls = λ c. whole_front (calls_of c h) })
+is_after h events = after_all_keeps (IsAfter h) (after_step h) h events
+    (record { runs = λ a. whole_front (runs_of a h); calls = λ c. whole_front (calls_of c h) })
 
 -- ---- the first item of a list
 
@@ -37,7 +38,8 @@ nothing_at k x e = cc
 
 -- the list a can't have run the other's second call while the list o, to which the first one went, ran nothing
 not_first : (a o : ℕ) (h : History) → IsSound h → IsPrefix (calls_of o h) (circle_calls o a) → runs_of a h ≡ circle_ran o 1 2 ∷ [] → runs_of o h ≡ [] → ⊥
-not_first a o h s front here there = nothing_at answer.place answer.item (subst (λ (l : List RunItem). slice_get l answer.place ≡ Some answer.item) there (subst (λ (x : ℕ). slice_get (runs_of x h) answer.place ≡ Some answer.item) actor answer.at))
+not_first a o h s front here there = nothing_at answer.place answer.item (subst (λ (l : List RunItem). slice_get l answer.place ≡ Some answer.item) there
+    (subst (λ (x : ℕ). slice_get (runs_of x h) answer.place ≡ Some answer.item) actor answer.at))
   where
     fits : Consistent (λ x. opening_of x h) (λ c. calls_of c h) (λ x. runs_of x h) (λ c. kept_of c h) (λ x. is_dead x h)
     fits = consistent h s
@@ -46,11 +48,13 @@ not_first a o h s front here there = nothing_at answer.place answer.item (subst 
     submitted = (subst (AllByRecursion (IsAsSubmitted (λ c. calls_of c h) (λ c. kept_of c h))) here (fits.as_submitted a)).0
 
     call : circle_push a first_future ≡ submitted.call
-    call = let e : Some (circle_push a first_future) ≡ Some submitted.call = slice_get_front (calls_of o h) (circle_calls o a) 1 submitted.call front submitted.at in cc
+    call = let e : Some (circle_push a first_future) ≡ Some submitted.call =
+        slice_get_front (calls_of o h) (circle_calls o a) 1 submitted.call front submitted.at in cc
 
     kept : kept_at (kept_of o h) 0 ≡ Some (Ok (Int (pos 2)))
     kept =
-        let args : Good (Int (pos 2)) ∷ [] ≡ settled_future 0 (kept_at (kept_of o h) 0) ∷ [] = submitted.args ∙ ap (λ (s : Submission). map (settle (kept_of o h)) s.args) (sym call) in
+        let args : Good (Int (pos 2)) ∷ [] ≡ settled_future 0 (kept_at (kept_of o h) 0) ∷ [] =
+        submitted.args ∙ ap (λ (s : Submission). map (settle (kept_of o h)) s.args) (sym call) in
         good_kept (Int (pos 2)) (kept_at (kept_of o h) 0) cc
 
     answer : IsAnswerOfRun (λ x. opening_of x h) (λ x. runs_of x h) o 0 (Ok (Int (pos 2)))
@@ -64,7 +68,8 @@ not_first a o h s front here there = nothing_at answer.place answer.item (subst 
         sym held.2 ∙ ap (λ (s : Submission). s.actor) (sym same)
 
 -- the first item, where it is the first of the list that comes to be
-one_item : (a o : ℕ) (h g : History) (item : RunItem) → IsSound h → IsAfter h g → runs_of a h ≡ item ∷ [] → runs_of o h ≡ [] → calls_of o g ≡ circle_calls o a → runs_of a g ≡ circle_log a o → ⊥
+one_item : (a o : ℕ) (h g : History) (item : RunItem) → IsSound h → IsAfter h g → runs_of a h ≡ item ∷ [] → runs_of o h ≡ [] → calls_of o g ≡ circle_calls o a
+    → runs_of a g ≡ circle_log a o → ⊥
 one_item a o h g item s after here there calls_are runs_are =
     not_first a o h s (subst (IsPrefix (calls_of o h)) calls_are (after.calls o)) (here ∙ ap (λ (i : RunItem). i ∷ []) same) there
   where
@@ -88,7 +93,8 @@ abbrev Rest : List Event → Type 0
 Rest events = (h : History) → IsSound h → runs_of 1 h ≡ [] → runs_of 2 h ≡ [] → IsCircle (after_all h events) → ⊥
 
 -- an item more of the list b
-item_more : (events : List Event) → Rest events → (b c : ℕ) (h : History) (item : RunItem) → IsSound (after_run b c h (Some item)) → runs_of 1 h ≡ [] → runs_of 2 h ≡ [] → IsCircle (after_all (after_run b c h (Some item)) events) → ⊥
+item_more : (events : List Event) → Rest events → (b c : ℕ) (h : History) (item : RunItem) → IsSound (after_run b c h (Some item)) → runs_of 1 h ≡ []
+    → runs_of 2 h ≡ [] → IsCircle (after_all (after_run b c h (Some item)) events) → ⊥
 item_more events rest b c h item s none_1 none_2 end = go (b == 1) (b == 2) refl refl (more 1 none_1) (more 2 none_2)
   where
     g : History
@@ -103,7 +109,8 @@ item_more events rest b c h item s none_1 none_2 end = go (b == 1) (b == 2) refl
     go false true e f first_future second = one_item 2 1 g (after_all g events) item s (is_after g events) second first_future end.calls_1 end.runs_2
     go false false e f first_future second = rest g s first_future second end
 
-event_more : (events : List Event) → Rest events → (h : History) (event : Event) → IsSound (add_event h event) → runs_of 1 h ≡ [] → runs_of 2 h ≡ [] → IsCircle (after_all (add_event h event) events) → ⊥
+event_more : (events : List Event) → Rest events → (h : History) (event : Event) → IsSound (add_event h event) → runs_of 1 h ≡ [] → runs_of 2 h ≡ []
+    → IsCircle (after_all (add_event h event) events) → ⊥
 event_more events rest h (Submit c a method args) s none_1 none_2 end = rest (add_event h (Submit c a method args)) s none_1 none_2 end
 event_more events rest h (Copy c a) s none_1 none_2 end = rest (add_event h (Copy c a)) s none_1 none_2 end
 event_more events rest h (Release c a) s none_1 none_2 end = rest (add_event h (Release c a)) s none_1 none_2 end

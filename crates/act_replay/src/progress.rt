@@ -15,7 +15,7 @@ fn slot_of(a: ActorId) -> usize
 
 /// What a caller did so far.
 #[derive(Drop)]
-pub(crate) struct Asked {
+pub(crate) struct CallerProgress {
     /// How many of its calls it submitted.
     submitted: u32,
     /// Which of these have an answer.
@@ -26,10 +26,10 @@ pub(crate) struct Asked {
     bereaved: [bool; ACTOR_NUMBERS],
 }
 
-impl Asked {
+impl CallerProgress {
     /// A caller that did nothing yet.
-    pub(crate) fn new(alloc: Global) -> Asked {
-        Asked {
+    pub(crate) fn new(alloc: Global) -> CallerProgress {
+        CallerProgress {
             submitted: 0,
             answered: Vec::new(alloc),
             pending: [0; ACTOR_NUMBERS],

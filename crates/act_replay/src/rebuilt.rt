@@ -10,7 +10,7 @@
 
 ghost use Rattle.std.specs.Prelude.{◌≡◌, ◌==◌, position};
 
-use crate::progress::{Asked, Served};
+use crate::progress::{CallerProgress, Served};
 use act_executor::{Ended, Finished};
 use act_kinds::Actor;
 use act_owner::Owner;
@@ -27,7 +27,7 @@ struct Rebuilt {
     letters: u32,
     notices: u32,
     /// The callers and the actors, in the order in which they were joined.
-    callers: Vec<Asked>,
+    callers: Vec<CallerProgress>,
     actors: Vec<Served>,
 }
 
@@ -82,7 +82,7 @@ impl Rebuilt {
     /// So many callers and actors that did nothing yet.
     fn add_nobody(&mut self, callers: usize, actors: usize) -> Result<(), NoMemory> {
         for _caller in 0..callers {
-            self.callers.push(Asked::new(self.alloc))?;
+            self.callers.push(CallerProgress::new(self.alloc))?;
         }
         for _actor in 0..actors {
             self.actors.push(Served {

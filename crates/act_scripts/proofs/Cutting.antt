@@ -1,9 +1,9 @@
 -- The first line of a text, byte by byte, and its words.
 use Rattle.act_scripts.proofs.Common.{◌≡◌, ℕ, ◌+◌, ◌-◌, ◌<◌, ◌≤◌, ◌==◌, Bool, true, false, List, [], ◌∷◌, ◌++◌, length, take, drop, get_or, nat_lt}
-use Rattle.act_scripts.proofs.Common.{if◌then◌else◌, Ok, Err, refl, sym, ap, ◌∙◌, arith, append-nil, length-append, length-take, take-append-drop, eq-eqb}
-use Rattle.act_scripts.proofs.Common.{list_all, onto_first, slice_split, at_drop_more, take_more, drop_all, drop-take, drop-append-le, slice_split-cons_yes}
-use Rattle.act_scripts.proofs.Common.{slice_split-cons_no, length-slice_split, list_all-append, list_all_more, and_parts, lt-ltb, le-ltb, nat_tests}
-use Rattle.act_scripts.proofs.Common.{MAX_LINE_BYTES, BadLine, is_plain_byte, plain_at, words_in, lines_in}
+use Rattle.act_scripts.proofs.Common.{if◌then◌else◌, Err, refl, sym, ap, ◌∙◌, arith, append-nil, length-append, length-take, take-append-drop, eq-eqb, list_all}
+use Rattle.act_scripts.proofs.Common.{onto_first, slice_split, at_drop_more, take_more, drop_all, drop-take, drop-append-le, slice_split-cons_yes}
+use Rattle.act_scripts.proofs.Common.{slice_split-cons_no, length-slice_split, list_all-append, list_all_more, and_parts, lt-ltb, nat_tests, MAX_LINE_BYTES}
+use Rattle.act_scripts.proofs.Common.{BadLine, is_plain_byte, plain_at, words_in, lines_in}
 
 -- ---- parts, with one element more
 
@@ -111,9 +111,6 @@ unplain_at line e = rw e (either_way (nat_lt MAX_LINE_BYTES (length line)) (Err 
 
 pub long_at : (line : List ℕ) → MAX_LINE_BYTES < length line → plain_at line ≡ Err BadLine
 long_at line long = rw (lt-ltb MAX_LINE_BYTES (length line) long) refl
-
-pub plain_at_is : (line : List ℕ) → length line ≤ MAX_LINE_BYTES → list_all is_plain_byte line ≡ true → plain_at line ≡ Ok line
-plain_at_is line short plain = rw (le-ltb MAX_LINE_BYTES (length line) short, plain) refl
 
 module _ (bs : List ℕ) (at : ℕ) (lt : at < length bs) (plain : list_all is_plain_byte (take at bs) ≡ true) where
   parts : bs ≡ take at bs ++ get_or bs at 0 ∷ drop (at + 1) bs

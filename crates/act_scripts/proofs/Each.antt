@@ -1,7 +1,6 @@
 -- Reading words one after the other, as a loop does.
 use Rattle.act_scripts.proofs.Common.{◌≡◌, ℕ, ◌+◌, ◌<◌, ◌≤◌, List, [], ◌∷◌, ◌++◌, length, map, drop, get_or, Result, Ok, Err, Bor, refl, sym, ap, ◌∙◌}
-use Rattle.act_scripts.proofs.Common.{append_assoc, add-one, drop-cons, drop_of_length-le, Wrong, LineFault, ◌>>=◌, Fails, each_at}
-use Rattle.std.proofs.lemmas.List.{append-nil}
+use Rattle.act_scripts.proofs.Common.{append_assoc, add-one, drop-cons, drop_of_length-le, Wrong, LineFault, ◌>>=◌, Fails, each_at, append-nil}
 use Rattle.act_scripts.specs.declared.line.LineFault.TheVariants as faults
 
 -- the texts of borrowed words

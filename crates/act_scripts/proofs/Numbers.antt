@@ -1,9 +1,8 @@
 -- What `parse` says of a word that is a numeral.
-use Rattle.act_scripts.proofs.Common.{◌≡◌, ℕ, ◌^◌, ◌<◌, Bool, true, false, List, [], ◌∷◌, length, get_or, list_all, refl, Result, Ok, Err, MatchResult, arith, sym, ap, ◌∙◌, digits_value, ParsesUnsigned}
-use Rattle.act_scripts.proofs.Common.{nat_tests, parse_plain, BadLine, is_numeral, own, numeral_is_digits}
+use Rattle.act_scripts.proofs.Common.{◌≡◌, ℕ, ◌^◌, ◌<◌, Bool, true, false, List, [], ◌∷◌, length, get_or, list_all, refl, Result, Ok, Err, MatchResult, arith}
+use Rattle.act_scripts.proofs.Common.{sym, ap, ◌∙◌, digits_value, ParsesUnsigned, nat_tests, parse_plain, BadLine, is_numeral, own, numeral_is_digits, ◌≢◌}
 use Rattle.act_rules.specs.Words.{number_at}
 use Rattle.act_scripts.specs.Numerals.{begins_numeral}
-use Rattle.std.specs.Prelude.{◌≢◌}
 use Rattle.std.specs.Char.{is_ascii_digit}
 
 number_from_test : (word : List ℕ) → is_numeral word ≡ true → (digits_value 10 word < 2 ^ 32 → number_at word ≡ Ok (digits_value 10 word)) × (¬ (digits_value 10 word < 2 ^ 32) → number_at word ≡ Err BadLine)

@@ -41,10 +41,6 @@ unrefused script role none = go (not (length script.events == 0) || not (length 
     go false false true e = cc
     go false false false e = (refl, refl)
 
--- no roles
-pub none_sound : AreSound []
-none_sound = record { actors = λ i j d before within. absurd (omega arith); callers = λ k d within. absurd (omega arith); valid = λ k d within. absurd (omega arith); limits = λ k d within. absurd (omega arith) }
-
 -- callers of whom none stands twice
 differ : (callers : List ℕ) → has_twice callers ≡ false → AllPairs (λ one other. one ≢ other) callers
 differ [] none = λ i j d before within. absurd (omega arith)

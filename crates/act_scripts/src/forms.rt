@@ -25,25 +25,18 @@ fn args_of(alloc: Global, words: &[&str]) -> Result<ListOf<Arg>, LineFault>
     Ok(args)
 }
 
-/// The callers that words spell.
-fn callers_of(alloc: Global, words: &[&str]) -> Result<ListOf<CallerId>, LineFault>
-    ensures { Gives (λ x. x) result (callers_at (map (λ w. w.now) words.now)) }
-{
-    let mut callers = ListOf::with_capacity(alloc, words.len())?;
-    for word in words {
-        callers.push(caller_of(word)?)?;
-    }
-    Ok(callers)
-}
-
 /// The callers that one or more words spell.
-fn some_callers_of(alloc: Global, words: &[&str]) -> Result<ListOf<CallerId>, LineFault>
+fn callers_of(alloc: Global, words: &[&str]) -> Result<ListOf<CallerId>, LineFault>
     ensures { Gives (λ x. x) result (some_callers_at (map (λ w. w.now) words.now)) }
 {
     if words.is_empty() {
         return Err(BAD_LINE);
     }
-    callers_of(alloc, words)
+    let mut callers = ListOf::with_capacity(alloc, words.len())?;
+    for word in words {
+        callers.push(caller_of(word)?)?;
+    }
+    Ok(callers)
 }
 
 /// A limit and the callers, from the words after `max`.
@@ -54,7 +47,7 @@ fn limited_of(alloc: Global, words: &[&str]) -> Result<(Option<u32>, ListOf<Call
     match words {
         [number, callers @ ..] => {
             let limit = limit_of(number)?;
-            let callers = some_callers_of(alloc, callers)?;
+            let callers = callers_of(alloc, callers)?;
             Ok((Some(limit), callers))
         }
         _ => Err(BAD_LINE),
@@ -73,7 +66,7 @@ fn naming_of(alloc: Global, words: &[&str]) -> Result<(Option<u32>, ListOf<Calle
     if *head == "max" {
         return limited_of(alloc, rest);
     }
-    let callers = some_callers_of(alloc, words)?;
+    let callers = callers_of(alloc, words)?;
     Ok((None, callers))
 }
 
@@ -118,16 +111,6 @@ fn call_of(
         }
         _ => Err(BAD_LINE),
     }
-}
-
-/// A submission, from the words after `submit`.
-fn submit_of(alloc: Global, words: &[&str]) -> Result<Line, LineFault>
-    ensures said { Gives (λ x. x) result
-        (submit_at (λ c a m args. Line.Event (Event.Submit c a m args)) (map (λ w. w.now) words.now)) }
-    ensures of_mode { IfOk result (IsLineOf Play) }
-{
-    let (caller, actor, method, args) = call_of(alloc, words)?;
-    Ok(Line::Event(Event::Submit(caller, actor, method, args)))
 }
 
 /// The caller and the actor of a form that has these two words.
@@ -222,74 +205,6 @@ fn caller_and_future(words: &[&str]) -> Result<(CallerId, FutureId), LineFault>
     }
 }
 
-/// A sending, from the words after `send`.
-fn send_of(words: &[&str]) -> Result<Line, LineFault>
-    ensures { Gives (λ x. x) result
-        (two_at (λ c k. Line.Event (Event.Send c k)) caller_at number_at (map (λ w. w.now) words.now)) }
-{
-    let (caller, future) = caller_and_future(words)?;
-    Ok(Line::Event(Event::Send(caller, future)))
-}
-
-/// A delivery, from the words after `deliver`.
-fn deliver_of(words: &[&str]) -> Result<Line, LineFault>
-    ensures { Gives (λ x. x) result
-        (one_at (λ i. Line.Event (Event.Deliver i)) number_at (map (λ w. w.now) words.now)) }
-{
-    Ok(Line::Event(Event::Deliver(only_number(words)?)))
-}
-
-/// A run, from the words after `run`.
-fn run_of(words: &[&str]) -> Result<Line, LineFault>
-    ensures { Gives (λ x. x) result
-        (two_at (λ a c. Line.Event (Event.Run a c)) actor_at caller_at (map (λ w. w.now) words.now)) }
-{
-    let (actor, caller) = actor_and_caller(words)?;
-    Ok(Line::Event(Event::Run(actor, caller)))
-}
-
-/// A collection, from the words after `collect`.
-fn collect_of(words: &[&str]) -> Result<Line, LineFault>
-    ensures { Gives (λ x. x) result
-        (one_at (λ j. Line.Event (Event.Collect j)) number_at (map (λ w. w.now) words.now)) }
-{
-    Ok(Line::Event(Event::Collect(only_number(words)?)))
-}
-
-/// The taking of a kill, from the words after `take`.
-fn take_of(words: &[&str]) -> Result<Line, LineFault>
-    ensures { Gives (λ x. x) result
-        (one_at (λ a. Line.Event (Event.TakeKill a)) actor_at (map (λ w. w.now) words.now)) }
-{
-    Ok(Line::Event(Event::TakeKill(only_actor(words)?)))
-}
-
-/// The telling of a death, from the words after `tell`.
-fn tell_of(words: &[&str]) -> Result<Line, LineFault>
-    ensures { Gives (λ x. x) result
-        (two_at (λ a c. Line.Event (Event.Tell a c)) actor_at caller_at (map (λ w. w.now) words.now)) }
-{
-    let (actor, caller) = actor_and_caller(words)?;
-    Ok(Line::Event(Event::Tell(actor, caller)))
-}
-
-/// A retirement, from the words after `retire`.
-fn retire_of(words: &[&str]) -> Result<Line, LineFault>
-    ensures { Gives (λ x. x) result (one_at (λ a. Line.Event (Event.Retire a)) actor_at (map (λ w. w.now) words.now)) }
-{
-    Ok(Line::Event(Event::Retire(only_actor(words)?)))
-}
-
-/// A step that submits, from the words after `submit`.
-fn submit_step_of(alloc: Global, words: &[&str]) -> Result<Line, LineFault>
-    ensures said { Gives (λ x. x) result
-        (submit_at (λ c a m args. Line.Step c (Step.Submit a m args)) (map (λ w. w.now) words.now)) }
-    ensures of_mode { IfOk result (IsLineOf Threads) }
-{
-    let (caller, actor, method, args) = call_of(alloc, words)?;
-    Ok(Line::Step(caller, Step::Submit(actor, method, args)))
-}
-
 /// A step that copies, from the words after `copy`.
 fn copy_step_of(words: &[&str]) -> Result<Line, LineFault>
     ensures { Gives (λ x. x) result
@@ -317,15 +232,6 @@ fn kill_step_of(words: &[&str]) -> Result<Line, LineFault>
     Ok(Line::Step(caller, Step::Kill(actor)))
 }
 
-/// A step that waits, from the words after `await`.
-fn await_step_of(words: &[&str]) -> Result<Line, LineFault>
-    ensures { Gives (λ x. x) result
-        (two_at (λ c k. Line.Step c (Step.Await k)) caller_at number_at (map (λ w. w.now) words.now)) }
-{
-    let (caller, future) = caller_and_future(words)?;
-    Ok(Line::Step(caller, Step::Await(future)))
-}
-
 /// What the words of a line say in a play, by the form that the first word names.
 #[tactic(auto, unfolding(act_rules::specs::Grammar::form_at, act_rules::specs::Grammar::play_forms))]
 fn event_form_of(alloc: Global, words: &[&str]) -> Result<Line, LineFault>
@@ -337,18 +243,30 @@ fn event_form_of(alloc: Global, words: &[&str]) -> Result<Line, LineFault>
     };
     // Those that most lines of a play have come first.
     match *head {
-        "submit" => submit_of(alloc, words),
-        "send" => send_of(words),
-        "deliver" => deliver_of(words),
-        "run" => run_of(words),
-        "collect" => collect_of(words),
+        "submit" => {
+            let (caller, actor, method, args) = call_of(alloc, words)?;
+            Ok(Line::Event(Event::Submit(caller, actor, method, args)))
+        }
+        "send" => {
+            let (caller, future) = caller_and_future(words)?;
+            Ok(Line::Event(Event::Send(caller, future)))
+        }
+        "deliver" => Ok(Line::Event(Event::Deliver(only_number(words)?))),
+        "run" => {
+            let (actor, caller) = actor_and_caller(words)?;
+            Ok(Line::Event(Event::Run(actor, caller)))
+        }
+        "collect" => Ok(Line::Event(Event::Collect(only_number(words)?))),
         "actor" => Ok(Line::Role(role_of(alloc, words)?)),
         "copy" => copy_of(words),
         "release" => release_of(words),
         "kill" => kill_of(words),
-        "take" => take_of(words),
-        "tell" => tell_of(words),
-        "retire" => retire_of(words),
+        "take" => Ok(Line::Event(Event::TakeKill(only_actor(words)?))),
+        "tell" => {
+            let (actor, caller) = actor_and_caller(words)?;
+            Ok(Line::Event(Event::Tell(actor, caller)))
+        }
+        "retire" => Ok(Line::Event(Event::Retire(only_actor(words)?))),
         _ => Err(BAD_LINE),
     }
 }
@@ -364,11 +282,17 @@ fn step_form_of(alloc: Global, words: &[&str]) -> Result<Line, LineFault>
     };
     match *head {
         "actor" => Ok(Line::Role(role_of(alloc, words)?)),
-        "submit" => submit_step_of(alloc, words),
+        "submit" => {
+            let (caller, actor, method, args) = call_of(alloc, words)?;
+            Ok(Line::Step(caller, Step::Submit(actor, method, args)))
+        }
         "copy" => copy_step_of(words),
         "release" => release_step_of(words),
         "kill" => kill_step_of(words),
-        "await" => await_step_of(words),
+        "await" => {
+            let (caller, future) = caller_and_future(words)?;
+            Ok(Line::Step(caller, Step::Await(future)))
+        }
         _ => Err(BAD_LINE),
     }
 }

@@ -34,28 +34,6 @@ pub struct Script {
     pub items: Items,
 }
 
-impl Items {
-    /// No items of a script of this mode.
-    fn no_items(alloc: Global, mode: Mode) -> Items
-        ensures mode { mode_of result ≡ mode }
-        ensures none { count_of result ≡ 0 }
-    {
-        match mode {
-            Mode::Play => Items::Events(ListOf::new(alloc)),
-            Mode::Threads => Items::Steps(ListOf::new(alloc)),
-        }
-    }
-
-    fn is_empty(&self) -> bool
-        ensures { result ≡ (count_of self.now == 0) }
-    {
-        match self {
-            Items::Events(events) => events.as_slice().is_empty(),
-            Items::Steps(steps) => steps.as_slice().is_empty(),
-        }
-    }
-}
-
 /// Adds a word of plain bytes.
 fn push_word<'a>(words: &mut Vec<&'a str>, word: &'a [u8]) -> Result<(), AllocError>
     requires { list_all is_plain_byte word.now ≡ true }
@@ -104,19 +82,12 @@ fn cut<'a>(words: &mut Vec<&'a str>, bytes: &'a [u8]) -> Result<usize, LineFault
     Ok(bytes.len())
 }
 
-/// Whether a caller is one of these.
-fn is_among(caller: CallerId, callers: &[CallerId]) -> bool
-    ensures { result ≡ list_any (λ c. c == caller) callers.now }
-{
-    callers.iter().any(|other| *other == caller)
-}
-
 /// Whether a caller stands twice.
 fn names_twice(callers: &[CallerId]) -> bool
     ensures { result ≡ has_twice callers.now }
 {
     for (at, caller) in callers.iter().enumerate() {
-        if is_among(*caller, &callers[at + 1..]) {
+        if callers[at + 1..].contains(caller) {
             return true;
         }
     }
@@ -135,7 +106,11 @@ fn has_role(actor: ActorId, roles: &[Role]) -> bool
 fn fault_of(script: &Script, role: &Role) -> Option<Wrong>
     ensures { result ≡ role_fault (spelled_script script.now) role.now }
 {
-    if !script.items.is_empty() {
+    let late = match &script.items {
+        Items::Events(events) => !events.as_slice().is_empty(),
+        Items::Steps(steps) => !steps.as_slice().is_empty(),
+    };
+    if late {
         return Some(Wrong::LateActor);
     }
     if has_role(role.actor, script.casts.as_slice()) {
@@ -153,9 +128,13 @@ fn empty_script(alloc: Global, mode: Mode) -> Script
     ensures mode { mode_of result.items ≡ mode }
     ensures none { count_of result.items ≡ 0 }
 {
+    let items = match mode {
+        Mode::Play => Items::Events(ListOf::new(alloc)),
+        Mode::Threads => Items::Steps(ListOf::new(alloc)),
+    };
     Script {
         casts: ListOf::new(alloc),
-        items: Items::no_items(alloc, mode),
+        items,
     }
 }
 
@@ -163,7 +142,7 @@ fn empty_script(alloc: Global, mode: Mode) -> Script
 fn add_role(script: &mut Script, role: Role) -> Result<(), LineFault>
     requires { IsLimit role.pending }
     ensures sound { AreSound (map actor_spec_of script.old.casts) → AreSound (map actor_spec_of script.new.casts) }
-    ensures read { (n : ℕ) → LeavesScript result script.new (add_line (spelled_script script.old) n (Line.Role role)) }
+    ensures read { LeavesScript result script.new (add_line (spelled_script script.old) 0 (Line.Role role)) }
     ensures items { script.new.items ≡ script.old.items }
 {
     // A script has no more actors than there are numbers for them.
@@ -180,8 +159,7 @@ fn add_event(script: &mut Script, event: Event) -> Result<(), LineFault>
     requires { mode_of script.old.items ≡ Play }
     ensures casts { script.new.casts ≡ script.old.casts }
     ensures mode { mode_of script.new.items ≡ Play }
-    ensures read { (n : ℕ) →
-        LeavesScript result script.new (add_line (spelled_script script.old) n (Line.Event event)) }
+    ensures read { LeavesScript result script.new (add_line (spelled_script script.old) 0 (Line.Event event)) }
     ensures few { count_of script.new.items ≤ count_of script.old.items + 1 }
 {
     let Items::Events(events) = &mut script.items else {
@@ -207,21 +185,6 @@ fn add_step(script: &mut Script, caller: CallerId, step: Step, number: u32) -> R
     Ok(())
 }
 
-/// Adds what the line of this number says.
-fn add(script: &mut Script, line: Line, number: u32) -> Result<(), LineFault>
-    requires { IsLineOf (mode_of script.old.items) line }
-    ensures sound { AreSound (map actor_spec_of script.old.casts) → AreSound (map actor_spec_of script.new.casts) }
-    ensures mode { mode_of script.new.items ≡ mode_of script.old.items }
-    ensures read { LeavesScript result script.new (add_line (spelled_script script.old) number line) }
-    ensures few { count_of script.new.items ≤ count_of script.old.items + 1 }
-{
-    match line {
-        Line::Role(role) => add_role(script, role),
-        Line::Event(event) => add_event(script, event),
-        Line::Step(caller, step) => add_step(script, caller, step, number),
-    }
-}
-
 /// Adds what the short and plain line of this number says, whose words these are, if it isn't skipped.
 #[tactic(auto, unfolding(act_rules::specs::Grammar::line_at))]
 fn add_line(
@@ -243,7 +206,11 @@ fn add_line(
 {
     match line {
         [] | [b'#', ..] => Ok(()),
-        _ => add(script, form_of(alloc, mode, words)?, number),
+        _ => match form_of(alloc, mode, words)? {
+            Line::Role(role) => add_role(script, role),
+            Line::Event(event) => add_event(script, event),
+            Line::Step(caller, step) => add_step(script, caller, step, number),
+        },
     }
 }
 

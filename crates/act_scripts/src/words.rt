@@ -84,17 +84,6 @@ fn is_numeral_text(digits: &[u8]) -> bool
     are_digits(digits)
 }
 
-/// The number that one digit spells.
-#[tactic(auto, unfolding(act_rules::specs::Words::number_at))]
-fn number_of_digit(digit: u8) -> Result<u32, LineFault>
-    ensures { Gives (λ x. x) result (number_at (digit ∷ [])) }
-{
-    match digit {
-        b'0'..=b'9' => Ok((digit - b'0') as u32),
-        _ => Err(BAD_LINE),
-    }
-}
-
 /// Whether a numeral of more than one digit begins so: with a digit that isn't 0.
 fn begins_numeral(word: &[u8]) -> bool
     ensures { result ≡ begins_numeral word.now }
@@ -112,7 +101,10 @@ pub fn number_of(word: &str) -> Result<u32, LineFault>
 {
     // Names and many futures have one digit, which wants no parser.
     if let [digit] = word.as_bytes() {
-        return number_of_digit(*digit);
+        return match digit {
+            b'0'..=b'9' => Ok((*digit - b'0') as u32),
+            _ => Err(BAD_LINE),
+        };
     }
     // The parser looks at the other digits.
     if !begins_numeral(word.as_bytes()) {

@@ -4,7 +4,7 @@ use Rattle.act_rules.specs.declared.script.Mode.TheVariants.{Play, Threads}
 use Rattle.act_console.specs.Console.{ScriptPlayed}
 use Rattle.act_console.specs.Threads.{Threaded}
 use Rattle.act_record.specs.Record.{IsRecorded}
-use Rattle.act_record.specs.declared.answer.Written.{Written}
+use Rattle.act_record.specs.declared.output.Written.{Written}
 use Rattle.act_histories.specs.Checked.{Checked}
 use Rattle.ray_commands.specs.declared.command.Command.{Command}
 use Rattle.ray_commands.specs.declared.command.Command.TheVariants as command

@@ -6,7 +6,9 @@ pub loop-number-preserved : goal.loop-number-preserved
 loop-number-preserved c =
     let owner = c.args.owner.now in
     let within : c.loop-number.number < length owner.calls = omega arith in
-    goes_on_found (future_line owner.id owner.kept) (string_bytes c.loop-number.text) (string_bytes c.push_future.new.text) _ owner.calls c.loop-number.number within (c.in_ok-push_future.ensures ∙ ap (λ k. string_bytes c.loop-number.text ++ owner_line owner k) c.new.ensures) c.loop-number.invariant
+    goes_on_found (future_line owner.id owner.kept) (string_bytes c.loop-number.text)
+    (string_bytes c.push_future.new.text) _ owner.calls c.loop-number.number within (c.in_ok-push_future.ensures
+    ∙ ap (λ k. string_bytes c.loop-number.text ++ owner_line owner k) c.new.ensures) c.loop-number.invariant
 
 pub returns : goal.returns
 returns c =

@@ -1,4 +1,4 @@
-use Rattle.std.proofs.Common.{rules, append_assoc}
+use Rattle.act_console.proofs.Common.{rules, append_assoc}
 use Rattle.act_console.proofs.streams.refusal_of.Goals as goal
 
 pub returns : goal.returns

@@ -1,7 +1,4 @@
-use Rattle.std.proofs.Common.{List, ℕ, ◌++◌, ap, ◌∙◌}
-use Rattle.act_rules.specs.Laws.{history}
-use Rattle.act_world.specs.View.{world_view}
-use Rattle.act_console.specs.Parts.{world_summary}
+use Rattle.act_ends.proofs.Common.{List, ℕ, ◌++◌, ap, ◌∙◌, history, world_view, world_summary}
 use Rattle.act_ends.proofs.Rest.{rest_none_yet, rest_shown}
 use Rattle.act_ends.proofs.lines.lines_at_rest.Goals as goal
 

@@ -1,6 +1,4 @@
-use Rattle.std.proofs.Common.{◌≡◌, ℕ, arith, subst}
-use Rattle.act_world.specs.View.{world_view}
-use Rattle.act_ends.specs.Rest.{IsResting}
+use Rattle.act_ends.proofs.Common.{◌≡◌, ℕ, arith, subst, world_view, IsResting}
 use Rattle.act_ends.proofs.lines.retire_all.Goals as goal
 
 pub returns : goal.returns

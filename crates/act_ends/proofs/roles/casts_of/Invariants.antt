@@ -1,7 +1,5 @@
-use Rattle.std.specs.Prelude.{◌≡◌, map, take}
-use Rattle.act_rules.specs.Scripts.{actor_spec_of}
+use Rattle.act_ends.proofs.Common.{◌≡◌, map, take, actor_spec_of, state_of}
 use Rattle.act_actor.specs.Casts.{actor_spec}
-use Rattle.act_ends.specs.Kinds.{state_of}
 use Rattle.act_ends.proofs.roles.casts_of.Given as goal
 
 -- the casts of the first roles are there

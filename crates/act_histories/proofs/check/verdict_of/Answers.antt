@@ -1,10 +1,6 @@
-use Rattle.std.proofs.Common.{◌≡◌, ◌++◌, ◌∙◌, sym, true}
+use Rattle.act_histories.proofs.Common.{◌≡◌, ◌++◌, ◌∙◌, sym, true, IfOk-weaker, Threads, spelled_script, told_part}
 use Rattle.std.proofs.lemmas.List.{take-append-drop}
-use Rattle.std.proofs.lemmas.Result.{IfOk-weaker}
-use Rattle.act_rules.specs.declared.script.Mode.TheVariants.{Threads}
-use Rattle.act_scripts.specs.Spelled.{spelled_script}
 use Rattle.act_summaries.proofs.Spelled.{spelled_good}
-use Rattle.act_histories.specs.Cut.{told_part}
 use Rattle.act_histories.proofs.Verdicts.{of_parts}
 use Rattle.act_histories.proofs.check.verdict_of.Goals as goal
 
@@ -23,7 +19,8 @@ returns-in-Ok g c =
     let at = c.cut_of-at.result.at in
     let parts : bytes ≡ front ++ rest = sym (take-append-drop at bytes) ∙ (λ i. sym c.split_at.ensures.front i ++ sym c.split_at.ensures.back i) in
     let told : rest ≡ told_part true bytes = c.split_at.ensures.back ∙ c.cut_of-at.ensures.told in
-    IfOk-weaker c.verdict_of_script.result _ _ (λ verdict is. of_parts bytes front rest (spelled_script c.in-Ok.script) verdict parts told c.in-Ok.ensures.spelled is)
+    IfOk-weaker c.verdict_of_script.result _ _
+    (λ verdict is. of_parts bytes front rest (spelled_script c.in-Ok.script) verdict parts told c.in-Ok.ensures.spelled is)
     c.verdict_of_script.ensures
 
 pub returns : goal.returns

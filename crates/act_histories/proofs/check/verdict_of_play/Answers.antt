@@ -1,4 +1,4 @@
-use Rattle.act_console.specs.Plans.{script_of}
+use Rattle.act_histories.proofs.Common.{script_of}
 use Rattle.act_histories.proofs.check.verdict_of_play.Goals as goal
 
 pub returns : goal.returns

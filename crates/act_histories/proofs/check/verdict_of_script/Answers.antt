@@ -1,4 +1,4 @@
-use Rattle.act_scripts.specs.Spelled.{spelled_script}
+use Rattle.act_histories.proofs.Common.{spelled_script}
 use Rattle.act_histories.proofs.check.verdict_of_script.Goals as goal
 
 pub returns : goal.returns

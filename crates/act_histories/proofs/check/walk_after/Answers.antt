@@ -1,5 +1,4 @@
-use Rattle.std.proofs.Common.{◌≡◌, List, [], map, ap, ◌∙◌, arith, subst}
-use Rattle.std.proofs.lemmas.Result.{IfOk-weaker}
+use Rattle.act_histories.proofs.Common.{◌≡◌, List, [], map, ap, ◌∙◌, arith, subst, IfOk-weaker}
 use Rattle.act_actor.specs.Casts.{actor_spec}
 use Rattle.act_console.proofs.Roles.{casts_fit}
 use Rattle.act_rules.specs.History.{ActorSpec}
@@ -21,7 +20,8 @@ returns g c =
     let casts = map actor_spec_of c.args.roles.now in
     let same : map (actor_spec (λ b. (goal.Actor-dyn g (b.vtable, b.value)).state b.value)) c.in_ok-casts.casts.items ≡ casts =
     c.in_ok-casts.ensures ∙ ap (map actor_spec_of) c.in_ok-copies.ensures in
-    let opened = subst (λ (casts : List ActorSpec). IsReachedBy casts [] (world_view (λ b. (goal.Actor-dyn g (b.vtable, b.value)).state b.value) c.in_ok-world.world)) same c.in_ok-world.ensures.reached in
+    let opened = subst (λ (casts : List ActorSpec). IsReachedBy casts []
+    (world_view (λ b. (goal.Actor-dyn g (b.vtable, b.value)).state b.value) c.in_ok-world.world)) same c.in_ok-world.ensures.reached in
     IfOk-weaker c.walk.result _ _
     (λ walked all. record {
       accepted = all.0 casts opened;

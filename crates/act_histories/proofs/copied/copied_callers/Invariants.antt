@@ -1,4 +1,4 @@
-use Rattle.std.proofs.Common.{◌≡◌, take}
+use Rattle.act_histories.proofs.Common.{◌≡◌, take}
 use Rattle.act_histories.proofs.copied.copied_callers.Given as goal
 
 -- the callers so far

@@ -1,4 +1,4 @@
-use Rattle.std.proofs.Common.{length}
+use Rattle.act_histories.proofs.Common.{length}
 use Rattle.act_histories.proofs.Cutting.{IsLeft}
 use Rattle.act_histories.proofs.cut.cut_of.Given as goal
 

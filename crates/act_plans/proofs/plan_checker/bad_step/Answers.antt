@@ -1,4 +1,4 @@
-use Rattle.std.proofs.Common.{refl}
+use Rattle.act_plans.proofs.Common.{refl}
 use Rattle.act_plans.proofs.Refusals.{begins, passes}
 use Rattle.act_plans.proofs.plan_checker.bad_step.Goals as goal
 

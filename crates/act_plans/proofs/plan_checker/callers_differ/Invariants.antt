@@ -1,4 +1,4 @@
-use Rattle.std.proofs.Common.{◌≢◌, AllPairs, take}
+use Rattle.act_plans.proofs.Common.{◌≢◌, AllPairs, take}
 use Rattle.act_plans.proofs.plan_checker.callers_differ.Given as goal
 
 -- the callers so far are distinct

@@ -1,4 +1,4 @@
-use Rattle.std.proofs.Common.{◌≡◌, take}
+use Rattle.act_record.proofs.Common.{◌≡◌, take}
 use Rattle.act_record.proofs.copied.copy_of_roles.Given as goal
 
 -- the copies are the roles so far

@@ -1,15 +1,15 @@
-use Rattle.std.proofs.Common.{ℕ, List, Ok, Err, subst}
-use Rattle.act_console.specs.Threads.{spelled_threads}
-use Rattle.act_record.specs.Answer.{IsAnswer}
+use Rattle.act_record.proofs.Common.{ℕ, List, Ok, Err, subst, spelled_threads, IsOutput}
 use Rattle.act_record.proofs.Told.{told, untold}
 use Rattle.act_record.proofs.record.record_script.Goals as goal
 
 pub returns-in-Ok : goal.returns-in-Ok
 returns-in-Ok g c =
-    told (g.R.Read.remaining c.args.reader.now) (g.R.Read.remaining c.read_whole.new.reader) (g.W.Write.contents c.args.writer.now) (g.W.Write.contents c.write_answer.new.writer) c.in_ok-bytes.bytes.items c.in_ok-bytes.ensures.ok c.in-Ok.answer c.write_answer.result
-    (subst (λ (bytes : List ℕ). IsAnswer (Ok c.in-Ok.answer) (spelled_threads bytes)) c.deref.ensures.value c.in-Ok.ensures) c.write_answer.ensures
+    told (g.R.Read.remaining c.args.reader.now) (g.R.Read.remaining c.read_whole.new.reader) (g.W.Write.contents c.args.writer.now)
+    (g.W.Write.contents c.write_output.new.writer) c.in_ok-bytes.bytes.items c.in_ok-bytes.ensures.ok c.in-Ok.output c.write_output.result
+    (subst (λ (bytes : List ℕ). IsOutput (Ok c.in-Ok.output) (spelled_threads bytes)) c.deref.ensures.value c.in-Ok.ensures) c.write_output.ensures
 
 pub returns : goal.returns
 returns g c =
-    untold (g.R.Read.remaining c.args.reader.now) (g.R.Read.remaining c.read_whole.new.reader) (g.W.Write.contents c.args.writer.now) c.in_ok-bytes.bytes.items c.in_ok-bytes.ensures.ok c.in-Err.fault
-    (subst (λ (bytes : List ℕ). IsAnswer (Err c.in-Err.fault) (spelled_threads bytes)) c.deref.ensures.value c.in-Err.ensures)
+    untold (g.R.Read.remaining c.args.reader.now) (g.R.Read.remaining c.read_whole.new.reader)
+    (g.W.Write.contents c.args.writer.now) c.in_ok-bytes.bytes.items c.in_ok-bytes.ensures.ok c.in-Err.fault
+    (subst (λ (bytes : List ℕ). IsOutput (Err c.in-Err.fault) (spelled_threads bytes)) c.deref.ensures.value c.in-Err.ensures)

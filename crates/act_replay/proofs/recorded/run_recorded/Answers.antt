@@ -8,9 +8,11 @@ checked_events-play-requires g c = record { fit = twins_fit g.K.Actor.state _ c.
 
 pub returns-in-Err-clause-fault : goal.returns-in-Err-clause-fault
 returns-in-Err-clause-fault g c =
-    play_fault (map (actor_spec g.K.Actor.state) c.args.casts.items) (map plan_view c.args.plans.items) c.in_ok-ran.ensures.good c.in-Err.fault c.in-Err.ensures.fault
+    play_fault (map (actor_spec g.K.Actor.state) c.args.casts.items)
+    (map plan_view c.args.plans.items) c.in_ok-ran.ensures.good c.in-Err.fault c.in-Err.ensures.fault
 
 pub returns-in-Ok-clause-played : goal.returns-in-Ok-clause-played
 returns-in-Ok-clause-played g c =
-    subst (λ (casts : List ActorSpec). IsPlayOf casts c.in-Ok.events.items c.in_ok-ran.ran.0.owners.items (map (λ (actor : Finished _ _). end_view g.K.Actor.state actor.ended) c.in_ok-ran.ran.0.actors.items))
+    subst (λ (casts : List ActorSpec). IsPlayOf casts c.in-Ok.events.items c.in_ok-ran.ran.0.owners.items
+    (map (λ (actor : Finished _ _). end_view g.K.Actor.state actor.ended) c.in_ok-ran.ran.0.actors.items))
     c.requires.twins c.in-Ok.ensures.played

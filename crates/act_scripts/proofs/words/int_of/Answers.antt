@@ -1,4 +1,4 @@
-use Rattle.std.proofs.Common.{Err, rules, tests}
+use Rattle.act_scripts.proofs.Common.{Err, rules, tests}
 use Rattle.act_scripts.proofs.Integers.{int_from_parse}
 use Rattle.act_scripts.proofs.words.int_of.Goals as goal
 

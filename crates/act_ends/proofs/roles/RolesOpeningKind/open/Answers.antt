@@ -1,7 +1,5 @@
-use Rattle.std.proofs.Common.{map, ap, ◌∙◌}
-use Rattle.act_rules.specs.Scripts.{actor_spec_of}
+use Rattle.act_ends.proofs.Common.{map, ap, ◌∙◌, actor_spec_of, state_of}
 use Rattle.act_console.proofs.Roles.{casts_fit}
-use Rattle.act_ends.specs.Kinds.{state_of}
 use Rattle.act_ends.proofs.roles.RolesOpeningKind.open.Goals as goal
 
 pub returns-clause-fit : goal.returns-clause-fit

@@ -1,4 +1,4 @@
-use Rattle.std.proofs.Common.{refl}
+use Rattle.act_plans.proofs.Common.{refl}
 use Rattle.act_plans.proofs.Refusals.{copy_on, release_on}
 use Rattle.act_plans.proofs.plan_checker.PlanChecker.accepts.Goals as goal
 

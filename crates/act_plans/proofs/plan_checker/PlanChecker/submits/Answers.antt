@@ -1,4 +1,4 @@
-use Rattle.std.proofs.Common.{arith, refl, sym, ◌∙◌}
+use Rattle.act_plans.proofs.Common.{arith, refl, sym, ◌∙◌}
 use Rattle.act_plans.proofs.Refusals.{submit_on}
 use Rattle.act_plans.proofs.plan_checker.PlanChecker.submits.Goals as goal
 

@@ -20,7 +20,7 @@ pub(crate) struct PlayText {
 
 /// What there is to be written of a script.
 #[derive(Debug, Drop)]
-pub(crate) enum Answer {
+pub(crate) enum Output {
     Play(PlayText),
     Refusal(String),
 }

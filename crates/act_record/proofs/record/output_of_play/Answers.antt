@@ -1,7 +1,6 @@
-use Rattle.std.specs.Prelude.{string_bytes}
-use Rattle.std.proofs.Common.{refl}
+use Rattle.act_record.proofs.Common.{string_bytes, refl}
 use Rattle.act_record.proofs.Told.{written_is, missed}
-use Rattle.act_record.proofs.record.answer_of_play.Goals as goal
+use Rattle.act_record.proofs.record.output_of_play.Goals as goal
 
 pub returns-in-Ok : goal.returns-in-Ok
 returns-in-Ok c script same is =
