@@ -1,12 +1,11 @@
 -- That a caller's task may go to its thread, and that what it leaves may come back. The prover finds no way through the
 -- caller that both have in them, so that is passed on as found.
+use Rattle.act_executor.proofs.Common.{[], ◌∷◌, IsSend, sendable, recorded_send, struct_send}
 use mir.Syntax.{Sym}
-use mathlib.Core.List.{[], ◌∷◌}
 use denote.RattleType.{RattleType}
 use denote.Ref.{NamedLft}
 use denote.Struct.Declared as declared
 use denote.Struct.Tuple.{TupleAt, type_at}
-use denote.Param.Send.{IsSend, sendable, recorded_send, struct_send}
 use Rattle.std.proofs.Crossing.{crosses}
 use Rattle.act_rules.proofs.script.Step.TheSendSync as step
 use Rattle.act_owner.proofs.Sent.{owner_part}

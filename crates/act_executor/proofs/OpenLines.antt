@@ -1,5 +1,6 @@
 pub mod Endpoints
 pub mod Gathered
+pub mod Made
 pub mod Dealt
 pub mod Matched
 pub mod Owners

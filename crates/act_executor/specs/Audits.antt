@@ -1,5 +1,6 @@
 -- What the audits of the lines tell.
 use Rattle.std.specs.Prelude.{◌≡◌, ℕ, ◌<◌, List, length, zip, slice_index_or, All}
+use Rattle.atomic_table.specs.Seated.{TableId}
 use Rattle.act_rules.specs.Consistent.{IsPrefix}
 use Rattle.act_mailbox.specs.declared.mail.Letter.{Letter}
 use Rattle.act_mailbox.specs.declared.control.Asked.{Asked}
@@ -15,49 +16,50 @@ use Rattle.act_drive.specs.declared.caller.Driven.{Driven}
 use Rattle.act_executor.specs.declared.open.Lines.{Lines}
 
 -- a pass is of the line at its place
+abbrev pub SitsAt : {V P : Type 0} → (V → TableId) → (P → TableId) → List V → Endpoint P → Type 0
+SitsAt {V} id pass_id lines endpoint = (endpoint.place < length lines)
+    × ((v : V) → id (slice_index_or lines endpoint.place v) ≡ pass_id endpoint.pass)
+
 abbrev pub SitsAtMail : List MailView → Endpoint (PutterView Letter Unit) → Type 0
-SitsAtMail mails endpoint = (endpoint.place < length mails)
-    × ((m : MailView) → (slice_index_or mails endpoint.place m).line ≡ endpoint.pass.line)
+SitsAtMail mails endpoint = SitsAt (λ mail. mail.line) (λ pass. pass.line) mails endpoint
 
 abbrev pub SitsAtControl : List ControlView → Endpoint (PutterView Asked ℕ) → Type 0
-SitsAtControl controls endpoint = (endpoint.place < length controls)
-    × ((k : ControlView) → (slice_index_or controls endpoint.place k).line ≡ endpoint.pass.line)
+SitsAtControl controls endpoint = SitsAt (λ control. control.line) (λ pass. pass.line) controls endpoint
 
 abbrev pub SitsAtReplies : List RepliesView → Endpoint ReplyExecView → Type 0
-SitsAtReplies replies endpoint = (endpoint.place < length replies)
-    × ((r : RepliesView) → (slice_index_or replies endpoint.place r).line ≡ endpoint.pass.line)
+SitsAtReplies replies endpoint = SitsAt (λ line. line.line) (λ pass. pass.line) replies endpoint
 
--- what the actor at the pass's place took of its caller is a prefix of what was put there, and so it is with stamps
-pub record LetterTold {K L : Type 0} (actors : List (Finished K L))
-    (endpoint : Endpoint (PutterView Letter Unit)) : Type 0 where
-  pub front : (f : Finished K L) →
-      IsPrefix (items_from caller_of endpoint.pass.number
-      (slice_index_or actors endpoint.place f).passes.letters.taken) endpoint.pass.put
-  pub stamped : (f : Finished K L) →
-      IsPrefix (items_from (λ x. caller_of x.0) endpoint.pass.number
-      (zip (slice_index_or actors endpoint.place f).passes.letters.taken
-      (slice_index_or actors endpoint.place f).passes.letters.stamps)) (zip endpoint.pass.put endpoint.pass.stamps)
+-- what was taken of this number is a prefix of what was put with its pass, and so it is with stamps
+pub record IsTold {X : Type 0} (putter : X → ℕ) (number : ℕ) (put : List X) (put_at : List ℕ) (taken : List X)
+    (taken_at : List ℕ) : Type 0 where
+  pub front : IsPrefix (items_from putter number taken) put
+  pub stamped : IsPrefix (items_from (λ x. putter x.0) number (zip taken taken_at)) (zip put put_at)
 
-pub record KillTold {K L : Type 0} (actors : List (Finished K L))
-    (endpoint : Endpoint (PutterView Asked ℕ)) : Type 0 where
-  pub front : (f : Finished K L) →
-      IsPrefix (items_from asker_of endpoint.pass.number
-      (slice_index_or actors endpoint.place f).passes.kills.taken) endpoint.pass.put
-  pub stamped : (f : Finished K L) →
-      IsPrefix (items_from (λ x. asker_of x.0) endpoint.pass.number
-      (zip (slice_index_or actors endpoint.place f).passes.kills.taken
-      (slice_index_or actors endpoint.place f).passes.kills.stamps)) (zip endpoint.pass.put endpoint.pass.stamps)
+-- what an actor took of a caller's letters, of a caller's kills, and what a caller collected of an actor's notices
+abbrev pub IsLetterTold : {K L : Type 0} → Finished K L → PutterView Letter Unit → Type 0
+IsLetterTold actor pass = IsTold caller_of pass.number pass.put pass.stamps actor.passes.letters.taken
+    actor.passes.letters.stamps
 
--- what the caller at the pass's place collected of the actor is a prefix of what was given there, and so it is with
--- stamps
-pub record NoticeTold (callers : List Driven) (endpoint : Endpoint ReplyExecView) : Type 0 where
-  pub front : (d : Driven) →
-      IsPrefix (items_from notice_actor endpoint.pass.actor
-      (slice_index_or callers endpoint.place d).passes.collects.taken) endpoint.pass.given
-  pub stamped : (d : Driven) →
-      IsPrefix (items_from (λ x. notice_actor x.0) endpoint.pass.actor
-      (zip (slice_index_or callers endpoint.place d).passes.collects.taken
-      (slice_index_or callers endpoint.place d).passes.collects.stamps)) (zip endpoint.pass.given endpoint.pass.stamps)
+abbrev pub IsKillTold : {K L : Type 0} → Finished K L → PutterView Asked ℕ → Type 0
+IsKillTold actor pass = IsTold asker_of pass.number pass.put pass.stamps actor.passes.kills.taken
+    actor.passes.kills.stamps
+
+abbrev pub IsNoticeTold : Driven → ReplyExecView → Type 0
+IsNoticeTold caller pass = IsTold notice_actor pass.actor pass.given pass.stamps caller.passes.collects.taken
+    caller.passes.collects.stamps
+
+-- the same of who is at the pass's place
+abbrev pub IsToldAt : {T P : Type 0} → (T → P → Type 0) → List T → Endpoint P → Type 0
+IsToldAt {T} Told ends endpoint = (end : T) → Told (slice_index_or ends endpoint.place end) endpoint.pass
+
+abbrev pub LetterTold : {K L : Type 0} → List (Finished K L) → Endpoint (PutterView Letter Unit) → Type 0
+LetterTold actors endpoint = IsToldAt IsLetterTold actors endpoint
+
+abbrev pub KillTold : {K L : Type 0} → List (Finished K L) → Endpoint (PutterView Asked ℕ) → Type 0
+KillTold actors endpoint = IsToldAt IsKillTold actors endpoint
+
+abbrev pub NoticeTold : List Driven → Endpoint ReplyExecView → Type 0
+NoticeTold callers endpoint = IsToldAt IsNoticeTold callers endpoint
 
 -- a caller's passes are of the lines at their places
 pub record HasEndpoints (lines : Lines) (caller : Driven) : Type 0 where

@@ -66,3 +66,10 @@ pub record IsPrepared {K : Type 0} (state : K → KindState) (casts : List (Cast
   pub numbers : All HasNumbers casts
   pub fits : All (λ setup. first_bad setup.actors.items setup.plan.items ≡ None) prepared.setups.items
   pub good : first_bad_plan (map (actor_spec state) casts) (map plan_view plans) ≡ None
+
+-- the casts and the plans were prepared, and run
+pub record HasRun {K L : Type 0} (state : K → KindState) (does : ℕ → Doing) (casts : List (Cast K))
+    (plans : List (ℕ × Vec Step)) (joined : Joined K L) : Type 0 where
+  pub prepared : Prepared K
+  pub is : IsPrepared state casts plans prepared
+  pub run : HasRunPlans state does prepared joined

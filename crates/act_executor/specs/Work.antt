@@ -8,6 +8,7 @@ use Rattle.act_rules.specs.Plans.{first_bad}
 use Rattle.act_handles.specs.Handles.{actors_in}
 use Rattle.act_owner.specs.Owner.{OwnerView, opened_under}
 use Rattle.act_actor.specs.declared.cast.Cast.{Cast}
+use Rattle.act_actor.specs.Cast.{CallersDiffer}
 use Rattle.act_mailbox.specs.declared.control.Asked.{Asked}
 use Rattle.act_mailbox.specs.Passes.{PutterView, new_putter}
 use Rattle.act_mailbox.specs.Mails.{MailView}
@@ -22,7 +23,9 @@ use Rattle.act_drive.specs.declared.driver.CallerPasses.{CallerPasses}
 use Rattle.act_drive.specs.declared.caller.Driven.{Driven}
 use Rattle.act_drive.specs.Driven.{IsFreshCaller as IsFreshCaller}
 use Rattle.act_plans.specs.declared.rising.CallerSetup.{CallerSetup}
+use Rattle.act_plans.specs.Setups.{HasLimits}
 use Rattle.act_executor.specs.declared.open.Lines.{Lines}
+use Rattle.act_executor.specs.Opened.{IsExec, IsCaller}
 use Rattle.act_tasks.specs.Each.{Each}
 use Rattle.act_executor.specs.Audits.{SitsAtControl}
 use Rattle.act_executor.specs.Conducts.{Doing, HasConducted}
@@ -49,6 +52,21 @@ CanDrive driving = IsFreshCaller driving.lines driving.owner driving.passes
 abbrev pub IsDrivenTo : {D N : Type 0} → (D → Doing) → Driving D N → Driven → Type 0
 IsDrivenTo does driving driven = HasConducted driving.lines driving.owner driving.passes
     (does driving.conduct driving.plan.items) driven
+
+-- a cast and its actor's passes, of which a thread's work is made
+pub record MayServe {K : Type 0} (lines : Lines) (cast : Cast K) (exec : Endpoint ExecPasses) : Type 0 where
+  pub callers : CallersDiffer cast.callers
+  pub mail : exec.place < length lines.mails.items
+  pub control : exec.place < length lines.controls.items
+  pub is : IsExec lines cast exec
+
+-- a part and its caller's passes
+pub record MayDrive (lines : Lines) (setup : CallerSetup) (caller : Endpoint CallerPasses) : Type 0 where
+  pub actors : CallersDiffer setup.actors.items
+  pub limits : HasLimits setup
+  pub place : caller.place < length lines.replies.items
+  pub is : IsCaller lines setup caller
+  pub fits : first_bad setup.actors.items setup.plan.items ≡ None
 
 -- how an actor begins
 pub record ActorStart : Type 0 where

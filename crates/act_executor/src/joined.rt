@@ -3,13 +3,13 @@
 ghost use Rattle.std.specs.Prelude.{◌≡◌, map, All, IfOk, false, OnOk};
 ghost use Rattle.std.specs.List.{list_any};
 ghost use Rattle.act_serve.specs.Served.{end_view};
-ghost use Rattle.act_executor.specs.Audits.{SitsAtControl, SitsAtReplies, HasEndpoints, SitsAtMail, LetterTold, KillTold, NoticeTold, CallerTold, left_of};
+ghost use Rattle.act_executor.specs.Audits.{SitsAt, SitsAtControl, SitsAtReplies, HasEndpoints, IsToldAt, NoticeTold, CallerTold, left_of};
 ghost use Rattle.act_executor.specs.Joined.{is_starved};
 ghost use Rattle.act_executor.specs.Joins.{AreCompared};
 
 use crate::open::Lines;
 use act_actor::{RunItem, RunLog};
-use act_drive::{CallerPasses, Driven};
+use act_drive::Driven;
 use act_kinds::{Actor, Boxed};
 use act_mailbox::{Control, ControlCaller, Endpoint, Mail, MailCaller, Replies, ReplyExec};
 use act_owner::Owner;
@@ -33,21 +33,13 @@ pub(crate) struct Ends<K, L: RunLog> {
     pub(crate) starters: Vec<Endpoint<ControlCaller>>,
 }
 
-/// Whether an actor ended for want of memory.
-fn has_starved<K: Actor, L: RunLog>(ended: &Ended<K, L>) -> bool
-    ensures { result ≡ is_starved (end_view K.state ended.now) }
-{
-    match ended {
-        Ended::Starved(_) => true,
-        _ => false,
-    }
-}
-
 /// Whether an actor was refused memory.
 fn has_starved_actor<K: Actor, L: RunLog>(actors: &[Finished<K, L>]) -> bool
     ensures { result ≡ list_any (λ actor. is_starved (end_view K.state actor.ended)) actors.now }
 {
-    actors.iter().any(|actor| has_starved(&actor.ended))
+    actors
+        .iter()
+        .any(|actor| matches!(actor.ended, Ended::Starved(_)))
 }
 
 /// Whether a caller was refused memory.
@@ -79,121 +71,117 @@ pub(crate) fn settle<K: Actor, R: Wait, L: RunLog>(
     let Ends {
         mut actors,
         mut callers,
-        starters,
+        mut starters,
     } = ends;
     if has_starved_actor(actors.as_slice()) || has_starved_caller(callers.as_slice()) {
         return Err(NoMemory);
     }
     audit_actors(rt, lines.replies.as_slice(), &mut actors, &mut callers);
-    audit_kills(rt, lines.controls.as_slice(), starters, &mut actors);
+    audit_all(rt, lines.controls.as_slice(), &mut starters, &mut actors);
+    drop(starters);
     let owners = audit_callers(rt, alloc, lines, callers, &mut actors)?;
     Ok(Joined { owners, actors })
 }
 
-fn audit_letter<K, R: Wait, L: RunLog>(
-    rt: &R,
-    mails: &[Mail],
-    endpoint: Endpoint<MailCaller>,
-    actors: &mut Vec<Finished<K, L>>,
-)
-    requires lines { map (λ mail. mail.line) mails.now ≡ map (λ actor. actor.passes.letters.line) actors.old.items }
-    requires sits { SitsAtMail mails.now endpoint }
-    ensures same { actors.new.items ≡ actors.old.items }
-    ensures told { LetterTold actors.old.items endpoint }
-{
-    let Endpoint { place, mut pass } = endpoint;
-    mails[place].audit(rt, &mut pass, &mut actors[place].passes.letters);
+/// A line with a pass on it, whose other side a `T` has.
+trait Audits<T> {
+    ghost use Rattle.std.specs.Prelude.{◌≡◌};
+    ghost use Rattle.atomic_table.specs.Seated.{TableId};
+
+    type Pass;
+
+    ghost id: { Self → TableId };
+
+    ghost pass_id: { Self.Pass → TableId };
+
+    ghost end_id: { T → TableId };
+
+    ghost Told: { T → Self.Pass → Type 0 };
+
+    fn audit_end<R: Wait>(&self, rt: &R, pass: &mut Self::Pass, end: &mut T)
+        requires pass { pass_id pass.old ≡ id self.now }
+        requires end { end_id end.old ≡ id self.now }
+        ensures same_pass { pass.new ≡ pass.old }
+        ensures same_end { end.new ≡ end.old }
+        ensures told { Told end.old pass.old };
 }
 
-/// Compares what a caller posted with what was taken.
-pub(crate) fn audit_letters<K, R: Wait, L: RunLog>(
-    rt: &R,
-    mails: &[Mail],
-    endpoints: Vec<Endpoint<MailCaller>>,
-    actors: &mut Vec<Finished<K, L>>,
-)
-    requires lines { map (λ mail. mail.line) mails.now ≡ map (λ actor. actor.passes.letters.line) actors.old.items }
-    requires sit { All (SitsAtMail mails.now) endpoints.items }
-    ensures same { actors.new.items ≡ actors.old.items }
-    ensures told { All (LetterTold actors.old.items) endpoints.items }
-{
-    for endpoint in endpoints {
-        audit_letter(rt, mails, endpoint, actors);
+impl<K, L: RunLog> Audits<Finished<K, L>> for Mail {
+    ghost use Rattle.act_executor.specs.Audits.{IsLetterTold};
+
+    type Pass = MailCaller;
+
+    ghost id = { λ mail. mail.line };
+
+    ghost pass_id = { λ pass. pass.line };
+
+    ghost end_id = { λ actor. actor.passes.letters.line };
+
+    ghost Told = { IsLetterTold };
+
+    fn audit_end<R: Wait>(&self, rt: &R, pass: &mut MailCaller, actor: &mut Finished<K, L>) {
+        self.audit(rt, pass, &mut actor.passes.letters);
     }
 }
 
-fn audit_kill<K, R: Wait, L: RunLog>(
-    rt: &R,
-    controls: &[Control],
-    endpoint: Endpoint<ControlCaller>,
-    actors: &mut Vec<Finished<K, L>>,
-)
-    requires lines { map (λ control. control.line) controls.now
-        ≡ map (λ actor. actor.passes.kills.line) actors.old.items }
-    requires sits { SitsAtControl controls.now endpoint }
-    ensures same { actors.new.items ≡ actors.old.items }
-    ensures told { KillTold actors.old.items endpoint }
-{
-    let Endpoint { place, mut pass } = endpoint;
-    controls[place].audit(rt, &mut pass, &mut actors[place].passes.kills);
-}
+impl<K, L: RunLog> Audits<Finished<K, L>> for Control {
+    ghost use Rattle.act_executor.specs.Audits.{IsKillTold};
 
-/// Compares the kills that were asked with those that were taken.
-pub(crate) fn audit_kills<K, R: Wait, L: RunLog>(
-    rt: &R,
-    controls: &[Control],
-    endpoints: Vec<Endpoint<ControlCaller>>,
-    actors: &mut Vec<Finished<K, L>>,
-)
-    requires lines { map (λ control. control.line) controls.now
-        ≡ map (λ actor. actor.passes.kills.line) actors.old.items }
-    requires sit { All (SitsAtControl controls.now) endpoints.items }
-    ensures same { actors.new.items ≡ actors.old.items }
-    ensures told { All (KillTold actors.old.items) endpoints.items }
-{
-    for endpoint in endpoints {
-        audit_kill(rt, controls, endpoint, actors);
+    type Pass = ControlCaller;
+
+    ghost id = { λ control. control.line };
+
+    ghost pass_id = { λ pass. pass.line };
+
+    ghost end_id = { λ actor. actor.passes.kills.line };
+
+    ghost Told = { IsKillTold };
+
+    fn audit_end<R: Wait>(&self, rt: &R, pass: &mut ControlCaller, actor: &mut Finished<K, L>) {
+        self.audit(rt, pass, &mut actor.passes.kills);
     }
 }
 
-fn audit_notice<R: Wait>(
-    rt: &R,
-    replies: &[Replies],
-    endpoint: &mut Endpoint<ReplyExec>,
-    callers: &mut Vec<Driven>,
-)
-    requires lines { map (λ line. line.line) replies.now
-        ≡ map (λ caller. caller.passes.collects.line) callers.old.items }
-    requires sits { SitsAtReplies replies.now endpoint.old }
-    ensures same_endpoint { endpoint.new ≡ endpoint.old }
-    ensures same { callers.new.items ≡ callers.old.items }
-    ensures told { NoticeTold callers.old.items endpoint.old }
-{
-    let place = endpoint.place;
-    replies[place].audit(rt, &mut endpoint.pass, &mut callers[place].passes.collects);
+impl Audits<Driven> for Replies {
+    ghost use Rattle.act_executor.specs.Audits.{IsNoticeTold};
+
+    type Pass = ReplyExec;
+
+    ghost id = { λ line. line.line };
+
+    ghost pass_id = { λ pass. pass.line };
+
+    ghost end_id = { λ caller. caller.passes.collects.line };
+
+    ghost Told = { IsNoticeTold };
+
+    fn audit_end<R: Wait>(&self, rt: &R, pass: &mut ReplyExec, caller: &mut Driven) {
+        self.audit(rt, pass, &mut caller.passes.collects);
+    }
 }
 
-/// Compares what an actor gave with what was collected.
-fn audit_notices<R: Wait>(
+/// Compares what was put with these passes with what was taken at the other ends of their lines.
+fn audit_all<T, A: Audits<T>, R: Wait>(
     rt: &R,
-    replies: &[Replies],
-    endpoints: &mut Vec<Endpoint<ReplyExec>>,
-    callers: &mut Vec<Driven>,
+    lines: &[A],
+    endpoints: &mut Vec<Endpoint<A::Pass>>,
+    ends: &mut Vec<T>,
 )
-    requires lines { map (λ line. line.line) replies.now
-        ≡ map (λ caller. caller.passes.collects.line) callers.old.items }
-    requires sit { All (SitsAtReplies replies.now) endpoints.old.items }
+    requires lines { map A.id lines.now ≡ map A.end_id ends.old.items }
+    requires sit { All (SitsAt A.id A.pass_id lines.now) endpoints.old.items }
     ensures same_endpoints { endpoints.new.items ≡ endpoints.old.items }
-    ensures same { callers.new.items ≡ callers.old.items }
-    ensures told { All (NoticeTold callers.old.items) endpoints.old.items }
+    ensures same { ends.new.items ≡ ends.old.items }
+    ensures told { All (IsToldAt A.Told ends.old.items) endpoints.old.items }
 {
     for at in 0..endpoints.len() {
-        audit_notice(rt, replies, &mut endpoints[at], callers);
+        let endpoint = &mut endpoints[at];
+        let place = endpoint.place;
+        lines[place].audit_end(rt, &mut endpoint.pass, &mut ends[place]);
     }
 }
 
 /// Compares what the actors gave with what the callers collected.
-pub(crate) fn audit_actors<K, R: Wait, L: RunLog>(
+fn audit_actors<K, R: Wait, L: RunLog>(
     rt: &R,
     replies: &[Replies],
     actors: &mut Vec<Finished<K, L>>,
@@ -208,12 +196,12 @@ pub(crate) fn audit_actors<K, R: Wait, L: RunLog>(
 {
     for at in 0..actors.len() {
         let actor = &mut actors[at];
-        audit_notices(rt, replies, &mut actor.passes.notices, callers);
+        audit_all(rt, replies, &mut actor.passes.notices, callers);
     }
 }
 
 /// Compares what the callers posted and asked with what the actors took. The owners are left.
-pub(crate) fn audit_callers<K, R: Wait, L: RunLog>(
+fn audit_callers<K, R: Wait, L: RunLog>(
     rt: &R,
     alloc: Global,
     lines: &Lines,
@@ -231,10 +219,14 @@ pub(crate) fn audit_callers<K, R: Wait, L: RunLog>(
 {
     let mut owners = Vec::new(alloc);
     for caller in callers {
-        let Driven { owner, passes, .. } = caller;
-        let CallerPasses { letters, kills, .. } = passes;
-        audit_letters(rt, lines.mails.as_slice(), letters, actors);
-        audit_kills(rt, lines.controls.as_slice(), kills, actors);
+        let Driven {
+            owner,
+            mut passes,
+            ..
+        } = caller;
+        audit_all(rt, lines.mails.as_slice(), &mut passes.letters, actors);
+        audit_all(rt, lines.controls.as_slice(), &mut passes.kills, actors);
+        drop(passes);
         owners.push(owner)?;
     }
     Ok(owners)

@@ -12,7 +12,7 @@ ghost use Rattle.act_executor.specs.Conducts.{CodesFit};
 ghost use Rattle.act_executor.specs.Runs.{plan_view, IsFault};
 
 use crate::joined::Joined;
-use crate::run::{RunFault, prepare_good, run_prepared};
+use crate::run::{RunFault, run_conducts};
 use crate::work::ByCode;
 use act_actor::{Cast, RunLog};
 use act_drive::Code;
@@ -57,9 +57,8 @@ pub fn run_callers_keeping<
         first_bad_plan (map (actor_spec K.state) casts.items) (map plan_view plans.items) ≡ None) }
     ensures fault { IfErr result (IsFault (map (actor_spec K.state) casts.items) (map plan_view plans.items)) }
 {
-    let prepared = prepare_good(alloc, casts, plans)?;
     let codes = ByCode { codes };
-    let ran = run_prepared::<R, K, ByCode<C>, G, NoNotes, L>(rt, alloc, prepared, codes, gate)?;
+    let ran = run_conducts::<R, K, ByCode<C>, G, NoNotes, L>(rt, alloc, casts, plans, codes, gate)?;
     let (joined, pages) = ran;
     drop(pages);
     Ok(joined)

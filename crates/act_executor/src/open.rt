@@ -1,15 +1,12 @@
 //! Opens the lines of a run, and gives each thread its passes.
 
-ghost use Rattle.std.specs.Prelude.{◌≡◌, ◌≢◌, ◌+◌, ◌<◌, [], ◌∷◌, length, map, take, All, AllPairs, IfOk};
+ghost use Rattle.std.specs.Prelude.{◌≡◌, ◌≢◌, [], length, map, All, AllPairs, IfOk};
 ghost use Rattle.std.specs.List.{range_with_len};
 ghost use Rattle.act_actor.specs.Cast.{CallersDiffer};
-ghost use Rattle.act_mailbox.specs.Controls.{starter};
-ghost use Rattle.act_mailbox.specs.Passes.{new_putter};
-ghost use Rattle.act_mailbox.specs.Notices.{new_exec};
 ghost use Rattle.act_plans.specs.Setups.{AreMatched};
-ghost use Rattle.act_executor.specs.Groups.{items_of_vec, endpoints_from, AreHands, endpoint_at, AreGrown};
+ghost use Rattle.act_executor.specs.Groups.{items_of_vec, AreHands, endpoint_at, AreGrown};
 ghost use Rattle.act_executor.specs.Opened.{AreOpened};
-ghost use Rattle.act_executor.specs.SoFar.{AreMails, AreControls, AreReplies};
+ghost use Rattle.act_executor.specs.SoFar.{AreMade};
 
 use act_actor::Cast;
 use act_drive::CallerPasses;
@@ -40,184 +37,181 @@ pub struct Opened {
     pub starters: Vec<ControlCaller>,
 }
 
-/// The mail lines, their executors' passes, and the callers' passes by whose they are.
-#[derive(Drop)]
-struct Mails {
-    lines: Vec<Mail>,
-    execs: Vec<MailExec>,
-    callers: Vec<Vec<Endpoint<MailCaller>>>,
+/// A line as it is opened for an `F`, with a pass for each that the `F` names.
+trait Opens<F>: Sized + Drop {
+    ghost use Rattle.std.specs.Prelude.{◌≡◌, ℕ, List, map, IfOk};
+    ghost use Rattle.atomic_table.specs.Seated.{TableId};
+    ghost use Rattle.act_actor.specs.Cast.{CallersDiffer};
+
+    type Pass: Numbered + Drop;
+
+    /// The pass of the one whose line it is.
+    type End: Drop;
+
+    ghost id: { Self → TableId };
+
+    ghost line: { TableId → F → Self };
+
+    ghost end: { TableId → F → Self.End };
+
+    ghost pass: { TableId → ℕ → Self.Pass };
+
+    ghost names: { F → List ℕ };
+
+    fn open_for(alloc: Global, given: &F) -> Result<(Self, Self::End, Vec<Self::Pass>), NoMemory>
+        requires { CallersDiffer (names given.now) }
+        ensures line { IfOk result (λ opened. opened.0 ≡ line (id opened.0) given.now) }
+        ensures end { IfOk result (λ opened. opened.1 ≡ end (id opened.0) given.now) }
+        ensures passes { IfOk result (λ opened. opened.2.items ≡ map (pass (id opened.0)) (names given.now)) };
 }
 
-/// The same of control lines, and the starter's passes.
-#[derive(Drop)]
-struct Controls {
-    lines: Vec<Control>,
-    execs: Vec<ControlExec>,
-    callers: Vec<Vec<Endpoint<ControlCaller>>>,
-    starters: Vec<ControlCaller>,
-}
+impl<K> Opens<Cast<K>> for Mail {
+    ghost use Rattle.act_mailbox.specs.Passes.{new_putter, new_taker};
 
-/// The reply lines, their callers' passes, and the executors' passes by whose they are.
-#[derive(Drop)]
-struct AllReplies {
-    lines: Vec<Replies>,
-    callers: Vec<ReplyCaller>,
-    execs: Vec<Vec<Endpoint<ReplyExec>>>,
-}
+    type Pass = MailCaller;
 
-/// Opens a mail line for each cast, and deals its callers' passes.
-fn open_mails<K>(alloc: Global, casts: &[Cast<K>], callers: &[u8]) -> Result<Mails, NoMemory>
-    requires differ { All (λ cast. CallersDiffer cast.callers) casts.now }
-    requires callers { AllPairs (λ one other. one ≢ other) callers.now }
-    ensures actors { IfOk result (λ opened.
-        map (λ mail. mail.actor) opened.lines.items ≡ map (λ cast. cast.actor) casts.now) }
-    ensures lines { IfOk result (λ opened.
-        map (λ exec. exec.line) opened.execs.items ≡ map (λ mail. mail.line) opened.lines.items) }
-    ensures unused { IfOk result (λ opened. All (λ exec. (exec.taken ≡ []) × (exec.stamps ≡ [])) opened.execs.items) }
-    ensures dealt { IfOk result (λ opened.
-        AreHands (λ pass. pass.number) callers.now
-        (endpoints_from new_putter 0 (map (λ mail. mail.line) opened.lines.items)
-        (map (λ cast. cast.callers) casts.now)) opened.callers.items) }
-{
-    let hands = empty_hands(alloc, callers)?;
-    let mut mails = Mails {
-        lines: Vec::new(alloc),
-        execs: Vec::new(alloc),
-        callers: hands,
-    };
-    for place in 0..casts.len() {
-        open_mail(alloc, casts, place, callers, &mut mails)?;
+    type End = MailExec;
+
+    ghost id = { λ mail. mail.line };
+
+    ghost line = { λ id cast. record { line = id; actor = cast.actor } };
+
+    ghost end = { λ id cast. new_taker id cast.callers };
+
+    ghost pass = { new_putter };
+
+    ghost names = { λ cast. cast.callers };
+
+    fn open_for(
+        alloc: Global,
+        cast: &Cast<K>,
+    ) -> Result<(Mail, MailExec, Vec<MailCaller>), NoMemory> {
+        let (line, passes, exec) = Mail::open(alloc, cast.actor, cast.callers.as_slice())?;
+        Ok((line, exec, passes))
     }
-    Ok(mails)
 }
 
-/// Opens the mail line of the cast at this place, after those before it.
-fn open_mail<K>(
-    alloc: Global,
-    casts: &[Cast<K>],
-    place: usize,
-    callers: &[u8],
-    mails: &mut Mails,
-) -> Result<(), NoMemory>
-    requires place { place < length casts.now }
-    requires differ { All (λ cast. CallersDiffer cast.callers) casts.now }
-    requires callers { AllPairs (λ one other. one ≢ other) callers.now }
-    requires before { AreMails (take place casts.now) callers.now mails.old }
-    ensures { IfOk result (λ _. AreMails (take (place + 1) casts.now) callers.now mails.new) }
-{
-    let cast = &casts[place];
-    let (line, passes, exec) = Mail::open(alloc, cast.actor, cast.callers.as_slice())?;
-    mails.lines.push(line)?;
-    mails.execs.push(exec)?;
-    deal(callers, &mut mails.callers, place, passes)
-}
+impl<K> Opens<Cast<K>> for Control {
+    ghost use Rattle.std.specs.Prelude.{[], ◌∷◌};
+    ghost use Rattle.act_mailbox.specs.Controls.{starter};
+    ghost use Rattle.act_mailbox.specs.Passes.{new_putter};
 
-/// Opens a control line for each cast, and deals its callers' passes.
-fn open_controls<K>(alloc: Global, casts: &[Cast<K>], callers: &[u8]) -> Result<Controls, NoMemory>
-    requires differ { All (λ cast. CallersDiffer cast.callers) casts.now }
-    requires callers { AllPairs (λ one other. one ≢ other) callers.now }
-    ensures actors { IfOk result (λ opened.
-        map (λ control. control.actor) opened.lines.items ≡ map (λ cast. cast.actor) casts.now) }
-    ensures lines { IfOk result (λ opened.
-        map (λ exec. exec.line) opened.execs.items ≡ map (λ control. control.line) opened.lines.items) }
-    ensures execs { IfOk result (λ opened.
-        map (λ exec. exec.actor) opened.execs.items ≡ map (λ cast. cast.actor) casts.now) }
-    ensures askers { IfOk result (λ opened.
-        map (λ exec. exec.askers) opened.execs.items ≡ map (λ cast. starter ∷ cast.callers) casts.now) }
-    ensures unused { IfOk result (λ opened.
-        All (λ exec. (exec.taken ≡ []) × (exec.stamps ≡ []) × (exec.lengths ≡ [])) opened.execs.items) }
-    ensures starters { IfOk result (λ opened.
-        opened.starters.items ≡ map (λ control. new_putter control.line starter) opened.lines.items) }
-    ensures dealt { IfOk result (λ opened.
-        AreHands (λ pass. pass.number) callers.now
-        (endpoints_from new_putter 0 (map (λ control. control.line) opened.lines.items)
-        (map (λ cast. cast.callers) casts.now)) opened.callers.items) }
-{
-    let hands = empty_hands(alloc, callers)?;
-    let mut controls = Controls {
-        lines: Vec::new(alloc),
-        execs: Vec::new(alloc),
-        callers: hands,
-        starters: Vec::new(alloc),
-    };
-    for place in 0..casts.len() {
-        open_control(alloc, casts, place, callers, &mut controls)?;
+    type Pass = ControlCaller;
+
+    /// The executor's pass, and the starter's.
+    type End = (ControlExec, ControlCaller);
+
+    ghost id = { λ control. control.line };
+
+    ghost line = { λ id cast. record { line = id; actor = cast.actor } };
+
+    ghost end = { λ id cast. (
+      record {
+        line = id;
+        actor = cast.actor;
+        askers = starter ∷ cast.callers;
+        taken = [];
+        stamps = [];
+        lengths = [];
+        looked = 0;
+      },
+      new_putter id starter,
+    ) };
+
+    ghost pass = { new_putter };
+
+    ghost names = { λ cast. cast.callers };
+
+    fn open_for(
+        alloc: Global,
+        cast: &Cast<K>,
+    ) -> Result<(Control, (ControlExec, ControlCaller), Vec<ControlCaller>), NoMemory> {
+        let (line, passes, starter, exec) = Control::open(
+            alloc,
+            cast.actor,
+            cast.callers.as_slice(),
+        )?;
+        Ok((line, (exec, starter), passes))
     }
-    Ok(controls)
 }
 
-/// Opens the control line of the cast at this place, after those before it.
-fn open_control<K>(
-    alloc: Global,
-    casts: &[Cast<K>],
-    place: usize,
-    callers: &[u8],
-    controls: &mut Controls,
-) -> Result<(), NoMemory>
-    requires place { place < length casts.now }
-    requires differ { All (λ cast. CallersDiffer cast.callers) casts.now }
-    requires callers { AllPairs (λ one other. one ≢ other) callers.now }
-    requires before { AreControls (take place casts.now) callers.now controls.old }
-    ensures { IfOk result (λ _. AreControls (take (place + 1) casts.now) callers.now controls.new) }
-{
-    let cast = &casts[place];
-    let (line, passes, starter, exec) = Control::open(alloc, cast.actor, cast.callers.as_slice())?;
-    controls.starters.push(starter)?;
-    controls.lines.push(line)?;
-    controls.execs.push(exec)?;
-    deal(callers, &mut controls.callers, place, passes)
-}
+impl Opens<CallerSetup> for Replies {
+    ghost use Rattle.act_mailbox.specs.Passes.{new_taker};
+    ghost use Rattle.act_mailbox.specs.Notices.{new_exec};
 
-/// Opens a reply line for each part, and deals its executors' passes.
-fn open_replies(
-    alloc: Global,
-    setups: &[CallerSetup],
-    actors: &[u8],
-) -> Result<AllReplies, NoMemory>
-    requires differ { All (λ setup. CallersDiffer setup.actors.items) setups.now }
-    requires actors { AllPairs (λ one other. one ≢ other) actors.now }
-    ensures names { IfOk result (λ opened.
-        map (λ line. line.caller) opened.lines.items ≡ map (λ setup. setup.caller) setups.now) }
-    ensures lines { IfOk result (λ opened.
-        map (λ caller. caller.line) opened.callers.items ≡ map (λ line. line.line) opened.lines.items) }
-    ensures unused { IfOk result (λ opened.
-        All (λ caller. (caller.taken ≡ []) × (caller.stamps ≡ [])) opened.callers.items) }
-    ensures dealt { IfOk result (λ opened.
-        AreHands (λ pass. pass.actor) actors.now
-        (endpoints_from new_exec 0 (map (λ line. line.line) opened.lines.items)
-        (map (λ setup. setup.actors.items) setups.now)) opened.execs.items) }
-{
-    let hands = empty_hands(alloc, actors)?;
-    let mut replies = AllReplies {
-        lines: Vec::new(alloc),
-        callers: Vec::new(alloc),
-        execs: hands,
-    };
-    for place in 0..setups.len() {
-        open_reply(alloc, setups, place, actors, &mut replies)?;
+    type Pass = ReplyExec;
+
+    type End = ReplyCaller;
+
+    ghost id = { λ line. line.line };
+
+    ghost line = { λ id setup. record { line = id; caller = setup.caller } };
+
+    ghost end = { λ id setup. new_taker id setup.actors.items };
+
+    ghost pass = { new_exec };
+
+    ghost names = { λ setup. setup.actors.items };
+
+    fn open_for(
+        alloc: Global,
+        setup: &CallerSetup,
+    ) -> Result<(Replies, ReplyCaller, Vec<ReplyExec>), NoMemory> {
+        let (line, passes, caller) = Replies::open(alloc, setup.caller, setup.actors.as_slice())?;
+        Ok((line, caller, passes))
     }
-    Ok(replies)
 }
 
-/// Opens the reply line of the part at this place, after those before it.
-fn open_reply(
+/// Lines, the passes of those whose they are, and the other passes by whom they are for.
+#[derive(Drop)]
+struct Opening<L, E, P> {
+    lines: Vec<L>,
+    ends: Vec<E>,
+    hands: Vec<Vec<Endpoint<P>>>,
+}
+
+/// Opens a line for each that is given, and deals the passes of those that it names.
+fn open_all<F, L: Opens<F>>(
     alloc: Global,
-    setups: &[CallerSetup],
-    place: usize,
-    actors: &[u8],
-    replies: &mut AllReplies,
-) -> Result<(), NoMemory>
-    requires place { place < length setups.now }
-    requires differ { All (λ setup. CallersDiffer setup.actors.items) setups.now }
-    requires actors { AllPairs (λ one other. one ≢ other) actors.now }
-    requires before { AreReplies (take place setups.now) actors.now replies.old }
-    ensures { IfOk result (λ _. AreReplies (take (place + 1) setups.now) actors.now replies.new) }
+    given: &[F],
+    numbers: &[u8],
+) -> Result<Opening<L, L::End, L::Pass>, NoMemory>
+    requires names { All (λ one. CallersDiffer (L.names one)) given.now }
+    requires numbers { AllPairs (λ one other. one ≢ other) numbers.now }
+    ensures { IfOk result (λ opened.
+        AreMade L.id L.line L.end L.pass L.Pass.number L.names given.now numbers.now opened) }
 {
-    let setup = &setups[place];
-    let (line, passes, caller) = Replies::open(alloc, setup.caller, setup.actors.as_slice())?;
-    replies.lines.push(line)?;
-    replies.callers.push(caller)?;
-    deal(actors, &mut replies.execs, place, passes)
+    let hands = empty_hands(alloc, numbers)?;
+    let mut opened = Opening {
+        lines: Vec::new(alloc),
+        ends: Vec::new(alloc),
+        hands,
+    };
+    for place in 0..given.len() {
+        let (line, end, passes) = L::open_for(alloc, &given[place])?;
+        opened.lines.push(line)?;
+        opened.ends.push(end)?;
+        deal(numbers, &mut opened.hands, place, passes)?;
+    }
+    Ok(opened)
+}
+
+/// The firsts and the seconds of pairs.
+pub(crate) fn unzip<X: Drop, Y: Drop>(
+    alloc: Global,
+    pairs: Vec<(X, Y)>,
+) -> Result<(Vec<X>, Vec<Y>), NoMemory>
+    ensures firsts { IfOk result (λ both. both.0.items ≡ map (λ pair. pair.0) pairs.items) }
+    ensures seconds { IfOk result (λ both. both.1.items ≡ map (λ pair. pair.1) pairs.items) }
+{
+    let mut firsts = Vec::new(alloc);
+    let mut seconds = Vec::new(alloc);
+    for pair in pairs {
+        let (first, second) = pair;
+        firsts.push(first)?;
+        seconds.push(second)?;
+    }
+    Ok((firsts, seconds))
 }
 
 /// The executors' passes, one by one.
@@ -291,11 +285,12 @@ pub fn open_lines<K>(
         .iter()
         .map(|setup| setup.caller.number())
         .collect(alloc)?;
-    let mails = open_mails(alloc, casts, caller_numbers.as_slice())?;
-    let controls = open_controls(alloc, casts, caller_numbers.as_slice())?;
-    let replies = open_replies(alloc, setups, actor_numbers.as_slice())?;
-    let execs = exec_passes(alloc, mails.execs, controls.execs, replies.execs)?;
-    let callers = caller_passes(alloc, mails.callers, controls.callers, replies.callers)?;
+    let mails = open_all::<Cast<K>, Mail>(alloc, casts, caller_numbers.as_slice())?;
+    let controls = open_all::<Cast<K>, Control>(alloc, casts, caller_numbers.as_slice())?;
+    let replies = open_all::<CallerSetup, Replies>(alloc, setups, actor_numbers.as_slice())?;
+    let (kills, starters) = unzip(alloc, controls.ends)?;
+    let execs = exec_passes(alloc, mails.ends, kills, replies.hands)?;
+    let callers = caller_passes(alloc, mails.hands, controls.hands, replies.ends)?;
     let lines = Lines {
         mails: mails.lines,
         controls: controls.lines,
@@ -305,7 +300,7 @@ pub fn open_lines<K>(
         lines,
         execs,
         callers,
-        starters: controls.starters,
+        starters,
     })
 }
 

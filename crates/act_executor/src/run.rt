@@ -1,6 +1,6 @@
 //! A whole run: each actor and each caller in a thread of its own.
 
-ghost use Rattle.std.specs.Prelude.{◌≡◌, ◌<◌, length, map, All, None, IfOk, IfErr};
+ghost use Rattle.std.specs.Prelude.{◌≡◌, map, All, None, IfOk, IfErr};
 ghost use Rattle.act_rules.specs.Plans.{first_bad};
 ghost use Rattle.act_actor.specs.Cast.{IsFitting, CallersDiffer};
 ghost use Rattle.act_actor.specs.Casts.{actor_spec};
@@ -10,24 +10,23 @@ ghost use Rattle.act_tasks.specs.Each.{Each, EachReady};
 ghost use Rattle.act_serve.specs.Served.{end_view};
 ghost use Rattle.act_plans.specs.Setups.{PlansFit, AreMatched, HasLimits};
 ghost use Rattle.act_plans.specs.Runs.{first_bad_plan};
-ghost use Rattle.act_executor.specs.Opened.{IsExec, IsCaller, AreOpened};
+ghost use Rattle.act_executor.specs.Opened.{AreOpened};
 ghost use Rattle.act_executor.specs.Joined.{IsJoined};
 ghost use Rattle.act_executor.specs.Plays.{IsPlayed};
 ghost use Rattle.act_executor.specs.PlanPlays.{IsPlayedAsPlanned};
-ghost use Rattle.act_executor.specs.Joins.{AreServed, AreDriven, AreStarters};
+ghost use Rattle.act_executor.specs.Joins.{AreStarters};
 ghost use Rattle.act_executor.specs.Work.{CanServe, IsServedBy, CanDrive, IsDrivenTo, CanStop, IsAsked, HasAskedAll};
-ghost use Rattle.act_executor.specs.Runs.{plan_view, HasRunPlans, IsPrepared, IsFault, IsThreadFault, fault_of};
+ghost use Rattle.act_executor.specs.Runs.{plan_view, HasRunPlans, HasRun, IsFault, IsThreadFault, fault_of};
 ghost use Rattle.act_executor.specs.Audits.{SitsAtControl};
 
 use crate::joined::{Ends, Joined, settle};
-use crate::open::{Lines, Opened, open_lines};
+use crate::open::{Opened, open_lines, unzip};
 use crate::work::{ByPlan, Conduct, Conducts, Driving, Serving, calls_of_all, drivings, servings};
 use act_actor::{Cast, RunItem, RunLog};
-use act_drive::{CallerPasses, Driven};
 use act_kinds::Actor;
 use act_mailbox::{Control, ControlCaller, Endpoint, NoNotes, Notes};
 use act_plans::{CallerSetup, Plan, Prepared, first_bad_setup, prepare};
-use act_serve::{ExecPasses, Finished, Gate};
+use act_serve::Gate;
 use act_tasks::{Refusal, Stop, run_both};
 use act_types::{CallerId, KillNote, NoMemory};
 use std::alloc::{AllocError, AllocFailed, Global};
@@ -118,28 +117,6 @@ pub struct Pages<N> {
     pub of_actors: Vec<N>,
 }
 
-/// The passes of the executors, of the callers and of the starter.
-#[derive(Drop)]
-struct Passes {
-    execs: Vec<Endpoint<ExecPasses>>,
-    callers: Vec<Endpoint<CallerPasses>>,
-    starters: Vec<ControlCaller>,
-}
-
-/// The firsts and the seconds of pairs.
-fn unzip<X: Drop, Y: Drop>(alloc: Global, pairs: Vec<(X, Y)>) -> Result<(Vec<X>, Vec<Y>), NoMemory>
-    ensures { IfOk result (λ setups. setups.0.items ≡ map (λ pair. pair.0) pairs.items) }
-{
-    let mut firsts = Vec::new(alloc);
-    let mut seconds = Vec::new(alloc);
-    for pair in pairs {
-        let (first, second) = pair;
-        firsts.push(first)?;
-        seconds.push(second)?;
-    }
-    Ok((firsts, seconds))
-}
-
 /// Runs the tasks in threads of their own.
 fn run_tasks<
     R: Threads + Wait + Sync,
@@ -184,55 +161,7 @@ fn run_tasks<
     Ok((ends, pages))
 }
 
-/// Runs each actor and each caller in a thread of its own, at these lines.
-fn run_threads<
-    R: Threads + Wait + Sync,
-    K: Actor + Send,
-    D: Conducts,
-    G: Gate,
-    N: Notes + Send + Drop,
-    L: RunLog + Send,
->(
-    rt: &R,
-    alloc: Global,
-    prepared: Prepared<K>,
-    conducts: D,
-    lines: &Lines,
-    passes: Passes,
-    gate: &G,
-) -> Result<(Ends<K, L>, Pages<N>), RunFault>
-    requires matched { AreMatched prepared.casts.items prepared.setups.items }
-    requires limits { All HasLimits prepared.setups.items }
-    requires fits { All (λ setup. first_bad setup.actors.items setup.plan.items ≡ None) prepared.setups.items }
-    requires exec_places { All (λ exec. (exec.place < length lines.now.mails.items) ×
-        (exec.place < length lines.now.controls.items)) passes.execs.items }
-    requires execs { Each (IsExec lines.now) prepared.casts.items passes.execs.items }
-    requires caller_places { All (λ caller. caller.place < length lines.now.replies.items) passes.callers.items }
-    requires callers { Each (IsCaller lines.now) prepared.setups.items passes.callers.items }
-    requires starters { passes.starters.items
-        ≡ map (λ control. new_putter control.line starter) lines.now.controls.items }
-    ensures actors { IfOk result (λ ran.
-        AreServed K.state lines.now prepared.casts.items passes.execs.items ran.0.actors.items) }
-    ensures callers { IfOk result (λ ran.
-        AreDriven lines.now (λ c.
-        D.One.does (D.of conducts c)) prepared.setups.items passes.callers.items ran.0.callers.items) }
-    ensures starters { IfOk result (λ ran. AreStarters lines.now.controls.items ran.0.starters.items) }
-    ensures fault { IfErr result IsThreadFault }
-{
-    let Prepared { casts, setups } = prepared;
-    let Passes {
-        execs,
-        callers,
-        starters,
-    } = passes;
-    let calls = calls_of_all(setups.as_slice());
-    let servings = servings(alloc, casts, lines, execs, gate, &calls)?;
-    let drivings = drivings(alloc, setups, conducts, lines, callers)?;
-    let starter = starter_at(alloc, lines.controls.as_slice(), starters)?;
-    run_tasks(rt, alloc, servings, drivings, starter)
-}
-
-/// Runs all threads at lines that were opened for them, and compares what they left.
+/// Runs all threads at the lines that were opened for them, and compares what they left.
 fn run_opened<
     R: Threads + Wait + Sync,
     K: Actor + Send,
@@ -245,30 +174,36 @@ fn run_opened<
     alloc: Global,
     prepared: Prepared<K>,
     conducts: D,
-    lines: &Lines,
-    passes: Passes,
+    opened: Opened,
     gate: &G,
 ) -> Result<(Joined<K, L>, Pages<N>), RunFault>
     requires matched { AreMatched prepared.casts.items prepared.setups.items }
     requires limits { All HasLimits prepared.setups.items }
     requires fits { All (λ setup. first_bad setup.actors.items setup.plan.items ≡ None) prepared.setups.items }
-    requires opening { AreOpened prepared.casts.items prepared.setups.items (record {
-      lines = lines.now;
-      execs = passes.execs;
-      callers = passes.callers;
-      starters = passes.starters;
-    }) }
+    requires opening { AreOpened prepared.casts.items prepared.setups.items opened }
     ensures joined { IfOk result (λ ran. HasRunPlans K.state (λ c. D.One.does (D.of conducts c)) prepared ran.0) }
     ensures fault { IfErr result IsThreadFault }
 {
-    let ran = run_threads(rt, alloc, prepared, conducts, lines, passes, gate)?;
-    let (ends, pages) = ran;
-    let joined = settle(rt, alloc, lines, ends)?;
+    let Prepared { casts, setups } = prepared;
+    let Opened {
+        lines,
+        execs,
+        callers,
+        starters,
+    } = opened;
+    let calls = calls_of_all(setups.as_slice());
+    let servings = servings(alloc, casts, &lines, execs, gate, &calls)?;
+    let drivings = drivings(alloc, setups, conducts, &lines, callers)?;
+    let starter = starter_at(alloc, lines.controls.as_slice(), starters)?;
+    let (ends, pages) = run_tasks(rt, alloc, servings, drivings, starter)?;
+    let joined = settle(rt, alloc, &lines, ends)?;
+    drop(lines);
     Ok((joined, pages))
 }
 
-/// Opens all lines, runs all threads, and compares what they left.
-pub(crate) fn run_prepared<
+/// Runs each actor and each caller in a thread of its own, each caller by its conduct, where no step
+/// of a plan would be refused.
+pub(crate) fn run_conducts<
     R: Threads + Wait + Sync,
     K: Actor + Send,
     D: Conducts,
@@ -278,42 +213,15 @@ pub(crate) fn run_prepared<
 >(
     rt: &R,
     alloc: Global,
-    prepared: Prepared<K>,
+    casts: Vec<Cast<K>>,
+    plans: Vec<(CallerId, Plan)>,
     conducts: D,
     gate: &G,
 ) -> Result<(Joined<K, L>, Pages<N>), RunFault>
-    requires matched { AreMatched prepared.casts.items prepared.setups.items }
-    requires limits { All HasLimits prepared.setups.items }
-    requires fits { All (λ setup. first_bad setup.actors.items setup.plan.items ≡ None) prepared.setups.items }
-    ensures joined { IfOk result (λ ran. HasRunPlans K.state (λ c. D.One.does (D.of conducts c)) prepared ran.0) }
-    ensures fault { IfErr result IsThreadFault }
-{
-    let opened = open_lines(alloc, prepared.casts.as_slice(), prepared.setups.as_slice())?;
-    let Opened {
-        lines,
-        execs,
-        callers,
-        starters,
-    } = opened;
-    let passes = Passes {
-        execs,
-        callers,
-        starters,
-    };
-    let ran = run_opened(rt, alloc, prepared, conducts, &lines, passes, gate);
-    drop(lines);
-    ran
-}
-
-/// What is prepared of the casts and the plans, where no step of a plan would be refused.
-pub(crate) fn prepare_good<K: Actor>(
-    alloc: Global,
-    casts: Vec<Cast<K>>,
-    plans: Vec<(CallerId, Plan)>,
-) -> Result<Prepared<K>, RunFault>
     requires fit { IsFitting casts.items }
     requires plans { PlansFit casts.items plans.items }
-    ensures prepared { IfOk result (IsPrepared K.state casts.items plans.items) }
+    ensures ran { IfOk result (λ ran.
+        HasRun K.state (λ c. D.One.does (D.of conducts c)) casts.items plans.items ran.0) }
     ensures fault { IfErr result (IsFault (map (actor_spec K.state) casts.items) (map plan_view plans.items)) }
 {
     let prepared = prepare(alloc, casts, plans)?;
@@ -321,7 +229,8 @@ pub(crate) fn prepare_good<K: Actor>(
         drop(prepared);
         return Err(RunFault::BadPlan(bad.0, bad.1));
     }
-    Ok(prepared)
+    let opened = open_lines(alloc, prepared.casts.as_slice(), prepared.setups.as_slice())?;
+    run_opened(rt, alloc, prepared, conducts, opened, gate)
 }
 
 /// Runs each actor and each caller in a thread of its own, each caller by its plan, and ends when
@@ -349,9 +258,7 @@ pub fn run_plans_noting<R: Threads + Wait + Sync, K: Actor + Send, G: Gate, N: N
         first_bad_plan (map (actor_spec K.state) casts.items) (map plan_view plans.items) ≡ None) }
     ensures fault { IfErr result (IsFault (map (actor_spec K.state) casts.items) (map plan_view plans.items)) }
 {
-    let prepared = prepare_good(alloc, casts, plans)?;
-    let ran = run_prepared::<R, K, ByPlan, G, N, Vec<RunItem>>(rt, alloc, prepared, ByPlan, gate)?;
-    Ok(ran)
+    run_conducts::<R, K, ByPlan, G, N, Vec<RunItem>>(rt, alloc, casts, plans, ByPlan, gate)
 }
 
 /// Runs each actor and each caller in a thread of its own, each caller by its plan, and ends when

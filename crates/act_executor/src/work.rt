@@ -1,12 +1,9 @@
 //! What the threads are given.
 
-ghost use Rattle.std.specs.Prelude.{◌≡◌, ◌≢◌, ◌<◌, [], ◌∷◌, ◌++◌, length, map, zip, All, AllPairs, None, IfOk, ◌==◌, ℕ, Option, position};
+ghost use Rattle.std.specs.Prelude.{◌≡◌, ◌≢◌, [], ◌∷◌, ◌++◌, map, zip, All, AllPairs, None, IfOk, ◌==◌, ℕ, Option, position};
 ghost use Rattle.act_rules.specs.Plans.{first_bad};
-ghost use Rattle.act_actor.specs.Cast.{CallersDiffer};
 ghost use Rattle.act_tasks.specs.Each.{Each, EachReady};
-ghost use Rattle.act_plans.specs.Setups.{HasLimits};
-ghost use Rattle.act_executor.specs.Opened.{IsExec, IsCaller};
-ghost use Rattle.act_executor.specs.Work.{CanServe, IsServedBy, CanDrive, IsDrivenTo, serving_start, cast_start, driving_start, setup_start};
+ghost use Rattle.act_executor.specs.Work.{MayServe, MayDrive, CanServe, IsServedBy, CanDrive, IsDrivenTo, serving_start, cast_start, driving_start, setup_start};
 ghost use Rattle.act_handles.specs.Handles.{actors_in};
 ghost use Rattle.act_drive.specs.Driven.{IsFreshCaller};
 ghost use Rattle.act_executor.specs.ByCode.{code_of};
@@ -101,41 +98,57 @@ impl<'a, D: Conduct + Send, N: Notes + Send + Drop> Task for Driving<'a, D, N> {
 /// How many calls the plans submit to each actor, by the actors' numbers.
 pub(crate) type CallCounts = [usize; ACTOR_NUMBERS];
 
-/// Adds the calls of one plan.
-fn count_calls(counts: &mut CallCounts, plan: &[Step]) {
-    for step in plan {
+/// The calls of all plans.
+pub(crate) fn calls_of_all(setups: &[CallerSetup]) -> CallCounts {
+    let mut counts = [0usize; ACTOR_NUMBERS];
+    for step in setups.iter().flat_map(|setup| setup.plan.iter()) {
         if let Step::Submit(actor, ..) = step {
             let count = &mut counts[actor.number() as usize];
             *count = count.saturating_add(1);
         }
     }
-}
-
-/// The calls of all plans.
-pub(crate) fn calls_of_all(setups: &[CallerSetup]) -> CallCounts {
-    let mut counts = [0; ACTOR_NUMBERS];
-    for setup in setups {
-        count_calls(&mut counts, setup.plan.as_slice());
-    }
     counts
 }
 
-/// What one actor's thread is given, with room for so many calls.
-fn one_serving<'a, K: Actor, G, N: Notes + Drop, L: RunLog>(
+/// What the actors' threads are given.
+pub(crate) fn servings<'a, K: Actor, G, N: Notes + Drop, L: RunLog>(
+    alloc: Global,
+    casts: Vec<Cast<K>>,
+    lines: &'a Lines,
+    execs: Vec<Endpoint<ExecPasses>>,
+    gate: &'a G,
+    calls: &CallCounts,
+) -> Result<Vec<Serving<'a, K, G, N, L>>, NoMemory>
+    requires { Each (MayServe lines.now) casts.items execs.items }
+    ensures ready { IfOk result (λ servings. All CanServe servings.items) }
+    ensures starts { IfOk result (λ servings.
+        map (serving_start K.state) servings.items ≡
+        map (cast_start K.state lines.now.replies.items) (zip casts.items execs.items)) }
+{
+    let mut servings = Vec::new(alloc);
+    for (cast, exec) in casts.into_iter().zip(execs) {
+        let room = calls[cast.actor.number() as usize];
+        add_serving(alloc, cast, lines, exec, gate, room, &mut servings)?;
+    }
+    Ok(servings)
+}
+
+/// What one more actor's thread is given, with room for so many calls.
+fn add_serving<'a, K: Actor, G, N: Notes + Drop, L: RunLog>(
     alloc: Global,
     cast: Cast<K>,
     lines: &'a Lines,
     exec: Endpoint<ExecPasses>,
     gate: &'a G,
-    notes: N,
     room: usize,
-) -> Result<Serving<'a, K, G, N, L>, NoMemory>
-    requires callers { CallersDiffer cast.callers }
-    requires place { (exec.place < length lines.now.mails.items) × (exec.place < length lines.now.controls.items) }
-    requires exec { IsExec lines.now cast exec }
-    ensures ready { IfOk result CanServe }
-    ensures start { IfOk result (λ serving.
-        serving_start K.state serving ≡ cast_start K.state lines.now.replies.items (cast, exec)) }
+    servings: &mut Vec<Serving<'a, K, G, N, L>>,
+) -> Result<(), NoMemory>
+    requires serves { MayServe lines.now cast exec }
+    requires ready { All CanServe servings.old.items }
+    ensures ready { IfOk result (λ _. All CanServe servings.new.items) }
+    ensures starts { IfOk result (λ _.
+        map (serving_start K.state) servings.new.items ≡
+        map (serving_start K.state) servings.old.items ++ cast_start K.state lines.now.replies.items (cast, exec) ∷ []) }
 {
     let Cast {
         actor,
@@ -153,105 +166,14 @@ fn one_serving<'a, K: Actor, G, N: Notes + Drop, L: RunLog>(
         control: &lines.controls[place],
         replies: lines.replies.as_slice(),
     };
-    Ok(Serving {
+    servings.push(Serving {
         live,
         lines,
         passes: pass,
         gate,
-        notes,
-    })
-}
-
-/// What the actors' threads are given.
-pub(crate) fn servings<'a, K: Actor, G, N: Notes + Drop, L: RunLog>(
-    alloc: Global,
-    casts: Vec<Cast<K>>,
-    lines: &'a Lines,
-    execs: Vec<Endpoint<ExecPasses>>,
-    gate: &'a G,
-    calls: &CallCounts,
-) -> Result<Vec<Serving<'a, K, G, N, L>>, NoMemory>
-    requires callers { All (λ cast. CallersDiffer cast.callers) casts.items }
-    requires places { All (λ exec. (exec.place < length lines.now.mails.items) ×
-        (exec.place < length lines.now.controls.items)) execs.items }
-    requires execs { Each (IsExec lines.now) casts.items execs.items }
-    ensures ready { IfOk result (λ servings. All CanServe servings.items) }
-    ensures starts { IfOk result (λ servings.
-        map (serving_start K.state) servings.items ≡
-        map (cast_start K.state lines.now.replies.items) (zip casts.items execs.items)) }
-{
-    let mut servings = Vec::new(alloc);
-    for (cast, exec) in casts.into_iter().zip(execs) {
-        let room = calls[cast.actor.number() as usize];
-        add_serving(alloc, cast, lines, exec, gate, room, &mut servings)?;
-    }
-    Ok(servings)
-}
-
-/// What one more actor's thread is given.
-fn add_serving<'a, K: Actor, G, N: Notes + Drop, L: RunLog>(
-    alloc: Global,
-    cast: Cast<K>,
-    lines: &'a Lines,
-    exec: Endpoint<ExecPasses>,
-    gate: &'a G,
-    room: usize,
-    servings: &mut Vec<Serving<'a, K, G, N, L>>,
-) -> Result<(), NoMemory>
-    requires callers { CallersDiffer cast.callers }
-    requires place { (exec.place < length lines.now.mails.items) × (exec.place < length lines.now.controls.items) }
-    requires exec { IsExec lines.now cast exec }
-    requires ready { All CanServe servings.old.items }
-    ensures ready { IfOk result (λ _. All CanServe servings.new.items) }
-    ensures starts { IfOk result (λ _.
-        map (serving_start K.state) servings.new.items ≡
-        map (serving_start K.state) servings.old.items ++ cast_start K.state lines.now.replies.items (cast, exec) ∷ []) }
-{
-    let notes = N::open(alloc);
-    servings.push(one_serving(alloc, cast, lines, exec, gate, notes, room)?)?;
+        notes: N::open(alloc),
+    })?;
     Ok(())
-}
-
-/// What one caller's thread is given.
-fn one_driving<'a, D: Conduct, N: Notes + Drop>(
-    alloc: Global,
-    setup: CallerSetup,
-    conduct: D,
-    lines: &'a Lines,
-    caller: Endpoint<CallerPasses>,
-    notes: N,
-) -> Result<Driving<'a, D, N>, NoMemory>
-    requires actors { CallersDiffer setup.actors.items }
-    requires limits { HasLimits setup }
-    requires place { caller.place < length lines.now.replies.items }
-    requires caller { IsCaller lines.now setup caller }
-    requires fits { first_bad setup.actors.items setup.plan.items ≡ None }
-    ensures ready { IfOk result CanDrive }
-    ensures start { IfOk result (λ driving.
-        driving_start driving ≡ setup_start lines.now (λ _. conduct) (setup, caller)) }
-{
-    let CallerSetup {
-        caller: id,
-        limits,
-        plan,
-        ..
-    } = setup;
-    let Endpoint { place, pass } = caller;
-    let owner = Owner::open_with(alloc, id, limits.as_slice())?;
-    let lines = CallerLines {
-        mails: lines.mails.as_slice(),
-        controls: lines.controls.as_slice(),
-        replies: &lines.replies[place],
-    };
-    Ok(Driving {
-        alloc,
-        owner,
-        plan,
-        conduct,
-        lines,
-        passes: pass,
-        notes,
-    })
 }
 
 /// What the callers' threads are given.
@@ -262,12 +184,8 @@ pub(crate) fn drivings<'a, D: Conducts, N: Notes + Drop>(
     lines: &'a Lines,
     callers: Vec<Endpoint<CallerPasses>>,
 ) -> Result<Vec<Driving<'a, D::One, N>>, NoMemory>
-    requires actors { All (λ setup. CallersDiffer setup.actors.items) setups.items }
-    requires limits { All HasLimits setups.items }
     requires differ { AllPairs (λ one other. one.caller ≢ other.caller) setups.items }
-    requires places { All (λ caller. caller.place < length lines.now.replies.items) callers.items }
-    requires callers { Each (IsCaller lines.now) setups.items callers.items }
-    requires fits { All (λ setup. first_bad setup.actors.items setup.plan.items ≡ None) setups.items }
+    requires each { Each (MayDrive lines.now) setups.items callers.items }
     ensures ready { IfOk result (λ drivings. All CanDrive drivings.items) }
     ensures starts { IfOk result (λ drivings.
         map driving_start drivings.items
@@ -291,19 +209,35 @@ fn add_driving<'a, D: Conduct, N: Notes + Drop>(
     caller: Endpoint<CallerPasses>,
     drivings: &mut Vec<Driving<'a, D, N>>,
 ) -> Result<(), NoMemory>
-    requires actors { CallersDiffer setup.actors.items }
-    requires limits { HasLimits setup }
-    requires place { caller.place < length lines.now.replies.items }
-    requires caller { IsCaller lines.now setup caller }
-    requires fits { first_bad setup.actors.items setup.plan.items ≡ None }
+    requires drives { MayDrive lines.now setup caller }
     requires ready { All CanDrive drivings.old.items }
     ensures ready { IfOk result (λ _. All CanDrive drivings.new.items) }
     ensures starts { IfOk result (λ _.
         map driving_start drivings.new.items
         ≡ map driving_start drivings.old.items ++ setup_start lines.now (λ _. conduct) (setup, caller) ∷ []) }
 {
-    let notes = N::open(alloc);
-    drivings.push(one_driving(alloc, setup, conduct, lines, caller, notes)?)?;
+    let CallerSetup {
+        caller: id,
+        limits,
+        plan,
+        ..
+    } = setup;
+    let Endpoint { place, pass } = caller;
+    let owner = Owner::open_with(alloc, id, limits.as_slice())?;
+    let lines = CallerLines {
+        mails: lines.mails.as_slice(),
+        controls: lines.controls.as_slice(),
+        replies: &lines.replies[place],
+    };
+    drivings.push(Driving {
+        alloc,
+        owner,
+        plan,
+        conduct,
+        lines,
+        passes: pass,
+        notes: N::open(alloc),
+    })?;
     Ok(())
 }
 

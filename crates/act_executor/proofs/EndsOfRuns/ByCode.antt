@@ -4,7 +4,7 @@ use Rattle.act_executor.proofs.Common.{All, AllPairs, get_or, ◌<◌, Option, �
 use Rattle.act_executor.proofs.Common.{eq-eqb, slice_get_within, get_or_from_slice_get, Step, ActorSpec, actors_naming, contains, OwnerView, MailView}
 use Rattle.act_executor.proofs.Common.{ControlView, RepliesView, Driven, SessionView, HasConcluded, plan_of, steps_of_plan, EndView, CallsThatDiedNeverRan}
 use Rattle.act_executor.proofs.Common.{kept_in, log_in, ServedView, IsDriven, AreJoined, code_of, opened_of, HasTold, IsDrivenBy, AreJoinedBy, IsJoinedBy}
-use Rattle.act_rules.proofs.Elements.{all_in, all_by_places, found_is, finds, any_is, contains_is}
+use Rattle.act_executor.proofs.Common.{all_in, all_by_places, found_is, finds, any_is, contains_is}
 use Rattle.act_executor.proofs.EndsOfRuns.Found.{driven_named, one_of}
 use Rattle.act_executor.proofs.EndsOfRuns.Joint.{driven_of, owner_is}
 use Rattle.act_executor.proofs.EndsOfRuns.Ends.{joined as joined_is}

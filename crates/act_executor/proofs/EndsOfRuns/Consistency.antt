@@ -1,10 +1,9 @@
 -- Opening states, submissions, run lists, kept answers and dead actors fit one another where each item is a call as it was sent, numbered in order.
-use Rattle.act_executor.proofs.Common.{◌≡◌, ◌≢◌, ℕ, ◌+◌, Bool, List, length, Some, refl, ap, sym, ◌∙◌, subst, arith, Option, ◌==◌, map, filter, take}
-use Rattle.act_executor.proofs.Common.{slice_get, option_map, option_and_then, Err, IsTrue, AllByRecursion, list_all, range_with_len, eq-eqb, eqb-true}
-use Rattle.act_executor.proofs.Common.{slice_get-map, ActorDied, KindState, RunItem, Submission, Answer, answer_at, items_of, calls_to, number_of, kept_at}
-use Rattle.act_executor.proofs.Common.{is_known, settle, IsPrefix, IsAsSubmitted, IsCallToDead, Consistent, slice_get-filter, slice_get-enumerate_from}
-use Rattle.act_executor.proofs.Common.{filter-slice_get, calls_to-number, numbered, numbers, map-slice_get, same_place, all_from_places}
-use Rattle.act_rules.proofs.Elements.{front_by_places, range_at}
+use Rattle.act_executor.proofs.Common.{◌≡◌, ◌≢◌, ℕ, ◌+◌, Bool, List, length, Some, refl, ap, sym, ◌∙◌, subst, arith, Option, ◌==◌, map, filter, take, slice_get}
+use Rattle.act_executor.proofs.Common.{option_map, option_and_then, Err, IsTrue, AllByRecursion, list_all, range_with_len, eq-eqb, eqb-true, slice_get-map}
+use Rattle.act_executor.proofs.Common.{ActorDied, KindState, RunItem, Submission, Answer, answer_at, items_of, calls_to, number_of, kept_at, is_known, settle}
+use Rattle.act_executor.proofs.Common.{IsPrefix, IsAsSubmitted, IsCallToDead, Consistent, slice_get-filter, slice_get-enumerate_from, filter-slice_get}
+use Rattle.act_executor.proofs.Common.{calls_to-number, numbered, numbers, map-slice_get, same_place, all_from_places, front_by_places, range_at}
 
 -- the item is a call to actor a, as it was sent
 pub record IsSentItem (calls : ℕ → List Submission) (kept : ℕ → List (Option Answer)) (a : ℕ) (item : RunItem) : Type 0 where

@@ -1,20 +1,19 @@
 -- How the threads of a joined run ended: what was submitted, who was killed, and that a retired actor ran all.
-use Rattle.act_executor.proofs.Common.{◌≡◌, ℕ, suc, ◌<◌, ◌≤◌, Bool, true, false, true≢false, cond, List, [], ◌∷◌, length, Some, None, inl, inr, refl, ap}
-use Rattle.act_executor.proofs.Common.{sym, ◌∙◌, subst, arith, Option, ◌==◌, ◌&&◌, map, slice_get, is_some, All, Contains, option_or, eq-eqb, eqb-true}
-use Rattle.act_executor.proofs.Common.{and_parts, map-map, length-map, All-map, length-enumerate_from, Notice, ReleaseNote, RunItem, Submission, Step}
-use Rattle.act_executor.proofs.Common.{items_of, has_terminated, NothingFollowsAnEnd, calls_to, kept_at, planned, kills_to, ActorSpec, contains}
-use Rattle.act_executor.proofs.Common.{actors_naming, filter-slice_get, calls_to-at, numbered, numbers, map-slice_get, OwnerView, MailView, caller_of}
-use Rattle.act_executor.proofs.Common.{ControlView, ControlExecView, asker_of, starter, RepliesView, Asked, Letter, Call, Note, ExecPasses, EndView, Killed}
-use Rattle.act_executor.proofs.Common.{Retired, end_id, end_log, IfRetired, note_in, first_note, IsTakenAt, KillsOfDead, KillsTaken, Driven, IsSent}
-use Rattle.act_executor.proofs.Common.{AreAsked, HasAsked, limits_naming, plan_of, callers_of_casts, actors_of_casts, is_killed, is_starved, owner_of}
-use Rattle.act_executor.proofs.Common.{calls_of_owner, kept_of_owner, log_of_end, is_killed_end, calls_in, kept_in, log_in, killed_in, RanAll, IsJoined}
-use Rattle.act_executor.proofs.Common.{CallsThatDiedNeverRan, ServedView, AreJoined}
-use Rattle.act_mailbox.specs.Lines.{items_from as items_put}
-use Rattle.act_rules.proofs.Elements.{IsIn, in_from_contains, all_in, in_filter, in_front, all_by_places, is_contained, empty_by_places, enumerated, in_none, in_first, some_long}
-use Rattle.act_rules.proofs.Lists.{front_whole}
+use Rattle.act_executor.proofs.Common.{◌≡◌, ℕ, suc, ◌<◌, ◌≤◌, Bool, true, false, true≢false, cond, List, [], ◌∷◌, length, Some, None, inl, inr, refl, ap, sym}
+use Rattle.act_executor.proofs.Common.{◌∙◌, subst, arith, Option, ◌==◌, ◌&&◌, map, slice_get, is_some, All, Contains, option_or, eq-eqb, eqb-true, and_parts}
+use Rattle.act_executor.proofs.Common.{map-map, length-map, All-map, length-enumerate_from, Notice, ReleaseNote, RunItem, Submission, Step, items_of}
+use Rattle.act_executor.proofs.Common.{has_terminated, NothingFollowsAnEnd, calls_to, kept_at, planned, kills_to, ActorSpec, contains, actors_naming}
+use Rattle.act_executor.proofs.Common.{filter-slice_get, calls_to-at, numbered, numbers, map-slice_get, OwnerView, MailView, caller_of, ControlView}
+use Rattle.act_executor.proofs.Common.{ControlExecView, asker_of, starter, RepliesView, Asked, Letter, Call, Note, ExecPasses, EndView, Killed, Retired, end_id}
+use Rattle.act_executor.proofs.Common.{end_log, IfRetired, note_in, first_note, IsTakenAt, KillsOfDead, KillsTaken, Driven, IsSent, AreAsked, HasAsked}
+use Rattle.act_executor.proofs.Common.{limits_naming, plan_of, callers_of_casts, actors_of_casts, is_killed, is_starved, owner_of, calls_of_owner}
+use Rattle.act_executor.proofs.Common.{kept_of_owner, log_of_end, is_killed_end, calls_in, kept_in, log_in, killed_in, RanAll, IsJoined, CallsThatDiedNeverRan}
+use Rattle.act_executor.proofs.Common.{ServedView, AreJoined, items_put, IsIn, in_from_contains, all_in, in_filter, in_front, all_by_places, is_contained}
+use Rattle.act_executor.proofs.Common.{empty_by_places, enumerated, in_none, in_first, some_long, front_whole}
 use Rattle.act_executor.proofs.EndsOfRuns.Found.{naming, same_cast, planned_known, planned_none, driven_named}
 use Rattle.act_executor.proofs.EndsOfRuns.Consistency.{order_of, fits}
-use Rattle.act_executor.proofs.EndsOfRuns.Joint.{driven_of, of_owner, of_end, owner_is, Thread, thread, thread_in, driver, audit_of, letter_sent, listed_named, item_sent, all_fit}
+use Rattle.act_executor.proofs.EndsOfRuns.Joint.{driven_of, of_owner, of_end, owner_is, Thread, thread, thread_in, driver, audit_of, letter_sent, listed_named}
+use Rattle.act_executor.proofs.EndsOfRuns.Joint.{item_sent, all_fit}
 
 -- ---- notes and kills
 

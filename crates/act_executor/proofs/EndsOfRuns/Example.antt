@@ -1,19 +1,15 @@
 -- A run that meets all premises: one counter, one caller, one call; the actor retired.
-use Rattle.act_executor.proofs.Common.{◌≡◌, ◌≢◌, ℕ, zero, suc, ◌<◌, Bool, true, false, cond, List, [], ◌∷◌, ◌++◌, length, Some, inl, refl, subst, arith}
-use Rattle.act_executor.proofs.Common.{◌==◌, slice_get, map, is_some, Ok, All, AllPairs, Contains, pos, range_with_len, Vec, Global, AllPairs-cons, TableId}
-use Rattle.act_executor.proofs.Common.{CounterAt, MAX_ACTORS, MAX_CALLERS, Notice, Answered, RunItem, Submission, Step, Answer, items_of}
-use Rattle.act_executor.proofs.Common.{NothingFollowsAnEnd, kept_at, one_to, ActorSpec, contains, actors_naming, All-two, OwnerView, is_death, IsToldBy}
-use Rattle.act_executor.proofs.Common.{MailView, ControlView, asker_of, starter, RepliesView, ReplyExecView, PutterView, Asked, Letter, Call, Note, Endpoint}
-use Rattle.act_executor.proofs.Common.{packet_of_item, Retired, end_id, first_note, replies_to, deaths, caller_at, Driven, HasPosted, HasAsked, IsSent}
-use Rattle.act_executor.proofs.Common.{AreTwo, limits_naming, cast_at, plan_of, is_starved, ServedView, IsServed, IsDriven, AreAudited, AreCasts, AreJoined}
-use Rattle.act_executor.proofs.Common.{Submit}
-use denote.RawPtr.{Ptr}
+use Rattle.act_executor.proofs.Common.{◌≡◌, ◌≢◌, ℕ, zero, suc, ◌<◌, Bool, true, false, cond, List, [], ◌∷◌, ◌++◌, length, Some, inl, refl, subst, arith, ◌==◌}
+use Rattle.act_executor.proofs.Common.{slice_get, map, is_some, Ok, All, AllPairs, Contains, pos, range_with_len, Vec, Global, AllPairs-cons, TableId}
+use Rattle.act_executor.proofs.Common.{CounterAt, MAX_ACTORS, MAX_CALLERS, Notice, Answered, RunItem, Submission, Step, Answer, items_of, NothingFollowsAnEnd}
+use Rattle.act_executor.proofs.Common.{kept_at, one_to, ActorSpec, contains, actors_naming, All-two, OwnerView, is_death, IsToldBy, MailView, ControlView}
+use Rattle.act_executor.proofs.Common.{asker_of, starter, RepliesView, ReplyExecView, PutterView, Asked, Letter, Call, Note, Endpoint, packet_of_item, Retired}
+use Rattle.act_executor.proofs.Common.{end_id, first_note, replies_to, deaths, caller_at, Driven, HasPosted, HasAsked, IsSent, AreTwo, limits_naming, cast_at}
+use Rattle.act_executor.proofs.Common.{plan_of, is_starved, ServedView, IsServed, IsDriven, AreAudited, AreCasts, AreJoined, Submit, Ptr, items_put}
+use Rattle.act_executor.proofs.Common.{contains_is, all_one}
 use Rattle.act_types.specs.declared.call.Value.TheVariants as value
 use Rattle.act_types.specs.declared.call.Method.TheVariants as method
 use Rattle.act_rules.specs.declared.script.Step.TheVariants as step
-use Rattle.act_mailbox.specs.Lines.{items_from as items_put}
-use Rattle.act_rules.proofs.Elements.{contains_is}
-use Rattle.act_causes.proofs.Example.{all_one}
 
 -- ---- lists of one
 

@@ -3,13 +3,12 @@ use Rattle.act_executor.proofs.Common.{◌≡◌, ℕ, zero, suc, ◌<◌, true,
 use Rattle.act_executor.proofs.Common.{Global, All-nil, TableId, CounterAt, ActorDied, Notice, Death, RunItem, Step, Answer, kept_at, ActorSpec, contains}
 use Rattle.act_executor.proofs.Common.{actors_naming, OwnerView, is_death, is_known_dead, IsToldBy, asker_of, starter, ReplyExecView, Asked, Letter, Call}
 use Rattle.act_executor.proofs.Common.{Endpoint, packet_of_item, Killed, end_id, replies_to, deaths, caller_at, Driven, HasPosted, HasAsked, IsSent, AreTwo}
-use Rattle.act_executor.proofs.Common.{limits_naming, cast_at, plan_of, is_starved, ServedView, IsServed, IsDriven, AreAudited, AreJoined}
-use denote.RawPtr.{Ptr}
+use Rattle.act_executor.proofs.Common.{limits_naming, cast_at, plan_of, is_starved, ServedView, IsServed, IsDriven, AreAudited, AreJoined, Ptr, items_put}
+use Rattle.act_executor.proofs.Common.{all_one}
 use Rattle.act_types.specs.declared.call.Method.TheVariants as method
 use Rattle.act_rules.specs.declared.script.Step.TheVariants as step
-use Rattle.act_mailbox.specs.Lines.{items_from as items_put}
-use Rattle.act_executor.proofs.EndsOfRuns.Example.{one_at, pairs_one, only, casts, casts_are, mails, controls, replies, letter_endpoint, kill_endpoint, notice_endpoint, call, item}
-use Rattle.act_causes.proofs.Example.{all_one}
+use Rattle.act_executor.proofs.EndsOfRuns.Example.{one_at, pairs_one, only, casts, casts_are, mails, controls, replies, letter_endpoint, kill_endpoint}
+use Rattle.act_executor.proofs.EndsOfRuns.Example.{notice_endpoint, call, item}
 
 abbrev letters : List Letter
 letters = Call (packet_of_item 1 item) ∷ []

@@ -1,12 +1,12 @@
 -- Which threads stand behind a number: the casts, the callers' and the actors'.
 use Rattle.act_executor.proofs.Common.{◌≡◌, ◌≢◌, ℕ, suc, ◌+◌, ◌-◌, ◌<◌, Bool, true, false, cond, List, [], ◌∷◌, length, Some, None, inl, inr, refl, ap, sym}
-use Rattle.act_executor.proofs.Common.{◌∙◌, subst, arith, ◌==◌, map, filter, slice_get, option_map, All, AllPairs, Contains, is_some, AllByRecursion}
-use Rattle.act_executor.proofs.Common.{list_any, eq-eqb, eqb-true, leb_tells, slice_get_within, get_or_from_slice_get, slice_get-map, any_passes_from_place}
-use Rattle.act_executor.proofs.Common.{MAX_ACTORS, MAX_CALLERS, Arg, Submission, Step, submit_refusal, Progress, nothing_done, occurrences, holds}
-use Rattle.act_executor.proofs.Common.{is_refused, do_step, done_by, planned, one_to, ActorSpec, contains, actors_naming, All_more, All_at, filter-slice_get}
-use Rattle.act_executor.proofs.Common.{map-slice_get, end_id, Driven, MailView, ControlView, RepliesView, cast_at, ServedView, AreCasts, AreJoined, Submit}
+use Rattle.act_executor.proofs.Common.{◌∙◌, subst, arith, ◌==◌, map, filter, slice_get, option_map, All, AllPairs, Contains, is_some, AllByRecursion, list_any}
+use Rattle.act_executor.proofs.Common.{eq-eqb, eqb-true, leb_tells, slice_get_within, get_or_from_slice_get, slice_get-map, any_passes_from_place, MAX_ACTORS}
+use Rattle.act_executor.proofs.Common.{MAX_CALLERS, Arg, Submission, Step, submit_refusal, Progress, nothing_done, occurrences, holds, is_refused, do_step}
+use Rattle.act_executor.proofs.Common.{done_by, planned, one_to, ActorSpec, contains, actors_naming, All_more, All_at, filter-slice_get, map-slice_get, end_id}
+use Rattle.act_executor.proofs.Common.{Driven, MailView, ControlView, RepliesView, cast_at, ServedView, AreCasts, AreJoined, Submit, IsIn, in_from_contains}
+use Rattle.act_executor.proofs.Common.{all_in, in_filter, found_is, Finds, finds, any_is, contains_is, is_contained}
 use Rattle.act_rules.specs.declared.script.Step.TheVariants as step
-use Rattle.act_rules.proofs.Elements.{IsIn, in_from_contains, all_in, in_filter, found_is, Finds, finds, any_is, contains_is, is_contained}
 
 -- where no number stands twice, two elements of one number are one
 pub one_of : {A : Type 0} (number : A → ℕ) (xs : List A) (k m : ℕ) (x y : A) → AllPairs (λ one other. number one ≢ number other) xs → slice_get xs k ≡ Some x → slice_get xs m ≡ Some y → number x ≡ number y → x ≡ y

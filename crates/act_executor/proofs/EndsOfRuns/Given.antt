@@ -1,8 +1,7 @@
 -- What a caller was given: replies of places of the log, and the death of an actor that was killed.
 use Rattle.act_executor.proofs.Common.{◌≡◌, ℕ, zero, suc, true, false, [], ◌∷◌, ◌++◌, Some, None, inl, inr, refl, slice_get, All-contains}
-use Rattle.act_executor.proofs.Common.{Contains-append_cases, KindState, Reply, Notice, Answered, Death, EndView, Killed, Retired, Starved, end_log}
-use Rattle.act_executor.proofs.Common.{replies_to, deaths, IsReplyOf, IsAnswerOf, replies_answer, is_killed, is_starved}
-use Rattle.act_rules.proofs.Elements.{IsIn, in_from_contains, contains_from_in}
+use Rattle.act_executor.proofs.Common.{Contains-append_cases, KindState, Reply, Notice, Answered, Death, EndView, Killed, Retired, Starved, end_log, replies_to}
+use Rattle.act_executor.proofs.Common.{deaths, IsReplyOf, IsAnswerOf, replies_answer, is_killed, is_starved, IsIn, in_from_contains, contains_from_in}
 
 one_death : (a k : ℕ) (notice : Notice) → slice_get (Death a ∷ []) k ≡ Some notice → Death a ≡ notice
 one_death a zero notice e = cc

@@ -2,17 +2,15 @@
 use Rattle.act_executor.proofs.Common.{◌≡◌, ℕ, ◌+◌, ◌∷◌, ◌++◌, true, false, List, [], length, map, get_or, slice_get, Some, sym, ap, ◌∙◌, subst, refl, arith}
 use Rattle.act_executor.proofs.Common.{All, AllPairs, Contains, ◌≢◌, Option, option_map, range_with_len, list_any, Vec, map-map, length-map, All-map}
 use Rattle.act_executor.proofs.Common.{length-range_with_len, slice_get_within, slice_get-map, get_or_from_slice_get, KindState, Step, IsPrefix, ActorSpec}
-use Rattle.act_executor.proofs.Common.{contains, actors_naming, MAX_ACTORS, MAX_CALLERS, one_to, map-slice_get, element, AllPairs-map, list_any-map}
-use Rattle.act_executor.proofs.Common.{OwnerView, opened_under, Cast, IsFitting, actor_spec, Asked, items_from, PutterView, MailView, ControlView, asker_of}
-use Rattle.act_executor.proofs.Common.{starter, RepliesView, Endpoint, Finished, EndView, end_view, end_id, caller_at, IsActorTraced, Driven, HasDonePlan}
-use Rattle.act_executor.proofs.Common.{CallerSetup, Prepared, SessionView, by_rising_actor, limits_naming, callers_of_casts, actors_of_casts, cast_at}
-use Rattle.act_executor.proofs.Common.{plan_of, setups_view, plans_are, actors_are, limits_are, actors_view, each_cast_view, pairs_of_map, IsJoined}
-use Rattle.act_executor.proofs.Common.{is_starved, ServedView, IsServed, IsDriven, AreAudited, AreCasts, AreJoined, code_of, opened_of, IsDrivenBy}
-use Rattle.act_executor.proofs.Common.{AreJoinedBy, IsJoinedBy, IsPlayedBy, IsPlayed, IsPlayedAsPlanned, SpecsFit, Joined, KillTold, CallerTold, NoticeTold}
-use Rattle.act_executor.proofs.Common.{ActorLeft, left_of, IsUnusedStarter, Doing, does_code, CodesFit, HasRunPlans, IsPrepared, plan_view}
+use Rattle.act_executor.proofs.Common.{contains, actors_naming, MAX_ACTORS, MAX_CALLERS, one_to, map-slice_get, element, AllPairs-map, list_any-map, OwnerView}
+use Rattle.act_executor.proofs.Common.{opened_under, Cast, IsFitting, actor_spec, Asked, items_from, PutterView, MailView, ControlView, asker_of, starter}
+use Rattle.act_executor.proofs.Common.{RepliesView, Endpoint, Finished, EndView, end_view, end_id, caller_at, IsActorTraced, Driven, HasDonePlan, CallerSetup}
+use Rattle.act_executor.proofs.Common.{Prepared, SessionView, by_rising_actor, limits_naming, callers_of_casts, actors_of_casts, cast_at, plan_of, setups_view}
+use Rattle.act_executor.proofs.Common.{plans_are, actors_are, limits_are, actors_view, each_cast_view, pairs_of_map, IsJoined, is_starved, ServedView, IsServed}
+use Rattle.act_executor.proofs.Common.{IsDriven, AreAudited, AreCasts, AreJoined, code_of, opened_of, IsDrivenBy, AreJoinedBy, IsJoinedBy, IsPlayedBy, IsPlayed}
+use Rattle.act_executor.proofs.Common.{IsPlayedAsPlanned, SpecsFit, Joined, KillTold, CallerTold, NoticeTold, ActorLeft, left_of, IsUnusedStarter, Doing}
+use Rattle.act_executor.proofs.Common.{does_code, CodesFit, HasRun, HasRunPlans, IsPrepared, plan_view, as_long, at_other, all_at, all_by_places, range_at}
 use Rattle.act_executor.proofs.PlaysOfThreads.HaveTraces.{HaveTraces, traced_moved}
-use Rattle.act_rules.proofs.Places.{as_long, at_other, all_at}
-use Rattle.act_rules.proofs.Elements.{all_by_places, range_at}
 use Rattle.act_executor.proofs.EndsOfRuns.Ends.{joined as joined_is}
 use Rattle.act_executor.proofs.EndsOfRuns.ByCode.{steps as steps_by, are_joined as joined_by, are_traced as traced_by, is_joined_by as joined_by_is}
 use Rattle.act_executor.proofs.OpenLines.SpecsFit.{specs_fit}
@@ -29,8 +27,16 @@ front_none (x ∷ xs) front = let none : length (x ∷ xs ++ front.0) ≡ 0 = ap
 abbrev KillEndpoint : Type 0
 KillEndpoint = Endpoint (PutterView Asked ℕ)
 
-module _ {K L : Type 0} (state : K → KindState) (does : ℕ → Doing) (casts : List (Cast K)) (plans : List (ℕ × Vec Step)) (prepared : Prepared K) (joined : Joined K L)
-    (fit : IsFitting casts) (is : IsPrepared state casts plans prepared) (run : HasRunPlans state does prepared joined) where
+module _ {K L : Type 0} (state : K → KindState) (does : ℕ → Doing) (casts : List (Cast K)) (plans : List (ℕ × Vec Step)) (joined : Joined K L) (fit : IsFitting casts) (ran : HasRun state does casts plans joined) where
+  abbrev prepared : Prepared K
+  prepared = ran.prepared
+
+  abbrev is : IsPrepared state casts plans prepared
+  is = ran.is
+
+  abbrev run : HasRunPlans state does prepared joined
+  run = ran.run
+
   abbrev seen : List ActorSpec
   seen = map (actor_spec state) casts
 
@@ -234,7 +240,7 @@ module _ {K L : Type 0} (state : K → KindState) (does : ℕ → Doing) (casts 
       let plus : 0 + j ≡ j = omega arith in
       let place : endpoint.place ≡ j = range_at 0 (length controls) j endpoint.place in_range ∙ plus in
       let unused = (all_at (IsUnusedStarter controls) endpoints j endpoint run.starters.unused one.1).new (record { line = endpoint.pass.line; actor = 0 }) in
-      let told = (all_at (KillTold last) endpoints j endpoint run.compared.starters one.1).front e.f in
+      let told = (all_at (KillTold last) endpoints j endpoint run.compared.starters one.1 e.f).front in
       let At : ℕ × ℕ × List Asked → Type 0 = λ x. IsPrefix (items_from asker_of x.0 (get_or last x.1 e.f).passes.kills.taken) x.2 in
       let front : IsPrefix (items_from asker_of starter (get_or last j e.f).passes.kills.taken) [] = subst At (λ k. (ap (λ (p : PutterView Asked ℕ). p.number) unused k, place k, ap (λ (p : PutterView Asked ℕ). p.put) unused k)) told in
       ap (λ (x : ServedView). items_from asker_of starter x.passes.kills.taken) e.s_is ∙ ap (λ (x : Finished K L). items_from asker_of starter x.passes.kills.taken) (sym (get_or_from_slice_get last j e.f e.f e.at_f)) ∙ front_none _ front)

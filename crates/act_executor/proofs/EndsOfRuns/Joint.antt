@@ -6,10 +6,8 @@ use Rattle.act_executor.proofs.Common.{IsCallToDead, ActorSpec, contains, openin
 use Rattle.act_executor.proofs.Common.{is_death-only, MailView, caller_of, ControlView, RepliesView, ReplyExecView, notice_actor, Letter, Call, Endpoint}
 use Rattle.act_executor.proofs.Common.{packet_of_item, EndView, end_id, end_log, replies_to, deaths, caller_at, IsLogOf, Driven, IsSent, HasPosted, cast_at}
 use Rattle.act_executor.proofs.Common.{plan_of, owner_of, end_of, is_starved, calls_of_owner, kept_of_owner, log_of_end, is_killed_end, calls_in, kept_in}
-use Rattle.act_executor.proofs.Common.{log_in, killed_in, ServedView, IsServed, IsDriven, AreAudited, AreJoined}
-use Rattle.act_owner.specs.Owner.{OwnerView, packet_for as packet_of_call, is_known_call, is_to, is_death}
-use Rattle.act_mailbox.specs.Lines.{items_from as items_put}
-use Rattle.act_rules.proofs.Elements.{IsIn, in_from_contains, all_in, in_filter, in_front, found_is, contains_is, is_contained}
+use Rattle.act_executor.proofs.Common.{log_in, killed_in, ServedView, IsServed, IsDriven, AreAudited, AreJoined, OwnerView, packet_of_call, is_known_call}
+use Rattle.act_executor.proofs.Common.{is_to, is_death, items_put, IsIn, in_from_contains, all_in, in_filter, in_front, found_is, contains_is, is_contained}
 use Rattle.act_executor.proofs.EndsOfRuns.Found.{naming, IsCast, same_cast, planned_known, driven_named, served_cast, cast_served}
 use Rattle.act_executor.proofs.EndsOfRuns.Given.{reply_given, death_given}
 use Rattle.act_executor.proofs.EndsOfRuns.Consistency.{IsSentItem, IsRunAnswer, IsFit}
@@ -23,6 +21,11 @@ driven_of c driven = find (λ d. d.owner.id == c) driven
 -- what the actor of this number left, if its thread is among these
 abbrev pub served_of : ℕ → List ServedView → Option ServedView
 served_of a served = find (λ s. end_id s.end == a) served
+
+-- what holds where nothing is found, and of what is found
+of_found : {X Y : Type 0} (f : X → Y) (P : Option Y → Type 0) (found : Option X) → (found ≡ None → P None) → ((x : X) → found ≡ Some x → P (Some (f x))) → P (option_map f found)
+of_found f P None none some = none refl
+of_found f P (Some x) none some = some x refl
 
 -- ---- what a sent packet says
 
@@ -86,19 +89,11 @@ module _ {mails : List MailView} {controls : List ControlView} {replies : List R
 
   -- what holds of the owner found under a number, and of none where none is found
   pub of_owner : (P : Option OwnerView → Type 0) (c : ℕ) → (driven_of c driven ≡ None → P None) → ((d : Driven) → driven_of c driven ≡ Some d → P (Some d.owner)) → P (owner_of c owners)
-  of_owner P c none some = go (driven_of c driven) refl
-    where
-      go : (o : Option Driven) → driven_of c driven ≡ o → P (owner_of c owners)
-      go None e = subst P (sym (owner_is c None e)) (none e)
-      go (Some d) e = subst P (sym (owner_is c (Some d) e)) (some d e)
+  of_owner P c none some = subst P (sym (owner_is c (driven_of c driven) refl)) (of_found (λ (d : Driven). d.owner) P (driven_of c driven) none some)
 
   -- and of the end
   pub of_end : (P : Option EndView → Type 0) (a : ℕ) → (served_of a served ≡ None → P None) → ((s : ServedView) → served_of a served ≡ Some s → P (Some s.end)) → P (end_of a ends)
-  of_end P a none some = go (served_of a served) refl
-    where
-      go : (o : Option ServedView) → served_of a served ≡ o → P (end_of a ends)
-      go None e = subst P (sym (end_is a None e)) (none e)
-      go (Some s) e = subst P (sym (end_is a (Some s) e)) (some s e)
+  of_end P a none some = subst P (sym (end_is a (served_of a served) refl)) (of_found (λ (s : ServedView). s.end) P (served_of a served) none some)
 
   -- an actor's thread, with its cast
   pub record Thread (a : ℕ) (s : ServedView) : Type 0 where

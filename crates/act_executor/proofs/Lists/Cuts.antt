@@ -1,8 +1,7 @@
 -- Lists that are cut: what stands in a front of them.
 use Rattle.act_executor.proofs.Common.{◌≡◌, ℕ, suc, ◌≤◌, ◌<◌, List, [], ◌∷◌, ◌++◌, Some, All, refl, ap, sym, ◌∙◌, arith, Contains, slice_get, AllPairs}
 use Rattle.act_executor.proofs.Common.{All-append, All-head, All-tail, recursion_from_All, Contains-append_right, AllPairs-cons, IsPrefix, slice_get_front}
-use Rattle.act_executor.proofs.Common.{IsFrontBelow, place_in_front}
-use Rattle.act_rules.proofs.Elements.{IsIn, in_from_contains, contains_from_in, all_in, front_by_places}
+use Rattle.act_executor.proofs.Common.{IsFrontBelow, place_in_front, IsIn, in_from_contains, contains_from_in, all_in, front_by_places}
 
 -- ---- what is contained
 

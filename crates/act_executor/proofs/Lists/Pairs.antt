@@ -1,6 +1,7 @@
 -- Lists that are put together place by place.
 use Rattle.act_executor.proofs.Common.{◌≡◌, ℕ, suc, ◌+◌, List, [], ◌∷◌, ◌++◌, length, length-append, map, ◌⊎◌, inl, inr, ap, sym, ◌∙◌, arith, append_assoc}
-use Rattle.act_executor.proofs.Common.{append-nil, range_with_len, map-append, nil_from_length, Endpoint, range_push}
+use Rattle.act_executor.proofs.Common.{append-nil, range_with_len, map-append, nil_from_length, Endpoint, range_push, slice_get, Some, option_map}
+use Rattle.act_executor.proofs.Common.{slice_get-map, range_at}
 
 -- the first of what is left is done
 pub one_done : {Y Z : Type 0} (f : Y → Z) (done after : List Y) (y : Y) (left rest whole : List Z) (z : Z) → map f done ++ left ≡ whole → after ≡ done ++ y ∷ [] → left ≡ z ∷ rest → f y ≡ z → map f after ++ rest ≡ whole
@@ -34,3 +35,9 @@ placed {P} done after endpoint were pushed at =
     ∙ ap (λ (n : ℕ). range_with_len 0 (length done) ++ n ∷ []) here
     ∙ sym (range_push 0 (length done))
     ∙ ap (range_with_len 0) (long ∙ sym (ap length pushed))
+
+-- an endpoint stands at its place
+pub place_is : {P : Type 0} (endpoints : List (Endpoint P)) → map (λ (s : Endpoint P). s.place) endpoints ≡ range_with_len 0 (length endpoints) → (i : ℕ) (endpoint : Endpoint P) → slice_get endpoints i ≡ Some endpoint → endpoint.place ≡ i
+place_is {P} endpoints places i endpoint at =
+    let plus : 0 + i ≡ i = omega arith in
+    range_at 0 (length endpoints) i endpoint.place (ap (λ (l : List ℕ). slice_get l i) (sym places) ∙ slice_get-map (λ (s : Endpoint P). s.place) endpoints i ∙ ap (option_map (λ (s : Endpoint P). s.place)) at) ∙ plus

@@ -1,8 +1,7 @@
 -- Items beside their stamps, and what is found in steps.
-use Rattle.act_executor.proofs.Common.{◌≡◌, ℕ, zero, suc, ◌<◌, List, [], ◌∷◌, map, zip, Some, None, refl, ap, sym, ◌∙◌, subst, Bool, ◌==◌, filter}
-use Rattle.act_executor.proofs.Common.{filter_map, Option, option_map, slice_get, AllZip, cons_option, eq-eqb, slice_get-map, IsPrefix, found_in}
-use Rattle.act_executor.proofs.Common.{AreTakenLater}
-use Rattle.act_rules.proofs.Elements.{IsIn, in_filter, in_front}
+use Rattle.act_executor.proofs.Common.{◌≡◌, ℕ, zero, suc, ◌<◌, List, [], ◌∷◌, map, zip, Some, None, refl, ap, sym, ◌∙◌, subst, Bool, ◌==◌, filter, filter_map}
+use Rattle.act_executor.proofs.Common.{Option, option_map, slice_get, AllZip, cons_option, eq-eqb, slice_get-map, IsPrefix, found_in, AreTakenLater, IsIn}
+use Rattle.act_executor.proofs.Common.{in_filter, in_front}
 
 -- what holds side by side holds of each pair
 zipped_at : {A B : Type 0} (R : A → B → Type 0) (xs : List A) (ys : List B) (k : ℕ) (x : A) (y : B) → AllZip R xs ys → slice_get (zip xs ys) k ≡ Some (x, y) → R x y

@@ -1,12 +1,11 @@
 -- What each actor of a run left, at its place.
-use Rattle.act_executor.proofs.Common.{◌≡◌, ℕ, ◌<◌, List, [], ◌∷◌, ◌++◌, length, map, zip, get_or, slice_get, Some, sym, ap, ◌∙◌, subst, All, Contains}
-use Rattle.act_executor.proofs.Common.{get_or_from_slice_get, map-map, KindState, NothingFollowsAnEnd, IsPrefix, ActorSpec, contains, map-slice_get, Cast}
-use Rattle.act_executor.proofs.Common.{actor_spec, Notice, Letter, items_from, TakerView, ControlExecView, starter, RepliesView, ReplyExecView, notice_actor}
-use Rattle.act_executor.proofs.Common.{Endpoint, ExecPasses, Finished, end_view, end_id, end_log, IsLogOf, replies_to, deaths, caller_at, endpoint_callers}
-use Rattle.act_executor.proofs.Common.{KillsTaken, HasDrained, IfRetired, HasServed, without_given, IsAtItsEndpoint, Driven, Lines, IsExec, ServedView}
-use Rattle.act_executor.proofs.Common.{IsServed, NoticesAudited, SitsAtReplies, NoticeTold, ActorLeft, left_of}
-use Rattle.act_rules.proofs.Places.{at_other, all_at}
-use Rattle.act_rules.proofs.Elements.{IsIn, in_from_contains, contains_from_in, all_in, all_by_places}
+use Rattle.act_executor.proofs.Common.{◌≡◌, ℕ, ◌<◌, List, [], ◌∷◌, ◌++◌, length, map, get_or, slice_get, Some, sym, ap, ◌∙◌, subst, All, Contains}
+use Rattle.act_executor.proofs.Common.{get_or_from_slice_get, map-map, KindState, NothingFollowsAnEnd, ActorSpec, contains, map-slice_get, Cast, actor_spec}
+use Rattle.act_executor.proofs.Common.{Letter, TakerView, ControlExecView, starter, RepliesView, ReplyExecView, notice_actor, Endpoint, ExecPasses, Finished}
+use Rattle.act_executor.proofs.Common.{end_view, end_id, end_log, IsLogOf, replies_to, deaths, caller_at, endpoint_callers, KillsTaken, HasDrained, IfRetired}
+use Rattle.act_executor.proofs.Common.{HasServed, without_given, IsAtItsEndpoint, Driven, Lines, IsExec, ServedView, IsServed, IsTold, NoticesAudited}
+use Rattle.act_executor.proofs.Common.{SitsAtReplies, NoticeTold, ActorLeft, left_of, at_other, all_at, IsIn, in_from_contains, contains_from_in, all_in}
+use Rattle.act_executor.proofs.Common.{all_by_places}
 
 -- an actor's end with its passes
 abbrev pub served_view : {K L : Type 0} → (K → KindState) → Finished K L → ServedView
@@ -85,17 +84,15 @@ module _ {K L : Type 0} (state : K → KindState) (lines : Lines) (cast : Cast K
       let there : IsIn last.passes.notices.items endpoint.0 = subst (λ (l : List (Endpoint ReplyExecView)). IsIn l endpoint.0) (sym (ap (λ (l : ActorLeft K L). l.notices) same)) endpoint.1 in
       let pass = endpoint.0.pass in
       let heard = all_in (NoticeTold callers) actor.passes.notices.items endpoint.0 told endpoint.1 in
-      let At : ℕ × ℕ → Type 0 = λ p. IsPrefix (items_from notice_actor p.0 (get_or callers p.1 d).passes.collects.taken) pass.given in
-      let front_at : At (cast.actor, i) = subst At (λ k. (endpoint.3 k, endpoint.2 k)) (heard.front d) in
-      let Stamped : ℕ × ℕ → Type 0 = λ p. IsPrefix (items_from (λ (x : Notice × ℕ). notice_actor x.0) p.0 (zip (get_or callers p.1 d).passes.collects.taken (get_or callers p.1 d).passes.collects.stamps)) (zip pass.given pass.stamps) in
-      let stamped_at : Stamped (cast.actor, i) = subst Stamped (λ k. (endpoint.3 k, endpoint.2 k)) (heard.stamped d) in
-      let here : get_or callers i d ≡ d = get_or_from_slice_get callers i d d at in
+      let here : get_or callers endpoint.0.place d ≡ d = ap (λ (p : ℕ). get_or callers p d) endpoint.2 ∙ get_or_from_slice_get callers i d d at in
+      let At : ℕ × Driven → Type 0 = λ p. IsTold notice_actor p.0 pass.given pass.stamps p.1.passes.collects.taken p.1.passes.collects.stamps in
+      let told_last : At (cast.actor, d) = subst At (λ k. (endpoint.3 k, here k)) (heard d) in
       record {
         endpoint = endpoint.0;
         sits = contains_from_in last.passes.notices.items endpoint.0 there;
         line = ap (caller_at lines.replies.items) endpoint.2 ∙ named;
-        front = subst (λ (x : Driven). IsPrefix (items_from notice_actor cast.actor x.passes.collects.taken) pass.given) here front_at;
-        stamped = subst (λ (x : Driven). IsPrefix (items_from (λ (y : Notice × ℕ). notice_actor y.0) cast.actor (zip x.passes.collects.taken x.passes.collects.stamps)) (zip pass.given pass.stamps)) here stamped_at;
+        front = told_last.front;
+        stamped = told_last.stamped;
       }
 
   pub same_id : (last : Finished K L) → left_of last ≡ left_of actor → end_id (end_view state last.ended) ≡ cast.actor

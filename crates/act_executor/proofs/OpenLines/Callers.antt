@@ -1,12 +1,10 @@
 -- What each caller of a run left, at its place.
-use Rattle.act_executor.proofs.Common.{◌≡◌, ℕ, ◌<◌, false, List, length, map, zip, get_or, slice_get, Some, sym, ap, ◌∙◌, subst, All, Contains}
-use Rattle.act_executor.proofs.Common.{get_or_from_slice_get, IsPrefix, planned, map-slice_get, actors_in, opened_under, Letter, Asked, items_from}
-use Rattle.act_executor.proofs.Common.{PutterView, TakerView, MailView, caller_of, ControlView, asker_of, RepliesView, Endpoint, Finished, CallerPasses}
-use Rattle.act_executor.proofs.Common.{Driven, HasPosted, HasAsked, IsFreshEndpoint, IsKillEndpoint, bare_post, bare_ask, CallerSetup, Lines, IsCaller}
-use Rattle.act_executor.proofs.Common.{IsDriven, LettersAudited, KillsAudited, SitsAtMail, SitsAtControl, HasEndpoints, LetterTold, KillTold, Doing}
-use Rattle.act_executor.proofs.Common.{IsDrivenAt, KindState}
-use Rattle.act_rules.proofs.Places.{at_other, all_at}
-use Rattle.act_rules.proofs.Elements.{IsIn, in_from_contains, contains_from_in, all_in, all_by_places}
+use Rattle.act_executor.proofs.Common.{◌≡◌, ℕ, ◌<◌, false, List, length, map, get_or, slice_get, Some, sym, ap, ◌∙◌, subst, All, Contains}
+use Rattle.act_executor.proofs.Common.{get_or_from_slice_get, planned, map-slice_get, actors_in, opened_under, Letter, Asked, PutterView, TakerView, MailView}
+use Rattle.act_executor.proofs.Common.{caller_of, ControlView, asker_of, RepliesView, Endpoint, Finished, CallerPasses, Driven, HasPosted, HasAsked}
+use Rattle.act_executor.proofs.Common.{IsFreshEndpoint, IsKillEndpoint, bare_post, bare_ask, CallerSetup, Lines, IsCaller, IsDriven, LettersAudited}
+use Rattle.act_executor.proofs.Common.{KillsAudited, SitsAtMail, SitsAtControl, HasEndpoints, LetterTold, KillTold, Doing, IsDrivenAt, IsTold, KindState}
+use Rattle.act_executor.proofs.Common.{at_other, all_at, IsIn, in_from_contains, contains_from_in, all_in, all_by_places}
 use Rattle.act_executor.proofs.OpenLines.Owners.{own_actors}
 use Rattle.act_executor.proofs.OpenLines.Actors.{served_view}
 
@@ -79,17 +77,15 @@ module _ (lines : Lines) (does : Doing) (setup : CallerSetup) (caller : Endpoint
         let there : IsIn d.passes.letters.items endpoint = record { place = in_map.place; at = new.1 } in
         let pass = endpoint.pass in
         let heard = all_in (LetterTold actors) d.passes.letters.items endpoint told there in
-        let At : ℕ × ℕ → Type 0 = λ p. IsPrefix (items_from caller_of p.0 (get_or actors p.1 last).passes.letters.taken) pass.put in
-        let front_at : At (setup.caller, j) = subst At (λ k. (number k, place k)) (heard.front last) in
-        let Stamped : ℕ × ℕ → Type 0 = λ p. IsPrefix (items_from (λ (x : Letter × ℕ). caller_of x.0) p.0 (zip (get_or actors p.1 last).passes.letters.taken (get_or actors p.1 last).passes.letters.stamps)) (zip pass.put pass.stamps) in
-        let stamped_at : Stamped (setup.caller, j) = subst Stamped (λ k. (number k, place k)) (heard.stamped last) in
-        let here : get_or actors j last ≡ last = get_or_from_slice_get actors j last last at_last in
+        let here : get_or actors endpoint.place last ≡ last = ap (λ (p : ℕ). get_or actors p last) place ∙ get_or_from_slice_get actors j last last at_last in
+        let At : ℕ × Finished K L → Type 0 = λ p. IsTold caller_of p.0 pass.put pass.stamps p.1.passes.letters.taken p.1.passes.letters.stamps in
+        let told_last : At (setup.caller, last) = subst At (λ k. (number k, here k)) (heard last) in
         record {
           endpoint = endpoint;
           sits = contains_from_in d.passes.letters.items endpoint there;
           line = λ m. ap (λ (p : ℕ). (get_or lines.mails.items p m).actor) place ∙ of_actor m;
-          front = subst (λ (x : Finished K L). IsPrefix (items_from caller_of setup.caller x.passes.letters.taken) pass.put) here front_at;
-          stamped = subst (λ (x : Finished K L). IsPrefix (items_from (λ (y : Letter × ℕ). caller_of y.0) setup.caller (zip x.passes.letters.taken x.passes.letters.stamps)) (zip pass.put pass.stamps)) here stamped_at;
+          front = told_last.front;
+          stamped = told_last.stamped;
         }
 
     -- and its kills
@@ -106,15 +102,13 @@ module _ (lines : Lines) (does : Doing) (setup : CallerSetup) (caller : Endpoint
         let there : IsIn d.passes.kills.items endpoint = record { place = in_map.place; at = new.1 } in
         let pass = endpoint.pass in
         let heard = all_in (KillTold actors) d.passes.kills.items endpoint told there in
-        let At : ℕ × ℕ → Type 0 = λ p. IsPrefix (items_from asker_of p.0 (get_or actors p.1 last).passes.kills.taken) pass.put in
-        let front_at : At (setup.caller, j) = subst At (λ k. (number k, place k)) (heard.front last) in
-        let Stamped : ℕ × ℕ → Type 0 = λ p. IsPrefix (items_from (λ (x : Asked × ℕ). asker_of x.0) p.0 (zip (get_or actors p.1 last).passes.kills.taken (get_or actors p.1 last).passes.kills.stamps)) (zip pass.put pass.stamps) in
-        let stamped_at : Stamped (setup.caller, j) = subst Stamped (λ k. (number k, place k)) (heard.stamped last) in
-        let here : get_or actors j last ≡ last = get_or_from_slice_get actors j last last at_last in
+        let here : get_or actors endpoint.place last ≡ last = ap (λ (p : ℕ). get_or actors p last) place ∙ get_or_from_slice_get actors j last last at_last in
+        let At : ℕ × Finished K L → Type 0 = λ p. IsTold asker_of p.0 pass.put pass.stamps p.1.passes.kills.taken p.1.passes.kills.stamps in
+        let told_last : At (setup.caller, last) = subst At (λ k. (number k, here k)) (heard last) in
         record {
           endpoint = endpoint;
           sits = contains_from_in d.passes.kills.items endpoint there;
           line = λ k. ap (λ (p : ℕ). (get_or lines.controls.items p k).actor) place ∙ of_actor k;
-          front = subst (λ (x : Finished K L). IsPrefix (items_from asker_of setup.caller x.passes.kills.taken) pass.put) here front_at;
-          stamped = subst (λ (x : Finished K L). IsPrefix (items_from (λ (y : Asked × ℕ). asker_of y.0) setup.caller (zip x.passes.kills.taken x.passes.kills.stamps)) (zip pass.put pass.stamps)) here stamped_at;
+          front = told_last.front;
+          stamped = told_last.stamped;
         }

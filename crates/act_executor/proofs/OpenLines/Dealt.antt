@@ -1,14 +1,15 @@
 -- What follows of lines whose passes were dealt by the casts and the parts.
-use Rattle.act_executor.proofs.Common.{◌≡◌, ◌≢◌, ℕ, ◌+◌, ◌<◌, true, List, [], ◌∷◌, Some, All, Contains, length, map, get_or, refl, ap, sym, ◌∙◌, subst}
-use Rattle.act_executor.proofs.Common.{arith, ◌==◌, ◌&&◌, slice_get, AllPairs, list_any, range_with_len, get_or-range_with_len, length-map, get_or-map}
-use Rattle.act_executor.proofs.Common.{All-nil, All-contains, slice_get_within, get_or_from_slice_get, slice_get-get_or, TableId, contains, map-slice_get}
-use Rattle.act_executor.proofs.Common.{CallersDiffer, Cast, PutterView, new_putter, MailView, ControlView, starter, RepliesView, ReplyExecView, new_exec}
-use Rattle.act_executor.proofs.Common.{IsNoDeath, Letter, Asked, Endpoint, ExecPasses, caller_at, endpoint_callers, IsAtItsEndpoint, EndpointsDiffer}
-use Rattle.act_executor.proofs.Common.{CallerPasses, IsFreshEndpoint, AreDistinct, IsKillEndpoint, AreKillEndpoints, CallerSetup, AreMatched, Opened}
-use Rattle.act_executor.proofs.Common.{group_of, endpoints_from, IsExec, IsCaller, ArePaired, AreLines, AreAtLines, AreOpened, both_ways, contains_map}
+use Rattle.act_executor.proofs.Common.{◌≡◌, ◌≢◌, ℕ, ◌<◌, true, List, [], ◌∷◌, Some, All, Contains, length, map, get_or, refl, ap, sym, ◌∙◌, subst, arith, ◌==◌}
+use Rattle.act_executor.proofs.Common.{◌&&◌, slice_get, AllPairs, list_any, length-map, get_or-map, All-nil, All-contains, slice_get_within}
+use Rattle.act_executor.proofs.Common.{get_or_from_slice_get, slice_get-get_or, TableId, contains, map-slice_get, CallersDiffer, Cast, PutterView, new_putter}
+use Rattle.act_executor.proofs.Common.{MailView, ControlView, starter, RepliesView, ReplyExecView, new_exec, IsNoDeath, Letter, Asked, Endpoint, ExecPasses}
+use Rattle.act_executor.proofs.Common.{caller_at, endpoint_callers, IsAtItsEndpoint, EndpointsDiffer, CallerPasses, IsFreshEndpoint, AreDistinct}
+use Rattle.act_executor.proofs.Common.{IsKillEndpoint, AreKillEndpoints, CallerSetup, AreMatched, Opened, group_of, endpoints_from, IsExec, IsCaller, ArePaired}
+use Rattle.act_executor.proofs.Common.{AreLines, AreAtLines, AreOpened, both_ways, contains_map, at_both, at_other, as_long, all_at, map_apart, pairs_weaker}
+use Rattle.act_executor.proofs.Common.{apart_at, has_contains, contains_name, all_names}
 use Rattle.act_executor.proofs.OpenLines.Endpoints.{each_of, has_of, rising_of}
-use Rattle.act_rules.proofs.Places.{at_both, at_other, as_long, all_at, map_apart, pairs_weaker, apart_at, has_contains, contains_name, all_names}
 use Rattle.act_executor.proofs.Lists.Places.{each_at, only_cast}
+use Rattle.act_executor.proofs.Lists.Pairs.{place_is}
 
 abbrev line_of_mail : MailView → TableId
 line_of_mail mail = mail.line
@@ -44,6 +45,15 @@ pub record AreDealt {K : Type 0} (casts : List (Cast K)) (setups : List CallerSe
   pub notices : map (λ exec. exec.pass.notices.items) opened.execs.items ≡ map (λ cast. notices_of setups opened.lines.replies.items cast.actor) casts
   pub letters : map (λ caller. caller.pass.letters.items) opened.callers.items ≡ map (λ setup. letters_of casts opened.lines.mails.items setup.caller) setups
   pub kills : map (λ caller. caller.pass.kills.items) opened.callers.items ≡ map (λ setup. kills_of casts opened.lines.controls.items setup.caller) setups
+
+-- endpoints at rising places are of lines whose owners differ
+lines_apart : {V P : Type 0} (owner : V → ℕ) (lines : List V) (endpoints : List (Endpoint P)) → CallersDiffer (map owner lines) → All (λ endpoint. endpoint.place < length lines) endpoints → AllPairs (λ one other. one.place < other.place) endpoints →
+    AllPairs (λ one other. (d : V) → owner (get_or lines one.place d) ≢ owner (get_or lines other.place d)) endpoints
+lines_apart {V} owner lines endpoints differ below rising = pairs_weaker (λ endpoint. endpoint.place < length lines) (λ one other. one.place < other.place) (λ one other. (d : V) → owner (get_or lines one.place d) ≢ owner (get_or lines other.place d))
+    (λ one other first within less d same.
+    let long = length-map lines owner in
+    apart_at (map owner lines) one.place other.place differ less (omega (arith, long, within)) 0 0 (get_or-map owner lines one.place d 0 first ∙ same ∙ sym (get_or-map owner lines other.place d 0 within)))
+    endpoints below rising
 
 -- ---- an executor's notices
 
@@ -110,6 +120,10 @@ module _ {K : Type 0} (casts : List (Cast K)) (setups : List CallerSetup) (match
   abbrev callers_in : Cast K → List ℕ
   callers_in cast = cast.callers
 
+  -- lines of the casts are of actors that differ
+  own_apart : (owners : List ℕ) → owners ≡ map (λ (cast : Cast K). cast.actor) casts → CallersDiffer owners
+  own_apart owners are = subst CallersDiffer (sym are) (map_apart (λ (cast : Cast K). cast.actor) casts matched.actors_differ)
+
   module _ (mails : List MailView) (actors : map (λ (mail : MailView). mail.actor) mails ≡ map (λ (cast : Cast K). cast.actor) casts) where
     fresh_letters : (c : ℕ) → All (IsFreshEndpoint mails c) (letters_of casts mails c)
     fresh_letters c = each_of new_putter (λ (pass : PutterView Letter Unit). pass.number) (λ line d. refl) line_of_mail callers_in mails casts matched.callers_differ c (IsFreshEndpoint mails c) (λ i mail cast at there named. record {
@@ -120,18 +134,9 @@ module _ {K : Type 0} (casts : List (Cast K)) (setups : List CallerSetup) (match
       stamps = refl;
     })
 
-    mails_apart : CallersDiffer (map (λ (mail : MailView). mail.actor) mails)
-    mails_apart = subst CallersDiffer (sym actors) (map_apart (λ (cast : Cast K). cast.actor) casts matched.actors_differ)
-
     letters_apart : (c : ℕ) → AreDistinct mails (letters_of casts mails c)
-    letters_apart c = pairs_weaker (IsFreshEndpoint mails c) (λ one other. one.place < other.place) (λ one other. (d : MailView) → (get_or mails one.place d).actor ≢ (get_or mails other.place d).actor)
-        (λ one other is is' below d same.
-        let within = is'.below in
-        let first = is.below in
-        let long = length-map mails (λ (mail : MailView). mail.actor) in
-        apart_at (map (λ (mail : MailView). mail.actor) mails) one.place other.place mails_apart below (omega arith) 0 0
-        (get_or-map (λ (mail : MailView). mail.actor) mails one.place d 0 first ∙ same ∙ sym (get_or-map (λ (mail : MailView). mail.actor) mails other.place d 0 within)))
-        (letters_of casts mails c) (fresh_letters c) (rising_of new_putter (λ (pass : PutterView Letter Unit). pass.number) (λ line d. refl) line_of_mail callers_in mails casts matched.callers_differ c)
+    letters_apart c = lines_apart (λ (mail : MailView). mail.actor) mails (letters_of casts mails c) (own_apart _ actors) (λ k d lt. (fresh_letters c k d lt).below)
+        (rising_of new_putter (λ (pass : PutterView Letter Unit). pass.number) (λ line d. refl) line_of_mail callers_in mails casts matched.callers_differ c)
 
     has_letter : (j c : ℕ) (cast : Cast K) → slice_get casts j ≡ Some cast → contains c cast.callers ≡ true → Contains (map (λ (endpoint : Endpoint (PutterView Letter Unit)). endpoint.place) (letters_of casts mails c)) j
     has_letter j c cast at named =
@@ -149,27 +154,9 @@ module _ {K : Type 0} (casts : List (Cast K)) (setups : List CallerSetup) (match
       line = λ d. ap line_of_control (get_or_from_slice_get controls i control d at);
     })
 
-    unasked : (c : ℕ) → All (λ (endpoint : Endpoint (PutterView Asked ℕ)). endpoint.pass.put ≡ []) (kills_of casts controls c)
-    unasked c = each_kill c (λ (endpoint : Endpoint (PutterView Asked ℕ)). endpoint.pass.put ≡ []) (λ i control cast at there named. refl)
-
-    unstamped : (c : ℕ) → All (λ (endpoint : Endpoint (PutterView Asked ℕ)). endpoint.pass.stamps ≡ []) (kills_of casts controls c)
-    unstamped c = each_kill c (λ (endpoint : Endpoint (PutterView Asked ℕ)). endpoint.pass.stamps ≡ []) (λ i control cast at there named. refl)
-
-    actors_apart : CallersDiffer (map (λ (control : ControlView). control.actor) controls)
-    actors_apart = subst CallersDiffer (sym actors) (map_apart (λ (cast : Cast K). cast.actor) casts matched.actors_differ)
-
-    abbrev actor_at : ℕ → ControlView → ℕ
-    actor_at place d = (get_or controls place d).actor
-
-    kills_apart : (c : ℕ) → AllPairs (λ (one other : Endpoint (PutterView Asked ℕ)). (d : ControlView) → actor_at one.place d ≢ actor_at other.place d) (kills_of casts controls c)
-    kills_apart c = pairs_weaker (IsKillEndpoint controls) (λ one other. one.place < other.place) (λ one other. (d : ControlView) → actor_at one.place d ≢ actor_at other.place d)
-        (λ one other is is' below d same.
-        let within = is'.below in
-        let first = is.below in
-        let long = length-map controls (λ (control : ControlView). control.actor) in
-        apart_at (map (λ (control : ControlView). control.actor) controls) one.place other.place actors_apart below (omega arith) 0 0
-        (get_or-map (λ (control : ControlView). control.actor) controls one.place d 0 first ∙ same ∙ sym (get_or-map (λ (control : ControlView). control.actor) controls other.place d 0 within)))
-        (kills_of casts controls c) (kill_endpoints c) (rising_of new_putter (λ (pass : PutterView Asked ℕ). pass.number) (λ line d. refl) line_of_control callers_in controls casts matched.callers_differ c)
+    kills_apart : (c : ℕ) → AllPairs (λ (one other : Endpoint (PutterView Asked ℕ)). (d : ControlView) → (get_or controls one.place d).actor ≢ (get_or controls other.place d).actor) (kills_of casts controls c)
+    kills_apart c = lines_apart (λ (control : ControlView). control.actor) controls (kills_of casts controls c) (own_apart _ actors) (λ k d lt. (kill_endpoints c k d lt).below)
+        (rising_of new_putter (λ (pass : PutterView Asked ℕ). pass.number) (λ line d. refl) line_of_control callers_in controls casts matched.callers_differ c)
 
     has_kill : (j c : ℕ) (cast : Cast K) → slice_get casts j ≡ Some cast → contains c cast.callers ≡ true → Contains {X = ℕ × ℕ} (map (λ (endpoint : Endpoint (PutterView Asked ℕ)). (endpoint.place, endpoint.pass.number)) (kills_of casts controls c)) (j, c)
     has_kill j c cast at named =
@@ -194,14 +181,6 @@ module _ {K : Type 0} (casts : List (Cast K)) (setups : List CallerSetup) (match
 
   abbrev callers : List (Endpoint CallerPasses)
   callers = opened.callers.items
-
-  -- the value at a place, found by the place of an endpoint
-  place_is : {P : Type 0} (endpoints : List (Endpoint P)) → map (λ (endpoint : Endpoint P). endpoint.place) endpoints ≡ range_with_len 0 (length endpoints) → (i : ℕ) (endpoint : Endpoint P) → slice_get endpoints i ≡ Some endpoint → endpoint.place ≡ i
-  place_is {P} endpoints places i endpoint at =
-      let below : i < length endpoints = slice_get_within endpoints i endpoint at in
-      let sum : get_or (range_with_len 0 (length endpoints)) i 0 ≡ 0 + i = get_or-range_with_len 0 (length endpoints) i 0 below in
-      let e : 0 + i ≡ i = omega arith in
-      sym (get_or-map (λ (endpoint : Endpoint P). endpoint.place) endpoints i endpoint 0 below ∙ ap (λ (endpoint : Endpoint P). endpoint.place) (get_or_from_slice_get endpoints i endpoint endpoint at)) ∙ ap (λ (l : List ℕ). get_or l i 0) places ∙ sum ∙ e
 
   is_exec : (j : ℕ) (cast : Cast K) (exec : Endpoint ExecPasses) → slice_get casts j ≡ Some cast → slice_get execs j ≡ Some exec → IsExec opened.lines cast exec
   is_exec j cast exec at there =
@@ -236,10 +215,10 @@ module _ {K : Type 0} (casts : List (Cast K)) (setups : List CallerSetup) (match
 
   is_caller : (i : ℕ) (setup : CallerSetup) (caller : Endpoint CallerPasses) → slice_get setups i ≡ Some setup → slice_get callers i ≡ Some caller → IsCaller opened.lines setup caller
   is_caller i setup caller at there r =
+      let kills : caller.pass.kills.items ≡ kills_of casts controls setup.caller = at_both (λ (caller : Endpoint CallerPasses). caller.pass.kills.items) (λ (setup : CallerSetup). kills_of casts controls setup.caller) callers setups dealt.kills i caller setup there at in
       let place = place_is callers dealt.at_lines.caller_places i caller there in
       let line = at_other (λ (line : RepliesView). line.line) (λ (caller : Endpoint CallerPasses). caller.pass.collects.line) replies callers (sym dealt.at_lines.replies) i caller there in
       let letters : caller.pass.letters.items ≡ letters_of casts mails setup.caller = at_both (λ (caller : Endpoint CallerPasses). caller.pass.letters.items) (λ (setup : CallerSetup). letters_of casts mails setup.caller) callers setups dealt.letters i caller setup there at in
-      let kills : caller.pass.kills.items ≡ kills_of casts controls setup.caller = at_both (λ (caller : Endpoint CallerPasses). caller.pass.kills.items) (λ (setup : CallerSetup). kills_of casts controls setup.caller) callers setups dealt.kills i caller setup there at in
       let uncollected = all_at (λ (caller : Endpoint CallerPasses). (caller.pass.collects.taken ≡ []) × (caller.pass.collects.stamps ≡ [])) callers i caller dealt.uncollected there in
       record {
         collects = sym line.2 ∙ ap line_of_replies (sym (get_or_from_slice_get replies i line.0 r line.1) ∙ ap (λ (k : ℕ). get_or replies k r) (sym place));
@@ -248,8 +227,8 @@ module _ {K : Type 0} (casts : List (Cast K)) (setups : List CallerSetup) (match
         letters = subst (λ (l : List (Endpoint (PutterView Letter Unit))). All (IsFreshEndpoint mails setup.caller) l) (sym letters) (fresh_letters casts setups matched mails dealt.lines.mails setup.caller);
         distinct = subst (AreDistinct mails) (sym letters) (letters_apart casts setups matched mails dealt.lines.mails setup.caller);
         kills = subst (λ (l : List (Endpoint (PutterView Asked ℕ))). AreKillEndpoints controls l) (sym kills) (kill_endpoints casts setups matched controls dealt.lines.controls setup.caller, kills_apart casts setups matched controls dealt.lines.controls setup.caller);
-        asked = subst (λ (l : List (Endpoint (PutterView Asked ℕ))). All (λ (endpoint : Endpoint (PutterView Asked ℕ)). endpoint.pass.put ≡ []) l) (sym kills) (unasked casts setups matched controls dealt.lines.controls setup.caller);
-        asked_stamps = subst (λ (l : List (Endpoint (PutterView Asked ℕ))). All (λ (endpoint : Endpoint (PutterView Asked ℕ)). endpoint.pass.stamps ≡ []) l) (sym kills) (unstamped casts setups matched controls dealt.lines.controls setup.caller);
+        asked = subst (All (λ (endpoint : Endpoint (PutterView Asked ℕ)). endpoint.pass.put ≡ [])) (sym kills) (each_kill casts setups matched controls dealt.lines.controls setup.caller (λ (endpoint : Endpoint (PutterView Asked ℕ)). endpoint.pass.put ≡ []) (λ k control cast is line named. refl));
+        asked_stamps = subst (All (λ (endpoint : Endpoint (PutterView Asked ℕ)). endpoint.pass.stamps ≡ [])) (sym kills) (each_kill casts setups matched controls dealt.lines.controls setup.caller (λ (endpoint : Endpoint (PutterView Asked ℕ)). endpoint.pass.stamps ≡ []) (λ k control cast is line named. refl));
       }
 
   are_paired : ArePaired casts setups execs callers

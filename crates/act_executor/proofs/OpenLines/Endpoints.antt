@@ -1,9 +1,8 @@
 -- The endpoints that a list of lines deals, and those of one name among them.
 use Rattle.act_executor.proofs.Common.{◌≡◌, ◌≢◌, ℕ, zero, suc, ◌+◌, ◌<◌, Bool, true, false, cond, List, [], ◌∷◌, ◌++◌, Some, All, Contains, length, map, take}
-use Rattle.act_executor.proofs.Common.{get_or, inl, inr, refl, ap, sym, ◌∙◌, subst, arith, append_assoc, append-nil, length-append, ◌==◌, slice_get, option_map}
-use Rattle.act_executor.proofs.Common.{AllPairs, eqb_tells, map-append, map_more, length-map, length-take-le, All-nil, All-cons, All-tail, All-map}
-use Rattle.act_executor.proofs.Common.{filter-append, slice_get-map, AllPairs-cons, TableId, contains, map-slice_get, CallersDiffer, Endpoint, endpoint_at}
-use Rattle.act_executor.proofs.Common.{group_of, endpoints_from}
+use Rattle.act_executor.proofs.Common.{get_or, inl, inr, refl, ap, sym, ◌∙◌, subst, arith, append_assoc, append-nil, ◌==◌, slice_get, option_map, AllPairs}
+use Rattle.act_executor.proofs.Common.{eqb_tells, map-append, map_more, All-nil, All-cons, All-tail, All-map, filter-append, slice_get-map, AllPairs-cons}
+use Rattle.act_executor.proofs.Common.{TableId, contains, map-slice_get, CallersDiffer, Endpoint, endpoint_at, group_of, endpoints_from}
 
 -- ---- one line more
 
@@ -19,15 +18,8 @@ next_taken g ys place y below at = map_more g ys place y below ∙ (λ i. map g 
 pub next_pushed : {Y Z : Type 0} (g : Y → Z) (ys longer : List Y) (y : Y) → longer ≡ ys ++ y ∷ [] → map g longer ≡ map g ys ++ g y ∷ []
 next_pushed g ys longer y pushed = ap (map g) pushed ∙ map-append g ys (y ∷ [])
 
-pub one_longer : {X : Type 0} (xs longer : List X) (x : X) (n : ℕ) → length xs ≡ n → longer ≡ xs ++ x ∷ [] → length longer ≡ n + 1
-one_longer xs longer x n long pushed = omega (arith, long, ap length pushed, length-append xs (x ∷ []))
-
 module _ {P : Type 0} (new : TableId → ℕ → P) where
-  endpoints_at : (place : ℕ) (line : TableId) (here : List ℕ) → map (endpoint_at place) (map (new line) here) ≡ map (λ c. endpoint_at place (new line c)) here
-  endpoints_at place line [] = refl
-  endpoints_at place line (c ∷ here) = ap (λ (l : List (Endpoint P)). endpoint_at place (new line c) ∷ l) (endpoints_at place line here)
-
-  endpoints_push : (n : ℕ) (lines : List TableId) (names : List (List ℕ)) (line : TableId) (here : List ℕ) → length names ≡ length lines
+  pub endpoints_push : (n : ℕ) (lines : List TableId) (names : List (List ℕ)) (line : TableId) (here : List ℕ) → length names ≡ length lines
       → endpoints_from new n (lines ++ line ∷ []) (names ++ here ∷ []) ≡ endpoints_from new n lines names ++ map (λ c. endpoint_at (n + length lines) (new line c)) here
   endpoints_push n [] [] line here long =
       let e : n ≡ n + 0 = omega arith in
@@ -39,27 +31,6 @@ module _ {P : Type 0} (new : TableId → ℕ → P) where
       let e : n + 1 + length lines ≡ n + suc (length lines) = omega arith in
       ap (λ (l : List (Endpoint P)). map (λ c. endpoint_at n (new first c)) other ++ l) (endpoints_push (n + 1) lines names line here short ∙ ap (λ (k : ℕ). endpoints_from new (n + 1) lines names ++ map (λ c. endpoint_at k (new line c)) here) e)
       ∙ sym (append_assoc (map (λ c. endpoint_at n (new first c)) other) (endpoints_from new (n + 1) lines names) (map (λ c. endpoint_at (n + suc (length lines)) (new line c)) here))
-
-  module _ {X Y : Type 0} (line_of : X → TableId) (names_of : Y → List ℕ) where
-    abbrev endpoints_of : List X → List Y → List (Endpoint P)
-    endpoints_of lines ys = endpoints_from new 0 (map line_of lines) (map names_of ys)
-
-    -- the turn of a loop that opens lines
-    pub endpoints_more : (lines after : List X) (line : X) (ys : List Y) (place : ℕ) (y : Y) (passes : List P)
-        → length lines ≡ place → place < length ys → y ≡ get_or ys place y → after ≡ lines ++ line ∷ [] → passes ≡ map (new (line_of line)) (names_of y)
-        → endpoints_of lines (take place ys) ++ map (endpoint_at place) passes ≡ endpoints_of after (take (place + 1) ys)
-    endpoints_more lines after line ys place y passes long below at pushed are =
-        let short : length (take place ys) ≡ place = length-take-le place ys (omega arith) in
-        let longer : length (map line_of lines) ≡ place = length-map lines line_of ∙ long in
-        let same : length (map names_of (take place ys)) ≡ length (map line_of lines) = length-map (take place ys) names_of ∙ short ∙ sym longer in
-        let e : 0 + length (map line_of lines) ≡ place = omega arith in
-        ap (λ (l : List P). endpoints_of lines (take place ys) ++ map (endpoint_at place) l) are
-        ∙ ap (λ (l : List (Endpoint P)). endpoints_of lines (take place ys) ++ l) (endpoints_at place (line_of line) (names_of y))
-        ∙ ap (λ (k : ℕ). endpoints_of lines (take place ys) ++ map (λ c. endpoint_at k (new (line_of line) c)) (names_of y)) (sym e)
-        ∙ sym (endpoints_push 0 (map line_of lines) (map names_of (take place ys)) (line_of line) (names_of y) same)
-        ∙ ap (λ (l : List TableId). endpoints_from new 0 l (map names_of (take place ys) ++ names_of y ∷ [])) (sym (map-append line_of lines (line ∷ [])) ∙ ap (map line_of) (sym pushed))
-        ∙ ap (λ (z : Y). endpoints_from new 0 (map line_of after) (map names_of (take place ys) ++ names_of z ∷ [])) at
-        ∙ ap (λ (l : List (List ℕ)). endpoints_from new 0 (map line_of after) l) (sym (map_more names_of ys place y below))
 
 -- ---- the endpoints of one name
 

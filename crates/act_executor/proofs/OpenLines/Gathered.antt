@@ -1,9 +1,8 @@
 -- Hands of endpoints by the names of a list.
 use Rattle.act_executor.proofs.Common.{◌≡◌, ℕ, ◌<◌, List, ◌++◌, length, map, get_or, ap, sym, ◌∙◌, arith, ◌==◌, get_or-map, length-map, same_lists}
-use Rattle.act_executor.proofs.Common.{filter-append, map-map, element, Endpoint, items_of_vec, group_of, AreHands, AreGrown}
+use Rattle.act_executor.proofs.Common.{filter-append, map-map, element, Endpoint, items_of_vec, group_of, AreHands, AreGrown, as_long}
 use Rattle.std.proofs.Common.{Vec}
 use Rattle.std.specs.declared.alloc.Global.{Global}
-use Rattle.act_rules.proofs.Places.{as_long}
 
 module _ {P : Type 0} (number : P → ℕ) (numbers : List ℕ) where
   -- each name has a hand

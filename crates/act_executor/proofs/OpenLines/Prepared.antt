@@ -1,10 +1,11 @@
 -- That what the threads of a run left fits its lines.
-use Rattle.act_executor.proofs.Common.{◌≡◌, ℕ, ◌+◌, ◌<◌, zero, suc, List, [], ◌∷◌, length, map, slice_get, Some, sym, ap, ◌∙◌, subst, refl, arith, All}
-use Rattle.act_executor.proofs.Common.{slice_get_within, range_with_len, KindState, Cast, Asked, PutterView, MailView, ControlView, RepliesView, Endpoint}
-use Rattle.act_executor.proofs.Common.{ExecPasses, Finished, CallerPasses, Driven, CallerSetup, Opened, IsExec, IsCaller, AreOpened, Doing, SitsAtReplies}
-use Rattle.act_executor.proofs.Common.{SitsAtControl, HasEndpoints, IsUnusedStarter, AreServed, AreDriven, AreStarters, element}
-use Rattle.act_rules.proofs.Places.{as_long, all_at}
-use Rattle.act_rules.proofs.Elements.{all_by_places, range_at}
+use Rattle.act_executor.proofs.Common.{◌≡◌, ℕ, suc, List, [], ◌∷◌, length, map, slice_get, Some, sym, ap, ◌∙◌, subst, refl, arith, All, slice_get_within}
+use Rattle.act_executor.proofs.Common.{KindState, Cast, Asked, PutterView, MailView, ControlView, RepliesView, Endpoint, ExecPasses, Finished, CallerPasses}
+use Rattle.act_executor.proofs.Common.{Driven, CallerSetup, Opened, IsExec, IsCaller, AreOpened, Doing, SitsAtReplies, None, AreMatched, HasLimits}
+use Rattle.act_executor.proofs.Common.{CallersDiffer, first_bad, Each, MayServe, MayDrive, SitsAtControl, HasEndpoints, IsUnusedStarter, AreServed, AreDriven}
+use Rattle.act_executor.proofs.Common.{AreStarters, element, as_long, all_at, all_by_places}
+use Rattle.act_executor.proofs.Lists.Pairs.{place_is}
+use Rattle.act_executor.proofs.Lists.Places.{each_at as each_from}
 use Rattle.act_executor.proofs.OpenLines.Tasks.{each_at}
 use Rattle.act_executor.proofs.OpenLines.Actors.{sits, same_letters_line, same_kills_line}
 use Rattle.act_executor.proofs.OpenLines.Callers.{has_endpoints, same_replies_line}
@@ -16,18 +17,6 @@ maps_agree f g [] (y ∷ ys) long same = absurd (omega (arith, long))
 maps_agree f g (x ∷ xs) [] long same = absurd (omega (arith, long))
 maps_agree f g (x ∷ xs) (y ∷ ys) long same = λ k. same 0 x y refl refl k ∷ maps_agree f g xs ys (omega (arith, long)) (λ i a b at there. same (suc i) a b at there) k
 
--- the place of each is where it stands
-pub placed : {P : Type 0} (endpoints : List (Endpoint P)) (k : ℕ) (endpoint : Endpoint P) → map (λ (s : Endpoint P). s.place) endpoints ≡ range_with_len 0 (length endpoints) → slice_get endpoints k ≡ Some endpoint → endpoint.place ≡ k
-placed endpoints k endpoint places at =
-    let here : slice_get (map (λ (s : Endpoint _). s.place) endpoints) k ≡ Some endpoint.place = in_map endpoints k at in
-    let plus : 0 + k ≡ k = omega arith in
-    range_at 0 (length endpoints) k endpoint.place (ap (λ (l : List ℕ). slice_get l k) (sym places) ∙ here) ∙ plus
-  where
-    in_map : (xs : List (Endpoint _)) (i : ℕ) → slice_get xs i ≡ Some endpoint → slice_get (map (λ (s : Endpoint _). s.place) xs) i ≡ Some endpoint.place
-    in_map [] i at = cc
-    in_map (x ∷ xs) zero at = cc
-    in_map (x ∷ xs) (suc i) at = in_map xs i at
-
 module _ {K : Type 0} (state : K → KindState) (casts : List (Cast K)) (setups : List CallerSetup) (opened : Opened) (ok : AreOpened casts setups opened) where
   abbrev execs : List (Endpoint ExecPasses)
   execs = opened.execs.items
@@ -35,20 +24,32 @@ module _ {K : Type 0} (state : K → KindState) (casts : List (Cast K)) (setups 
   abbrev callers : List (Endpoint CallerPasses)
   callers = opened.callers.items
 
-  pub exec_places_below : All (λ (exec : Endpoint ExecPasses). (exec.place < length opened.lines.mails.items) × (exec.place < length opened.lines.controls.items)) execs
-  exec_places_below = all_by_places (λ (exec : Endpoint ExecPasses). (exec.place < length opened.lines.mails.items) × (exec.place < length opened.lines.controls.items)) execs (λ k exec at.
-      let place = placed execs k exec ok.at_lines.exec_places at in
-      let below = slice_get_within execs k exec at in
+  -- of each cast with its passes, and of each part with its own, a thread's work may be made
+  pub may_serve : AreMatched casts setups → Each (MayServe opened.lines) casts execs
+  may_serve matched = each_from (MayServe opened.lines) casts execs ok.execs.0 (λ k cast exec at there.
+      let place = place_is execs ok.at_lines.exec_places k exec there in
+      let below = slice_get_within execs k exec there in
       let mails = as_long (λ (e : Endpoint ExecPasses). e.pass.letters.line) (λ (m : MailView). m.line) execs opened.lines.mails.items ok.at_lines.mails in
       let controls = as_long (λ (e : Endpoint ExecPasses). e.pass.kills.line) (λ (m : ControlView). m.line) execs opened.lines.controls.items ok.at_lines.controls in
-      (omega (arith, place, below, mails), omega (arith, place, below, controls)))
+      record {
+        callers = all_at (λ (cast : Cast K). CallersDiffer cast.callers) casts k cast matched.callers_differ at;
+        mail = omega (arith, place, below, mails);
+        control = omega (arith, place, below, controls);
+        is = each_at (IsExec opened.lines) casts execs k cast exec ok.execs at there;
+      })
 
-  pub caller_places_below : All (λ (caller : Endpoint CallerPasses). caller.place < length opened.lines.replies.items) callers
-  caller_places_below = all_by_places (λ (caller : Endpoint CallerPasses). caller.place < length opened.lines.replies.items) callers (λ k caller at.
-      let place = placed callers k caller ok.at_lines.caller_places at in
-      let below = slice_get_within callers k caller at in
+  pub may_drive : AreMatched casts setups → All HasLimits setups → All (λ setup. first_bad setup.actors.items setup.plan.items ≡ None) setups → Each (MayDrive opened.lines) setups callers
+  may_drive matched limits fits = each_from (MayDrive opened.lines) setups callers ok.callers.0 (λ k setup caller at there.
+      let place = place_is callers ok.at_lines.caller_places k caller there in
+      let below = slice_get_within callers k caller there in
       let replies = as_long (λ (c : Endpoint CallerPasses). c.pass.collects.line) (λ (m : RepliesView). m.line) callers opened.lines.replies.items ok.at_lines.replies in
-      omega (arith, place, below, replies))
+      record {
+        actors = all_at (λ (setup : CallerSetup). CallersDiffer setup.actors.items) setups k setup matched.own_differ at;
+        limits = all_at HasLimits setups k setup limits at;
+        place = omega (arith, place, below, replies);
+        is = each_at (IsCaller opened.lines) setups callers k setup caller ok.callers at there;
+        fits = all_at (λ (setup : CallerSetup). first_bad setup.actors.items setup.plan.items ≡ None) setups k setup fits at;
+      })
 
   module _ {L : Type 0} (actors : List (Finished K L)) (served : AreServed state opened.lines casts execs actors) where
     -- the cast and the passes of an actor

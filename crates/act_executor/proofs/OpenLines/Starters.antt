@@ -1,7 +1,6 @@
 -- The starter's passes at their places.
 use Rattle.act_executor.proofs.Common.{◌≡◌, ℕ, ◌+◌, ◌<◌, List, length, map, get_or, sym, ap, ◌∙◌, arith, range_with_len, get_or-map, get_or-range_with_len}
-use Rattle.act_executor.proofs.Common.{Asked, PutterView, new_putter, ControlView, starter, Endpoint, AreStarters}
-use Rattle.act_rules.proofs.Places.{as_long}
+use Rattle.act_executor.proofs.Common.{Asked, PutterView, new_putter, ControlView, starter, Endpoint, AreStarters, as_long}
 
 abbrev pass_on : ControlView → PutterView Asked ℕ
 pass_on control = new_putter control.line starter

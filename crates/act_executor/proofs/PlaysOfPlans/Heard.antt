@@ -2,9 +2,8 @@
 use Rattle.act_executor.proofs.Common.{◌≡◌, ℕ, ◌==◌, Bool, true, false, cond, List, [], ◌∷◌, ◌++◌, Some, None, refl, ap, sym, ◌∙◌, subst, append_assoc, ◌&&◌}
 use Rattle.act_executor.proofs.Common.{map, filter, filter_map, AllByRecursion, cons_option, eqb-true, map-append, recursion_from_All, KindState, Notice}
 use Rattle.act_executor.proofs.Common.{Answered, Death, Post, RunItem, IsPrefix, contains, IsPrefix-map, front_trans, whole_front, Noticed, notice_actor}
-use Rattle.act_executor.proofs.Common.{items_from, Site, Action, Caller, Actor, actions_of, notice_of, replies_are_due, post_of, is_between}
-use Rattle.act_rules.specs.declared.history.Post.TheVariants.{Reply as ReplyPost, Death as DeathPost}
-use Rattle.act_serve.specs.Served.{EndView, Retired as RetiredEnd, replies_to, deaths, places_of, place_of, IsReplyOf}
+use Rattle.act_executor.proofs.Common.{items_from, Site, Action, Caller, Actor, actions_of, notice_of, replies_are_due, post_of, is_between, ReplyPost}
+use Rattle.act_executor.proofs.Common.{DeathPost, EndView, RetiredEnd, replies_to, deaths, places_of, place_of, IsReplyOf}
 use Rattle.act_executor.proofs.Lists.Kept.{gives_none}
 
 -- a notice to this caller, as the rules name it

@@ -1,7 +1,7 @@
 -- A plan is done as well without the notices of strangers.
 use Rattle.act_executor.proofs.Common.{ℕ, Bool, List, [], ◌∷◌, ◌++◌, inl, inr, refl, ap, sym, ◌∙◌, subst, filter, is_some, All-filter, filter-append, Step}
-use Rattle.act_executor.proofs.Common.{Submit, Copy, Release, Kill, Await, kept_at, OwnerView, is_known_dead, Copied, Released, Submitted, after_action}
-use Rattle.act_executor.proofs.Common.{Action, KillAsked, after_actions, CallerMayDoAll, IsMeanwhile, DoesStep, DoesPlan}
+use Rattle.act_executor.proofs.Common.{Submit, Copy, Release, Kill, Await, kept_at, OwnerView, is_known_dead, Copied, Released, Submitted, after_action, Action}
+use Rattle.act_executor.proofs.Common.{KillAsked, after_actions, CallerMayDoAll, IsMeanwhile, DoesStep, DoesPlan}
 use Rattle.act_executor.proofs.Lists.Kept.{kept_more}
 use Rattle.act_executor.proofs.PlaysOfThreads.Allowed.{may_front, may_rest}
 use Rattle.act_executor.proofs.PlaysOfThreads.CallerWork.{is_by_these, HoldsThese, step_holds, IsStill, still}

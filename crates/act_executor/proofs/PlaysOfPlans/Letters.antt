@@ -4,12 +4,10 @@ use Rattle.act_executor.proofs.Common.{true≢false, option_and_then, eqb_tells,
 use Rattle.act_executor.proofs.Common.{option_map, AllByRecursion, cons_option, eqb-true, eq-eqb, map-append, recursion_from_All, Packet, ReleaseNote}
 use Rattle.act_executor.proofs.Common.{Submission, number_of, same_place, OwnerView, packet_for, Letter, Call, Note, Site, Action, Caller, Actor, actions_of}
 use Rattle.act_executor.proofs.Common.{IsSent, AreTwo, letter_of, IsPrefix, contains, items_from, caller_of, steps_in, found_in, CallTaken, NoteTaken}
-use Rattle.act_executor.proofs.Common.{letter_taken}
-use Rattle.act_rules.specs.declared.history.Letter.{Letter as SentLetter}
+use Rattle.act_executor.proofs.Common.{letter_taken, SentLetter, found_alone}
 use Rattle.act_rules.specs.declared.history.Letter.TheVariants.{Call as CallLetter, Note as NoteLetter}
 use Rattle.act_executor.proofs.PlaysOfPlans.Once.{Differ, differ_pairs, front_differs, HasEnds, both_same, all_differ}
 use Rattle.act_executor.proofs.PlaysOfThreads.ActorWork.{is_of_these, kept_letter}
-use Rattle.act_causes.proofs.Found.{found_is as found_alone}
 use Rattle.act_executor.proofs.Lists.Kept.{keep_stamped, kept_steps, kept_found, gives_none}
 
 -- ---- what a caller put at an endpoint

@@ -1,8 +1,7 @@
 -- Where each caller collects in line, no notice is collected twice.
 use Rattle.act_executor.proofs.Common.{◌≡◌, ◌≢◌, ℕ, ◌+◌, ◌≤◌, ◌==◌, Bool, true, false, cond, List, [], ◌∷◌, ◌++◌, refl, ap, sym, ◌∙◌, subst, arith, AllPairs}
 use Rattle.act_executor.proofs.Common.{◌&&◌, map, filter, AllByRecursion, enumerate_from, eq-eqb, All-from_recursion, AllPairs-cons, Post, RunItem, History}
-use Rattle.act_executor.proofs.Common.{runs_of, is_between, CollectsInLine}
-use Rattle.act_rules.specs.declared.history.Post.TheVariants.{Reply as ReplyPost, Death as DeathPost}
+use Rattle.act_executor.proofs.Common.{runs_of, is_between, CollectsInLine, ReplyPost, DeathPost}
 
 -- no two are the same, by recursion
 abbrev pub Differ : {A : Type 0} → List A → Type 0

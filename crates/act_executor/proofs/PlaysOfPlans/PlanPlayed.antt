@@ -4,22 +4,19 @@ use Rattle.act_executor.proofs.Common.{filter, option_map, KindState, Event, Pos
 use Rattle.act_executor.proofs.Common.{actors_naming, runs_of, history, Answer, kept_at, world_sound, map-slice_get, Notice, OwnerView, items_from, MailView}
 use Rattle.act_executor.proofs.Common.{ControlView, RepliesView, notice_actor, steps_in, Driven, Action, notice_of, SpecsFit, plan_of, end_log, places_of}
 use Rattle.act_executor.proofs.Common.{ServedView, AreJoined, IsPlayOfRun, cast_at, log_in, log_of, filter_map, CallsThatDiedNeverRan, kept_in, is_between}
-use Rattle.act_executor.proofs.Common.{DoesPlanIn, CollectsInLine, IsPlayOfPlans, IsPlayedAsPlanned, HasPosted, IsSent, Actor, Caller}
-use Rattle.act_rules.specs.declared.history.Post.TheVariants.{Reply as ReplyPost, Death as DeathPost}
-use Rattle.act_rules.specs.declared.history.Letter.{Letter as SentLetter}
-use Rattle.act_rules.proofs.Elements.{IsIn, in_from_contains, all_in, all_by_places, contains_is}
-use Rattle.act_executor.proofs.EndsOfRuns.Found.{naming, same_cast, served_cast}
+use Rattle.act_executor.proofs.Common.{DoesPlanIn, CollectsInLine, IsPlayOfPlans, IsPlayedAsPlanned, HasPosted, IsSent, Actor, Caller, ReplyPost, DeathPost}
+use Rattle.act_executor.proofs.Common.{SentLetter, IsIn, in_from_contains, all_in, all_by_places, contains_is}
+use Rattle.act_executor.proofs.EndsOfRuns.Found.{naming, same_cast, served_cast, driven_named}
 use Rattle.act_executor.proofs.EndsOfRuns.Joint.{driven_of, served_of, Thread, thread, driver, audit_of, given_to}
 use Rattle.act_executor.proofs.PlaysOfThreads.AsPlay.{casts_stay}
 use Rattle.act_executor.proofs.PlaysOfThreads.HaveTraces.{HaveTraces}
-use Rattle.act_executor.proofs.PlaysOfThreads.JoinedTraces.{threads, did, are_traced, caller_found, caller_none, actor_none}
-use Rattle.act_executor.proofs.PlaysOfThreads.JoinedTraces.{actor_found, is_play_of, kept_left, log_is_left, log_found, driven_at}
+use Rattle.act_executor.proofs.PlaysOfThreads.JoinedTraces.{threads, did, are_traced, caller_found, caller_none, actor_none, actor_found, is_play_of, kept_left}
+use Rattle.act_executor.proofs.PlaysOfThreads.JoinedTraces.{log_is_left, log_found, driven_at}
 use Rattle.act_executor.proofs.PlaysOfPlans.TracedPlans.{IsPlayOfPlannedRun, play_of_steps}
 use Rattle.act_executor.proofs.PlaysOfPlans.Heard.{post_from, of_listed, of_stranger, given_posts}
 use Rattle.act_executor.proofs.PlaysOfPlans.Ran.{died_unrun}
 use Rattle.act_executor.proofs.PlaysOfPlans.Once.{Differ, collected_once}
 use Rattle.act_executor.proofs.PlaysOfPlans.Letters.{letter_from, letter_in_step, taken_differ, delivered_once}
-use Rattle.act_executor.proofs.EndsOfRuns.Found.{driven_named}
 
 module _ {mails : List MailView} {controls : List ControlView} {replies : List RepliesView} {casts : List ActorSpec} {plans : List (ℕ × List Step)} {driven : List Driven} {served : List ServedView} (j : AreJoined mails controls replies casts plans driven served) (have : HaveTraces controls replies casts plans driven served) where
   abbrev owner_in : Driven → OwnerView

@@ -1,15 +1,13 @@
 -- What a caller's thread did by its plan, the caller does by its plan in the play.
-use Rattle.act_executor.proofs.Common.{◌≡◌, ℕ, ◌==◌, Bool, true, false, cond, List, [], ◌∷◌, ◌++◌, Option, Some, None, inl, inr, refl, ap, sym, ◌∙◌, subst}
-use Rattle.act_executor.proofs.Common.{All, append_assoc, append-nil, filter_map, is_some, AllByRecursion, AllZip, cons_option, All-from_recursion}
+use Rattle.act_executor.proofs.Common.{◌≡◌, ℕ, ◌==◌, Bool, true, false, cond, List, [], ◌∷◌, ◌++◌, Option, Some, None, inl, inr, refl, ap, sym, ◌∙◌, subst, All}
+use Rattle.act_executor.proofs.Common.{append_assoc, append-nil, filter_map, is_some, AllByRecursion, AllZip, cons_option, All-from_recursion}
 use Rattle.act_executor.proofs.Common.{recursion_from_All, filter_map-append, Answered, Death, Event, Step, history, Answer, ActorSpec, History, kept_at}
 use Rattle.act_executor.proofs.Common.{OwnerView, is_known_dead, Copied, Released, Submitted, Noticed, Site, Action, Caller, Actor, action_at, actions_of}
 use Rattle.act_executor.proofs.Common.{opened_of, owner_by, IsEventOf, CallTaken, NoteTaken, KillAsked, after_actions, KeepsAnswers, EachFront, step_of}
-use Rattle.act_executor.proofs.Common.{DoesStepIn, DoesPlanIn, DoesPlan, death_listed, CallRun, DeathTold, KillTaken, Retirement, Sent}
-use Rattle.act_rules.specs.declared.script.Step.TheVariants.{Submit as SubmitStep, Copy as CopyStep, Release as ReleaseStep, Kill as KillStep, Await as AwaitStep}
-use Rattle.act_drive.specs.PlanTraces.{IsMeanwhile as IsMeanwhileStep}
+use Rattle.act_executor.proofs.Common.{DoesStepIn, DoesPlanIn, DoesPlan, death_listed, CallRun, DeathTold, KillTaken, Retirement, Sent, SubmitStep, CopyStep}
+use Rattle.act_executor.proofs.Common.{ReleaseStep, KillStep, AwaitStep, IsMeanwhileStep, deed_is}
 use Rattle.act_executor.specs.PlanPlays.{IsMeanwhile}
 use Rattle.act_causes.proofs.Made.{owner_then}
-use Rattle.act_causes.proofs.Sites.{deed_is}
 
 -- ---- cuts of what a filter keeps
 

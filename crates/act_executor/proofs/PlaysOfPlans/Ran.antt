@@ -1,13 +1,11 @@
 -- Where each caller collects in line, a call whose kept answer is a death never ran.
 use Rattle.act_executor.proofs.Common.{◌≡◌, ◌≢◌, ℕ, zero, suc, ◌+◌, ◌==◌, Bool, true, false, cond, List, [], ◌∷◌, ◌++◌, length, Option, Some, None, inl, inr}
-use Rattle.act_executor.proofs.Common.{refl, ap, sym, ◌∙◌, subst, arith, ◌&&◌, map, filter, filter_map, slice_get, take, is_some, option_and_then}
-use Rattle.act_executor.proofs.Common.{option_map, Err, AllByRecursion, cons_option, enumerate_from, eqb-true, eq-eqb, and_parts, slice_get-map, KindState}
-use Rattle.act_executor.proofs.Common.{ActorDied, Post, RunItem, Submission, Answer, answer_at, items_of, IsPrefix, kept_at, calls_to, History, opening_of}
-use Rattle.act_executor.proofs.Common.{calls_of, kept_of, runs_of, is_item_of, answer_of, answer_in, first_answer, slice_get-filter}
-use Rattle.act_executor.proofs.Common.{slice_get-enumerate_from, slice_get_front, calls_to-at, kept_at_is, kept_by, IsSound, consistent, places_of}
-use Rattle.act_executor.proofs.Common.{CallsThatDiedNeverRan, is_between, CollectsInLine, cond_gives, reply_alive}
-use Rattle.act_rules.specs.declared.history.Post.TheVariants.{Reply as ReplyPost, Death as DeathPost}
-use Rattle.act_rules.proofs.Elements.{IsIn, in_none, in_first}
+use Rattle.act_executor.proofs.Common.{refl, ap, sym, ◌∙◌, subst, arith, ◌&&◌, map, filter, filter_map, slice_get, take, is_some, option_and_then, option_map}
+use Rattle.act_executor.proofs.Common.{Err, AllByRecursion, cons_option, enumerate_from, eqb-true, eq-eqb, and_parts, slice_get-map, KindState, ActorDied, Post}
+use Rattle.act_executor.proofs.Common.{RunItem, Submission, Answer, answer_at, items_of, IsPrefix, kept_at, calls_to, History, opening_of, calls_of, kept_of}
+use Rattle.act_executor.proofs.Common.{runs_of, is_item_of, answer_of, answer_in, first_answer, slice_get-filter, slice_get-enumerate_from, slice_get_front}
+use Rattle.act_executor.proofs.Common.{calls_to-at, kept_at_is, kept_by, IsSound, consistent, places_of, CallsThatDiedNeverRan, is_between, CollectsInLine}
+use Rattle.act_executor.proofs.Common.{cond_gives, reply_alive, ReplyPost, DeathPost, IsIn, in_none, in_first}
 
 -- ---- the first that answers
 

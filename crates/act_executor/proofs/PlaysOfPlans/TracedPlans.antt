@@ -1,7 +1,7 @@
 -- What the threads did by their plans, each caller does by its plan in the play.
-use Rattle.act_executor.proofs.Common.{◌≡◌, ℕ, List, [], ap, ◌∙◌, map, filter, filter_map, Event, Step, history, ActorSpec, items_from, notice_actor}
-use Rattle.act_executor.proofs.Common.{steps_in, opened_of, SpecsFit, Action, notice_of, DoesPlan, AreTraced, Threads, Site, Caller, Actor, IsPlayOfRun}
-use Rattle.act_executor.proofs.Common.{DoesPlanIn, is_between}
+use Rattle.act_executor.proofs.Common.{◌≡◌, ℕ, List, [], ap, ◌∙◌, map, filter, filter_map, Event, Step, history, ActorSpec, items_from, notice_actor, steps_in}
+use Rattle.act_executor.proofs.Common.{opened_of, SpecsFit, Action, notice_of, DoesPlan, AreTraced, Threads, Site, Caller, Actor, IsPlayOfRun, DoesPlanIn}
+use Rattle.act_executor.proofs.Common.{is_between}
 use Rattle.act_rules.specs.declared.history.Letter.{Letter}
 use Rattle.act_executor.proofs.PlaysOfThreads.Seen.{actions_are}
 use Rattle.act_executor.proofs.PlaysOfThreads.Traced.{IsMergedPlay, merged_play}

@@ -3,7 +3,7 @@ use Rattle.act_executor.proofs.Common.{◌≡◌, ℕ, Bool, true, false, List, 
 use Rattle.act_executor.proofs.Common.{AllByRecursion, list_any, RunItem, items_of, has_terminated, contains, Call, Note, caller_of, packet_of_item}
 use Rattle.act_executor.proofs.Common.{note_after_calls, Action, CallTaken, NoteTaken, CallRun, KillTaken, DeathTold, Retirement, call_run, is_kill_taken}
 use Rattle.act_executor.proofs.Common.{is_retirement, log_of, has_died_in, has_ended_in, ActorMayDo, ActorMayDoAll, letter_taken, ◌||◌, Letter, Some}
-use Rattle.act_rules.proofs.Elements.{in_from_contains, contains_from_in, in_filter}
+use Rattle.act_executor.proofs.Common.{in_from_contains, contains_from_in, in_filter}
 use Rattle.act_executor.proofs.Lists.Kept.{kept_any, kept_found, kept_more, lost_more, kept_first, lost_first}
 
 -- every step but the taking of a letter of a caller that isn't among these

@@ -4,9 +4,8 @@ use Rattle.act_executor.proofs.Common.{sym, ◌∙◌, subst, arith, Contains, s
 use Rattle.act_executor.proofs.Common.{Submission, calls_to, kept_at, is_known, copy_refusal, handle_refusal, submit_refusal, limit_refusal, copies_in}
 use Rattle.act_executor.proofs.Common.{copies-with_copy-other, copies-without_copy-other, copies-with_number, First, Late, Stray, OwnerView, is_sent}
 use Rattle.act_executor.proofs.Common.{is_of_call, owner_limit, pending, sending_refusal, with_death, after_reply_that, Action, Copied, Released, Submitted}
-use Rattle.act_executor.proofs.Common.{Sent, Noticed, after_action, is_known_at, packet_stays_all, after_all-append, after_actions, CallerMayDo}
-use Rattle.act_executor.proofs.Common.{CallerMayDoAll, send_refusal, needs-none, option_or-none, calls_to-push, NotReady}
-use Rattle.act_owner.proofs.Life.{step}
+use Rattle.act_executor.proofs.Common.{Sent, Noticed, after_action, is_known_at, packet_stays_all, after_all-append, after_actions, CallerMayDo, CallerMayDoAll}
+use Rattle.act_executor.proofs.Common.{send_refusal, needs-none, option_or-none, calls_to-push, NotReady, step}
 
 -- ---- the front, and the rest
 

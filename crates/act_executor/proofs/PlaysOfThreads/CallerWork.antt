@@ -1,12 +1,12 @@
 -- What a caller's thread did, without the notices of actors that don't name it: they step nothing of it.
-use Rattle.act_executor.proofs.Common.{◌≡◌, ℕ, ◌+◌, ◌-◌, Bool, true, false, List, [], ◌∷◌, length, Some, None, inl, inr, refl, ap, sym, ◌∙◌, subst, ◌==◌}
-use Rattle.act_executor.proofs.Common.{◌&&◌, not, filter, Option, option_map, slice_get, is_some, if◌then◌else◌, option_or, AllByRecursion, eqb-true}
-use Rattle.act_executor.proofs.Common.{eqb_tells, Notice, Answered, Death, Arg, Submission, contains, kept_at, submit_refusal, limit_refusal, All_at}
-use Rattle.act_executor.proofs.Common.{All_more, Handle, copies_in, with_copy, without_copy, copies-with_copy, copies-without_copy, copies-with_copy-other}
-use Rattle.act_executor.proofs.Common.{copies-without_copy-other, copies-with_number, copies-opened, First, Late, Stray, OwnerView, opened_under}
-use Rattle.act_executor.proofs.Common.{owner_limit, pending, refusal_to_submit, is_sent, is_to, is_death, after_collect, after_reply_that, with_death}
-use Rattle.act_executor.proofs.Common.{Action, Copied, Released, Submitted, Noticed, after_action, notice_actor, notice_keeps, notice_of, after_actions}
-use Rattle.act_executor.proofs.Common.{CallerMayDo, CallerMayDoAll}
+use Rattle.act_executor.proofs.Common.{◌≡◌, ℕ, ◌+◌, ◌-◌, Bool, true, false, List, [], ◌∷◌, length, Some, None, inl, inr, refl, ap, sym, ◌∙◌, subst, ◌==◌, ◌&&◌}
+use Rattle.act_executor.proofs.Common.{not, filter, Option, option_map, slice_get, is_some, if◌then◌else◌, option_or, AllByRecursion, eqb-true, eqb_tells}
+use Rattle.act_executor.proofs.Common.{Notice, Answered, Death, Arg, Submission, contains, kept_at, submit_refusal, limit_refusal, All_at, All_more, Handle}
+use Rattle.act_executor.proofs.Common.{copies_in, with_copy, without_copy, copies-with_copy, copies-without_copy, copies-with_copy-other}
+use Rattle.act_executor.proofs.Common.{copies-without_copy-other, copies-with_number, copies-opened, First, Late, Stray, OwnerView, opened_under, owner_limit}
+use Rattle.act_executor.proofs.Common.{pending, refusal_to_submit, is_sent, is_to, is_death, after_collect, after_reply_that, with_death, Action, Copied}
+use Rattle.act_executor.proofs.Common.{Released, Submitted, Noticed, after_action, notice_actor, notice_keeps, notice_of, after_actions, CallerMayDo}
+use Rattle.act_executor.proofs.Common.{CallerMayDoAll}
 use Rattle.act_executor.proofs.Lists.Kept.{kept_first, lost_first}
 
 -- every step but the collecting of a notice of an actor that isn't among these

@@ -1,11 +1,11 @@
 -- Each step of a thread is caused by the deeds before it.
-use Rattle.act_executor.proofs.Common.{◌≡◌, ℕ, ◌<◌, List, [], ◌∷◌, ◌++◌, length, Some, refl, ap, sym, ◌∙◌, subst, Contains, slice_get, option_map}
-use Rattle.act_executor.proofs.Common.{map-append, filter_map-append, slice_get-map, Answered, Death, Reply, Packet, ReleaseNote, steps_in, found_in}
-use Rattle.act_executor.proofs.Common.{RunItem, IsPrefix, ActorSpec, answer_at, answer_at-front, copies_in, calls_to, Submission, OwnerView, packet_at}
-use Rattle.act_executor.proofs.Common.{is_known_at, places_all, packet_stays_all, after_all-append, after_actions, left_by, opened_of, IsReplyGiven}
-use Rattle.act_executor.proofs.Common.{IsSentCall, IsLastNote, IsGiven, IsCaused, IsFrontBelow, IsCallPosted, IsNotePosted, IsReplyGivenBy, WasGiven}
-use Rattle.act_executor.proofs.Common.{AreTraced, contains_map, CallerMayDoAll, MayDo, MayDoAll, Threads, Action, Actor, CallTaken, Caller, DeathTold}
-use Rattle.act_executor.proofs.Common.{KillAsked, KillTaken, NoteTaken, Noticed, Sent, Site, action_at, actions_of, call_run, log_of, true}
+use Rattle.act_executor.proofs.Common.{◌≡◌, ℕ, ◌<◌, List, [], ◌∷◌, ◌++◌, length, Some, refl, ap, sym, ◌∙◌, subst, Contains, slice_get, option_map, map-append}
+use Rattle.act_executor.proofs.Common.{filter_map-append, slice_get-map, Answered, Death, Reply, Packet, ReleaseNote, steps_in, found_in, RunItem, IsPrefix}
+use Rattle.act_executor.proofs.Common.{ActorSpec, answer_at, answer_at-front, copies_in, calls_to, Submission, OwnerView, packet_at, is_known_at, places_all}
+use Rattle.act_executor.proofs.Common.{packet_stays_all, after_all-append, after_actions, left_by, opened_of, IsReplyGiven, IsSentCall, IsLastNote, IsGiven}
+use Rattle.act_executor.proofs.Common.{IsCaused, IsFrontBelow, IsCallPosted, IsNotePosted, IsReplyGivenBy, WasGiven, AreTraced, contains_map, CallerMayDoAll}
+use Rattle.act_executor.proofs.Common.{MayDo, MayDoAll, Threads, Action, Actor, CallTaken, Caller, DeathTold, KillAsked, KillTaken, NoteTaken, Noticed, Sent}
+use Rattle.act_executor.proofs.Common.{Site, action_at, actions_of, call_run, log_of, true}
 use Rattle.act_causes.proofs.Found.{found_is}
 use Rattle.act_executor.proofs.Lists.Cuts.{contains_mid, place_seen, step_seen, first_seen}
 use Rattle.act_executor.proofs.PlaysOfThreads.Allowed.{may_front, sent_known, gone_stays}

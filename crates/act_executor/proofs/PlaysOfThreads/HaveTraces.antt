@@ -1,9 +1,8 @@
 -- What each thread of a run did, step by step, beside what it left.
 use Rattle.act_executor.proofs.Common.{◌≡◌, ℕ, List, [], ◌++◌, All, ap, ◌∙◌, subst, flat_map, AllZip, RunItem, Step, ActorSpec, ControlView, ControlExecView}
-use Rattle.act_executor.proofs.Common.{RepliesView, ReplyExecView, TakerView, clock, steps_in, found_in, IsTimed, AreTakenLater, Endpoint, Letter}
-use Rattle.act_executor.proofs.Common.{ExecPasses, EndView, Killed, Retired, Starved, end_id, caller_at, endpoint_callers, Action, letter_taken, kill_taken}
-use Rattle.act_executor.proofs.Common.{ActorMayDoAll, exec_clock, IsGivenAfter, IsActorTrace, IsActorTraced, Driven, HasDonePlan, plan_of, opened_of}
-use Rattle.act_executor.proofs.Common.{ServedView}
+use Rattle.act_executor.proofs.Common.{RepliesView, ReplyExecView, TakerView, clock, steps_in, found_in, IsTimed, AreTakenLater, Endpoint, Letter, ExecPasses}
+use Rattle.act_executor.proofs.Common.{EndView, Killed, Retired, Starved, end_id, caller_at, endpoint_callers, Action, letter_taken, kill_taken, ActorMayDoAll}
+use Rattle.act_executor.proofs.Common.{exec_clock, IsGivenAfter, IsActorTrace, IsActorTraced, Driven, HasDonePlan, plan_of, opened_of, ServedView}
 
 -- each thread did its steps in order and in time
 pub record HaveTraces (controls : List ControlView) (replies : List RepliesView) (casts : List ActorSpec)

@@ -2,23 +2,21 @@
 use Rattle.act_executor.proofs.Common.{◌≡◌, ◌≢◌, ℕ, ◌<◌, ◌≤◌, Bool, true, false, List, [], ◌∷◌, ◌++◌, length, map, zip, Some, None, inl, inr, refl, ap, sym}
 use Rattle.act_executor.proofs.Common.{◌∙◌, subst, arith, AllPairs, Contains, Option, ◌==◌, slice_get, option_map, list_any, All-weaker, AllPairs-filter}
 use Rattle.act_executor.proofs.Common.{slice_get-map, eq-eqb, MAX_ACTORS, MAX_CALLERS, Notice, Answered, Death, ReleaseNote, Event, RunItem, Step, answer_at}
-use Rattle.act_executor.proofs.Common.{has_terminated, calls_to, ActorSpec, contains, actors_naming, one_to, filter-slice_get, copies_in, OwnerView}
-use Rattle.act_executor.proofs.Common.{packet_at, Noticed, Asked, Letter, Call, Note, MailView, caller_of, ControlView, ControlExecView, asker_of, starter}
-use Rattle.act_executor.proofs.Common.{RepliesView, notice_actor, steps_in, found_in, EndView, Killed, Retired, Starved, end_id, end_log, replies_to, deaths}
-use Rattle.act_executor.proofs.Common.{KillsOfDead, KillsTaken, Driven, IsSent, cast_at, numbers_differ, IsNamed, left_by, Action, CallTaken, NoteTaken}
-use Rattle.act_executor.proofs.Common.{taking, KillTaken, call_run, log_in, log_of, IsGivenAfter, IsActorTraced, after_actions, CallerMayDoAll}
-use Rattle.act_executor.proofs.Common.{IsPostedAfter, IsAskedAfter, AreTraced, IsPlayOfRun, IsPlayOf, WasDone, WasGiven, IsOwnerIn, IsEndIn, kept_at, Answer}
-use Rattle.act_executor.proofs.Common.{is_some, find, filter, pairs_of_map, map-slice_get, eqb-true, MayDoAll, history, is_starved, kept_of_owner}
-use Rattle.act_executor.proofs.Common.{log_of_end, kept_in, opened_of, HasDonePlan, plan_of, ServedView, NoticesAudited, AreJoined, Actor, Caller, KillAsked}
-use Rattle.act_executor.proofs.Common.{KillNote, Site, Threads, letter_taken, All}
-use Rattle.act_mailbox.specs.Lines.{items_from as items_put}
+use Rattle.act_executor.proofs.Common.{has_terminated, calls_to, ActorSpec, contains, actors_naming, one_to, filter-slice_get, copies_in, OwnerView, packet_at}
+use Rattle.act_executor.proofs.Common.{Noticed, Asked, Letter, Call, Note, MailView, caller_of, ControlView, ControlExecView, asker_of, starter, RepliesView}
+use Rattle.act_executor.proofs.Common.{notice_actor, steps_in, found_in, EndView, Killed, Retired, Starved, end_id, end_log, replies_to, deaths, KillsOfDead}
+use Rattle.act_executor.proofs.Common.{KillsTaken, Driven, IsSent, cast_at, numbers_differ, IsNamed, left_by, Action, CallTaken, NoteTaken, taking, KillTaken}
+use Rattle.act_executor.proofs.Common.{call_run, log_in, log_of, IsGivenAfter, IsActorTraced, after_actions, CallerMayDoAll, IsPostedAfter, IsAskedAfter}
+use Rattle.act_executor.proofs.Common.{AreTraced, IsPlayOfRun, IsPlayOf, WasDone, WasGiven, IsOwnerIn, IsEndIn, kept_at, Answer, is_some, find, filter}
+use Rattle.act_executor.proofs.Common.{pairs_of_map, map-slice_get, eqb-true, MayDoAll, history, is_starved, kept_of_owner, log_of_end, kept_in, opened_of}
+use Rattle.act_executor.proofs.Common.{HasDonePlan, plan_of, ServedView, NoticesAudited, AreJoined, Actor, Caller, KillAsked, KillNote, Site, Threads}
+use Rattle.act_executor.proofs.Common.{letter_taken, All, items_put, IsIn, in_from_contains, all_in, all_by_places, in_filter, in_none, in_first, finds}
+use Rattle.act_executor.proofs.Common.{found_is, found_alone}
 use Rattle.act_executor.proofs.PlaysOfThreads.AsPlay.{casts_stay, has_ended}
 use Rattle.act_executor.proofs.PlaysOfThreads.HaveTraces.{HaveTraces}
-use Rattle.act_rules.proofs.Elements.{IsIn, in_from_contains, all_in, all_by_places, in_filter, in_none, in_first, finds, found_is}
 use Rattle.act_executor.proofs.EndsOfRuns.Found.{naming, same_cast, driven_named, served_cast, one_of}
 use Rattle.act_executor.proofs.EndsOfRuns.Given.{reply_given}
 use Rattle.act_executor.proofs.EndsOfRuns.Joint.{driven_of, served_of, of_owner, of_end, Thread, thread_in, thread, driver, audit_of, letter_sent, given_in}
-use Rattle.act_causes.proofs.Found.{found_is as found_alone}
 use Rattle.act_executor.proofs.Lists.Stamped.{IsTakenFrom, put_with}
 use Rattle.act_executor.proofs.PlaysOfThreads.MayDo.{contains_none, caller_may_all, actor_may_all}
 use Rattle.act_executor.proofs.PlaysOfThreads.TracedActors.{IsActorWork, actor_works}

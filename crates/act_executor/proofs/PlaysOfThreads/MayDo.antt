@@ -1,8 +1,8 @@
 -- What each thread may do, at each of its steps.
 use Rattle.act_executor.proofs.Common.{◌≡◌, ℕ, ◌≤◌, List, [], ◌∷◌, ◌++◌, Some, All, refl, sym, subst, arith, Contains, append-nil, append_assoc, steps_in}
 use Rattle.act_executor.proofs.Common.{cast_at, ActorSpec, IsNamed, Site, Caller, Actor, Action, MayDo, MayDoAll, left_by, opened_of, ActorMayDoAll}
-use Rattle.act_executor.proofs.Common.{CallerMayDoAll, after_all-append, SpecsFit, Threads, AreBelow, site_number, contains, eqb-true, ◌==◌}
-use Rattle.act_rules.proofs.Elements.{all_in, any_is, contains_is, found_is}
+use Rattle.act_executor.proofs.Common.{CallerMayDoAll, after_all-append, SpecsFit, Threads, AreBelow, site_number, contains, eqb-true, ◌==◌, all_in, any_is}
+use Rattle.act_executor.proofs.Common.{contains_is, found_is}
 
 -- ---- by the machines of a caller and of an actor
 

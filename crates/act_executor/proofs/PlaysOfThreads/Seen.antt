@@ -1,9 +1,8 @@
 -- What stands before one step of a thread: of each thread a front, with all its earlier steps.
 use Rattle.act_executor.proofs.Common.{◌≡◌, ℕ, ◌≤◌, ◌<◌, List, ◌∷◌, ◌++◌, Option, ap, sym, ◌∙◌, subst, Contains, option_map, cons_option, recursion_from_All}
 use Rattle.act_executor.proofs.Common.{All-from_recursion, contains_map, steps_in, found_in, Site, Action, action_at, actions_of, Threads, IsFrontBelow}
-use Rattle.act_executor.proofs.Common.{IsMergeOf}
-use Rattle.act_causes.proofs.Found.{found_append, found_from, found_is}
-use Rattle.act_causes.proofs.Sites.{action_here, deed_of}
+use Rattle.act_executor.proofs.Common.{IsMergeOf, found_append, found_from, action_here, deed_of}
+use Rattle.act_causes.proofs.Found.{found_is}
 use Rattle.act_executor.proofs.Lists.Cuts.{step_seen}
 
 -- what is found in a trace and in a front of it

@@ -1,7 +1,7 @@
 -- What threads did, merged by their stamps, is a play.
-use Rattle.act_executor.proofs.Common.{◌≡◌, ℕ, List, [], ◌∷◌, ◌++◌, refl, sym, ◌∙◌, subst, append_assoc, map-append, steps_in, found_in, Event, ActorSpec}
-use Rattle.act_executor.proofs.Common.{Site, Action, action_at, AreCaused, Threads, IsMergeOf, merge_of, SpecsFit, IsPlayOfRun, IsStepwisePlay, play_of}
-use Rattle.act_executor.proofs.Common.{AreTraced, TracedRunsArePlayed}
+use Rattle.act_executor.proofs.Common.{◌≡◌, ℕ, List, [], ◌∷◌, ◌++◌, refl, sym, ◌∙◌, subst, append_assoc, map-append, steps_in, found_in, Event, ActorSpec, Site}
+use Rattle.act_executor.proofs.Common.{Action, action_at, AreCaused, Threads, IsMergeOf, merge_of, SpecsFit, IsPlayOfRun, IsStepwisePlay, play_of, AreTraced}
+use Rattle.act_executor.proofs.Common.{TracedRunsArePlayed}
 use Rattle.act_executor.proofs.PlaysOfThreads.Seen.{actions_are, next}
 use Rattle.act_executor.proofs.PlaysOfThreads.Causes.{caused}
 use Rattle.act_executor.proofs.PlaysOfThreads.MayDo.{threads_below}

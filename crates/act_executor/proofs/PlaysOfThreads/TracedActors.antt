@@ -1,14 +1,12 @@
 -- What each actor's thread did, as the rules see it.
-use Rattle.act_executor.proofs.Common.{◌≡◌, ℕ, ◌≤◌, Bool, true, false, List, [], ◌∷◌, map, zip, Some, refl, ap, sym, ◌∙◌, subst, AllPairs, filter}
-use Rattle.act_executor.proofs.Common.{filter_map, slice_get, AllZip, list_any, AllPairs-filter, Notice, Answered, Death, RunItem, has_terminated, ActorSpec}
-use Rattle.act_executor.proofs.Common.{contains, filter-slice_get, Asked, Letter, Endpoint, caller_of, ControlExecView, RepliesView, ReplyExecView, steps_in}
-use Rattle.act_executor.proofs.Common.{found_in, ExecPasses, EndView, Killed, Retired, Starved, end_id, end_log, caller_at, endpoint_callers, KillsOfDead}
-use Rattle.act_executor.proofs.Common.{KillsTaken, cast_at, Action, CallRun, KillTaken, DeathTold, letter_taken, call_run, kill_taken, is_kill_taken}
-use Rattle.act_executor.proofs.Common.{is_retirement, log_of, has_died_in, ActorMayDoAll, IsGivenAfter, IsActorTrace, IsActorTraced, is_killed, is_starved}
-use Rattle.act_executor.proofs.Common.{ServedView, IsServed, all_from_places, ◌||◌}
+use Rattle.act_executor.proofs.Common.{◌≡◌, ℕ, ◌≤◌, Bool, true, false, List, [], ◌∷◌, map, zip, Some, refl, ap, sym, ◌∙◌, subst, AllPairs, filter, filter_map}
+use Rattle.act_executor.proofs.Common.{slice_get, AllZip, list_any, AllPairs-filter, Notice, Answered, Death, RunItem, has_terminated, ActorSpec, contains}
+use Rattle.act_executor.proofs.Common.{filter-slice_get, Asked, Letter, Endpoint, caller_of, ControlExecView, RepliesView, ReplyExecView, steps_in, found_in}
+use Rattle.act_executor.proofs.Common.{ExecPasses, EndView, Killed, Retired, Starved, end_id, end_log, caller_at, endpoint_callers, KillsOfDead, KillsTaken}
+use Rattle.act_executor.proofs.Common.{cast_at, Action, CallRun, KillTaken, DeathTold, letter_taken, call_run, kill_taken, is_kill_taken, is_retirement, log_of}
+use Rattle.act_executor.proofs.Common.{has_died_in, ActorMayDoAll, IsGivenAfter, IsActorTrace, IsActorTraced, is_killed, is_starved, ServedView, IsServed}
+use Rattle.act_executor.proofs.Common.{all_from_places, ◌||◌, IsIn, in_from_contains, contains_from_in, all_in, in_filter, contains_is, found_alone}
 use Rattle.act_executor.proofs.PlaysOfThreads.AsPlay.{has_retired}
-use Rattle.act_rules.proofs.Elements.{IsIn, in_from_contains, contains_from_in, all_in, in_filter, contains_is}
-use Rattle.act_causes.proofs.Found.{found_is as found_alone}
 use Rattle.act_executor.proofs.Lists.Stamped.{IsTakenFrom, mapped_at, found_step, found_taken, zipped}
 use Rattle.act_executor.proofs.PlaysOfPlans.Letters.{letter_in_step, letter_from, letters_kept, letters_lost}
 use Rattle.act_executor.proofs.Lists.Kept.{keep_stamped, kept_steps, kept_in}

@@ -4,14 +4,12 @@ use Rattle.act_executor.proofs.Common.{All-filter, filter-append, AllPairs-filte
 use Rattle.act_executor.proofs.Common.{Sent, Noticed, Asked, Letter, Call, Note, Endpoint, PutterView, ControlView, notice_actor, steps_in, found_in, Driven}
 use Rattle.act_executor.proofs.Common.{limits_naming, IsNamed, Action, KillAsked, notice_of, after_actions, CallerMayDoAll, IsPostedAfter, IsAskedAfter}
 use Rattle.act_executor.proofs.Common.{IsCallerTrace, opened_of, DoesPlan, HasDonePlan, plan_of, Step, Release, contains, true, false, cond, [], ◌∷◌, Some}
-use Rattle.act_executor.proofs.Common.{None, Option, map, filter_map, cons_option}
-use Rattle.act_rules.proofs.Elements.{IsIn, in_from_contains, contains_from_in, all_in, in_filter, contains_is}
+use Rattle.act_executor.proofs.Common.{None, Option, map, filter_map, cons_option, IsIn, in_from_contains, contains_from_in, all_in, in_filter, contains_is}
+use Rattle.act_executor.proofs.Common.{found_alone}
 use Rattle.act_executor.proofs.Lists.Stamped.{IsTakenFrom, found_step, found_taken, zipped}
-use Rattle.act_executor.proofs.Lists.Kept.{keep_stamped, kept_steps}
+use Rattle.act_executor.proofs.Lists.Kept.{keep_stamped, kept_steps, kept_first}
 use Rattle.act_executor.proofs.PlaysOfThreads.Allowed.{may_front}
 use Rattle.act_executor.proofs.PlaysOfThreads.CallerWork.{is_by_these, is_from_these, HoldsThese, opened_holds, IsStill, still}
-use Rattle.act_causes.proofs.Found.{found_is as found_alone}
-use Rattle.act_executor.proofs.Lists.Kept.{kept_first}
 use Rattle.act_executor.proofs.PlaysOfPlans.KeptPlan.{plan_kept}
 
 -- what the run needs of the steps of a caller's thread

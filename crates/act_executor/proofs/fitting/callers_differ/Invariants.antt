@@ -1,4 +1,4 @@
-use Rattle.std.proofs.Common.{◌≢◌, AllPairs, take}
+use Rattle.act_executor.proofs.Common.{◌≢◌, AllPairs, take}
 use Rattle.act_executor.proofs.fitting.callers_differ.Given as goal
 
 -- the callers so far are distinct

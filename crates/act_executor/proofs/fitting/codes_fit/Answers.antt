@@ -1,5 +1,4 @@
-use Rattle.act_executor.proofs.Common.{ℕ, ◌==◌, not, true≢false, ap, sym, ◌∙◌, list_any, list_all-from_AllPass}
-use Rattle.act_executor.proofs.Common.{AllPass-from_list_all, Vec, Step, not-true}
+use Rattle.act_executor.proofs.Common.{ℕ, ◌==◌, not, true≢false, ap, sym, ◌∙◌, list_any, list_all-from_AllPass, AllPass-from_list_all, Vec, Step, not-true}
 use Rattle.act_executor.proofs.fitting.codes_fit.Goals as goal
 use Rattle.act_executor.proofs.fitting.codes_fit.Goals.{then-callers_differ, else-callers_differ}
 

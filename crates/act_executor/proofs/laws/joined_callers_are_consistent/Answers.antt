@@ -1,5 +1,4 @@
-use Rattle.act_executor.proofs.Common.{List, Step, Driven, IsDrivenBy}
-use Rattle.act_rules.proofs.Elements.{all_in, all_by_places}
+use Rattle.act_executor.proofs.Common.{List, Step, Driven, IsDrivenBy, all_in, all_by_places}
 use Rattle.act_executor.proofs.EndsOfRuns.ByCode.{is_joined_by}
 use Rattle.act_executor.proofs.laws.joined_callers_are_consistent.Goals as goal
 

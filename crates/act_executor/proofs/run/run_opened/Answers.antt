@@ -1,61 +1,62 @@
-use Rattle.std.proofs.Common.{ℕ}
-use Rattle.act_executor.proofs.OpenLines.Prepared.{exec_places_below, caller_places_below, mail_lines, control_lines, reply_lines, actors_sit, callers_sit, starters_sit}
+use Rattle.act_executor.proofs.Common.{ℕ, List, map, sym, ap, ◌∙◌, subst, Asked, PutterView, new_putter, ControlView, starter, Endpoint, AreStarters}
+use Rattle.act_executor.proofs.OpenLines.Tasks.{all_served, all_driven}
+use Rattle.act_executor.proofs.OpenLines.Prepared.{may_serve, may_drive, mail_lines, control_lines, reply_lines, actors_sit, callers_sit, starters_sit}
 use Rattle.act_executor.proofs.run.run_opened.Goals as goal
 
-pub run_threads-requires-clause-exec_places : goal.run_threads-requires-clause-exec_places
-run_threads-requires-clause-exec_places g c κs within =
-    let ok = c.requires.opening in
-    exec_places_below g.K.Actor.state c.args.prepared.casts.items c.args.prepared.setups.items (record { lines = c.args.lines.now; execs = c.args.passes.execs; callers = c.args.passes.callers; starters = c.args.passes.starters }) ok
+pub servings-requires : goal.servings-requires
+servings-requires g c = may_serve g.K.Actor.state c.args.prepared.casts.items c.args.prepared.setups.items c.args.opened c.requires.opening c.requires.matched
 
-pub run_threads-requires-clause-execs : goal.run_threads-requires-clause-execs
-run_threads-requires-clause-execs g c κs within =
-    let ok = c.requires.opening in
-    ok.execs
+pub drivings-requires-clause-each : goal.drivings-requires-clause-each
+drivings-requires-clause-each g c κs within = may_drive g.K.Actor.state c.args.prepared.casts.items c.args.prepared.setups.items c.args.opened c.requires.opening c.requires.matched c.requires.limits c.requires.fits
 
-pub run_threads-requires-clause-caller_places : goal.run_threads-requires-clause-caller_places
-run_threads-requires-clause-caller_places g c κs within =
-    let ok = c.requires.opening in
-    caller_places_below g.K.Actor.state c.args.prepared.casts.items c.args.prepared.setups.items (record { lines = c.args.lines.now; execs = c.args.passes.execs; callers = c.args.passes.callers; starters = c.args.passes.starters }) ok
+pub starter_at-requires : goal.starter_at-requires
+starter_at-requires g c = c.requires.opening.at_lines.starters ∙ ap (map (λ (control : ControlView). new_putter control.line starter)) (sym c.as_slice-2.ensures.value)
 
-pub run_threads-requires-clause-callers : goal.run_threads-requires-clause-callers
-run_threads-requires-clause-callers g c κs within =
-    let ok = c.requires.opening in
-    ok.callers
+pub run_tasks-requires-clause-servings : goal.run_tasks-requires-clause-servings
+run_tasks-requires-clause-servings g c κs within = c.in_ok-servings.ensures.ready
 
-pub run_threads-requires-clause-starters : goal.run_threads-requires-clause-starters
-run_threads-requires-clause-starters g c κs within =
-    let ok = c.requires.opening in
-    ok.at_lines.starters
+pub run_tasks-requires-clause-drivings : goal.run_tasks-requires-clause-drivings
+run_tasks-requires-clause-drivings g c κs within = c.in_ok-drivings.ensures.ready
 
-pub settle-requires-clause-mails : goal.settle-requires-clause-mails
-settle-requires-clause-mails g c =
+pub settle-requires : goal.settle-requires
+settle-requires g c =
+    let state = g.K.Actor.state in
+    let casts = c.args.prepared.casts.items in
+    let setups = c.args.prepared.setups.items in
+    let opened = c.args.opened in
     let ok = c.requires.opening in
-    mail_lines g.K.Actor.state c.args.prepared.casts.items c.args.prepared.setups.items (record { lines = c.args.lines.now; execs = c.args.passes.execs; callers = c.args.passes.callers; starters = c.args.passes.starters }) ok c.in_ok-ran.ran.0.actors.items c.in_ok-ran.ensures.actors
-
-pub settle-requires-clause-controls : goal.settle-requires-clause-controls
-settle-requires-clause-controls g c =
-    let ok = c.requires.opening in
-    control_lines g.K.Actor.state c.args.prepared.casts.items c.args.prepared.setups.items (record { lines = c.args.lines.now; execs = c.args.passes.execs; callers = c.args.passes.callers; starters = c.args.passes.starters }) ok c.in_ok-ran.ran.0.actors.items c.in_ok-ran.ensures.actors
-
-pub settle-requires-clause-replies : goal.settle-requires-clause-replies
-settle-requires-clause-replies g c =
-    let ok = c.requires.opening in
-    reply_lines g.K.Actor.state c.args.prepared.casts.items c.args.prepared.setups.items (record { lines = c.args.lines.now; execs = c.args.passes.execs; callers = c.args.passes.callers; starters = c.args.passes.starters }) ok (λ (caller : ℕ). g.D.One.Conduct.does (g.D.Conducts.of c.args.conducts caller)) c.in_ok-ran.ran.0.callers.items c.in_ok-ran.ensures.callers
-
-pub settle-requires-clause-actors : goal.settle-requires-clause-actors
-settle-requires-clause-actors g c =
-    let ok = c.requires.opening in
-    actors_sit g.K.Actor.state c.args.prepared.casts.items c.args.prepared.setups.items (record { lines = c.args.lines.now; execs = c.args.passes.execs; callers = c.args.passes.callers; starters = c.args.passes.starters }) ok c.in_ok-ran.ran.0.actors.items c.in_ok-ran.ensures.actors
-
-pub settle-requires-clause-callers : goal.settle-requires-clause-callers
-settle-requires-clause-callers g c =
-    let ok = c.requires.opening in
-    callers_sit g.K.Actor.state c.args.prepared.casts.items c.args.prepared.setups.items (record { lines = c.args.lines.now; execs = c.args.passes.execs; callers = c.args.passes.callers; starters = c.args.passes.starters }) ok (λ (caller : ℕ). g.D.One.Conduct.does (g.D.Conducts.of c.args.conducts caller)) c.in_ok-ran.ran.0.callers.items c.in_ok-ran.ensures.callers
-
-pub settle-requires-clause-starters : goal.settle-requires-clause-starters
-settle-requires-clause-starters g c = starters_sit c.args.lines.now.controls.items c.in_ok-ran.ran.0.starters.items c.in_ok-ran.ensures.starters
+    let does = λ (caller : ℕ). g.D.One.Conduct.does (g.D.Conducts.of c.args.conducts caller) in
+    let actors = c.in_ok-ends.ends.actors.items in
+    let callers = c.in_ok-ends.ends.callers.items in
+    let served = all_served state opened.lines casts opened.execs.items c.in_ok-servings.servings.items actors ok.execs.0 c.in_ok-servings.ensures.starts c.in_ok-ends.ensures.actors in
+    let driven = all_driven g.D.One.Conduct.does opened.lines (g.D.Conducts.of c.args.conducts) setups opened.callers.items c.in_ok-drivings.drivings.items callers ok.callers.0 c.in_ok-drivings.ensures.starts c.in_ok-ends.ensures.callers in
+    let of_endpoints = subst (λ (l : List ControlView). AreStarters l c.in_ok-starter.starter.endpoints.items) c.as_slice-2.ensures.value c.in_ok-starter.ensures.starters in
+    let starters = subst (λ (l : List (Endpoint (PutterView Asked ℕ))). AreStarters opened.lines.controls.items l) (sym c.in_ok-ends.ensures.starters) of_endpoints in
+    record {
+      mails = mail_lines state casts setups opened ok actors served;
+      controls = control_lines state casts setups opened ok actors served;
+      replies = reply_lines state casts setups opened ok does callers driven;
+      actors = actors_sit state casts setups opened ok actors served;
+      callers = callers_sit state casts setups opened ok does callers driven;
+      starters = starters_sit opened.lines.controls.items c.in_ok-ends.ends.starters.items starters;
+    }
 
 pub returns-clause-joined : goal.returns-clause-joined
 returns-clause-joined g c =
+    let state = g.K.Actor.state in
+    let casts = c.args.prepared.casts.items in
+    let setups = c.args.prepared.setups.items in
+    let opened = c.args.opened in
     let ok = c.requires.opening in
-    record { opened = (record { lines = c.args.lines.now; execs = c.args.passes.execs; callers = c.args.passes.callers; starters = c.args.passes.starters }); ends = c.in_ok-ran.ran.0; matched = c.requires.matched; opening = ok; served = c.in_ok-ran.ensures.actors; driven = c.in_ok-ran.ensures.callers; starters = c.in_ok-ran.ensures.starters; compared = c.in_ok-joined.ensures }
+    let ends = c.in_ok-ends.ends in
+    let of_endpoints = subst (λ (l : List ControlView). AreStarters l c.in_ok-starter.starter.endpoints.items) c.as_slice-2.ensures.value c.in_ok-starter.ensures.starters in
+    record {
+      opened = opened;
+      ends = ends;
+      matched = c.requires.matched;
+      opening = ok;
+      served = all_served state opened.lines casts opened.execs.items c.in_ok-servings.servings.items ends.actors.items ok.execs.0 c.in_ok-servings.ensures.starts c.in_ok-ends.ensures.actors;
+      driven = all_driven g.D.One.Conduct.does opened.lines (g.D.Conducts.of c.args.conducts) setups opened.callers.items c.in_ok-drivings.drivings.items ends.callers.items ok.callers.0 c.in_ok-drivings.ensures.starts c.in_ok-ends.ensures.callers;
+      starters = subst (λ (l : List (Endpoint (PutterView Asked ℕ))). AreStarters opened.lines.controls.items l) (sym c.in_ok-ends.ensures.starters) of_endpoints;
+      compared = c.in_ok-joined.ensures;
+    }

@@ -1,7 +1,5 @@
-use Rattle.act_executor.proofs.Common.{rules, ◌≡◌, ◌<◌, ◌++◌, ◌∷◌, List, length, map, zip, All, ◌⊎◌, inl, inr, ap, sym, ◌∙◌, subst, into_iter_items}
-use Rattle.act_executor.proofs.Common.{Endpoint, ExecPasses, Cast, CallersDiffer, Each, IsExec, serving_start, cast_start, Actor, All-head, All-tail}
-use Rattle.std.proofs.lemmas.List.{append-nil}
-use Rattle.act_rules.proofs.Places.{append_over, nothing_zips}
+use Rattle.act_executor.proofs.Common.{rules, ◌≡◌, ◌++◌, ◌∷◌, List, length, map, zip, ◌⊎◌, inl, inr, ap, sym, ◌∙◌, subst, into_iter_items, Endpoint, ExecPasses}
+use Rattle.act_executor.proofs.Common.{Cast, Each, MayServe, serving_start, cast_start, append-nil, append_over, nothing_zips}
 use Rattle.act_executor.proofs.Lists.Places.{each_pop}
 use Rattle.act_executor.proofs.work.servings.Goals as goal
 
@@ -12,28 +10,18 @@ loop-cast-init g c =
     let first : casts ≡ c.args.casts.items = search rules in
     let second : execs ≡ c.args.execs.items = search rules in
     let start = cast_start g.K.Actor.state c.args.lines.now.replies.items in
-    let At : List (Cast _) × List (Endpoint ExecPasses) → Type 0 = λ p. Each (IsExec c.args.lines.now) p.0 p.1 in
+    let At : List (Cast _) × List (Endpoint ExecPasses) → Type 0 = λ p. Each (MayServe c.args.lines.now) p.0 p.1 in
     record {
       first_long = search rules;
       second_long = search rules;
-      callers = subst (λ (l : List (Cast _)). All (λ (cast : Cast _). CallersDiffer cast.callers) l) (sym first) c.requires.callers;
-      places = subst (λ (l : List (Endpoint ExecPasses)). All (λ (exec : Endpoint ExecPasses). (exec.place < length c.args.lines.now.mails.items) × (exec.place < length c.args.lines.now.controls.items)) l) (sym second) c.requires.places;
-      execs = subst At (λ i. (sym first i, sym second i)) c.requires.execs;
+      serve = subst At (λ i. (sym first i, sym second i)) c.requires;
       ready = search rules;
       starts = ap (λ l. map (serving_start g.K.Actor.state) l ++ map start (zip casts execs)) c.new-servings.ensures.items
           ∙ (λ i. map start (zip (first i) (second i)));
     }
 
-pub add_serving-requires-clause-callers : goal.add_serving-requires-clause-callers
-add_serving-requires-clause-callers g c = All-head (λ (cast : Cast _). CallersDiffer cast.callers) _ _ (subst (λ (l : List (Cast _)). All (λ (cast : Cast _). CallersDiffer cast.callers) l) c.in-Some.ensures.steps.0.0 c.loop-cast.invariant.callers)
-
-pub add_serving-requires-clause-place : goal.add_serving-requires-clause-place
-add_serving-requires-clause-place g c =
-    let P : Endpoint ExecPasses → Type 0 = λ exec. (exec.place < length c.args.lines.now.mails.items) × (exec.place < length c.args.lines.now.controls.items) in
-    All-head P _ _ (subst (λ (l : List (Endpoint ExecPasses)). All P l) c.in-Some.ensures.steps.1.0 c.loop-cast.invariant.places)
-
-pub add_serving-requires-clause-exec : goal.add_serving-requires-clause-exec
-add_serving-requires-clause-exec g c = (each_pop (IsExec c.args.lines.now) _ _ _ _ _ _ c.in-Some.ensures.steps.0.0 c.in-Some.ensures.steps.1.0 c.loop-cast.invariant.execs).0
+pub add_serving-requires-clause-serves : goal.add_serving-requires-clause-serves
+add_serving-requires-clause-serves g c = (each_pop (MayServe c.args.lines.now) _ _ _ _ _ _ c.in-Some.ensures.steps.0.0 c.in-Some.ensures.steps.1.0 c.loop-cast.invariant.serve).0
 
 pub loop-cast-preserved : goal.loop-cast-preserved
 loop-cast-preserved g c =
@@ -45,15 +33,11 @@ loop-cast-preserved g c =
     let execs = into_iter_items c.next.new.self.b in
     let first : into_iter_items c.loop-cast.cast-iterator.a ≡ c.in-Some.cast ∷ casts = c.in-Some.ensures.steps.0.0 in
     let second : into_iter_items c.loop-cast.cast-iterator.b ≡ c.in-Some.exec ∷ execs = c.in-Some.ensures.steps.1.0 in
-    let P : Endpoint ExecPasses → Type 0 = λ exec. (exec.place < length c.args.lines.now.mails.items) × (exec.place < length c.args.lines.now.controls.items) in
-    let Q : Cast _ → Type 0 = λ cast. CallersDiffer cast.callers in
     let rest = map (cast_start state replies) (zip casts execs) in
     record {
       first_long = search (rules, first);
       second_long = search (rules, second);
-      callers = All-tail Q _ _ (subst (λ (l : List (Cast _)). All Q l) first inv.callers);
-      places = All-tail P _ _ (subst (λ (l : List (Endpoint ExecPasses)). All P l) second inv.places);
-      execs = (each_pop (IsExec c.args.lines.now) _ _ _ _ _ _ first second inv.execs).1;
+      serve = (each_pop (MayServe c.args.lines.now) _ _ _ _ _ _ first second inv.serve).1;
       ready = c.in_ok-add_serving.ensures.ready;
       starts = ap (λ l. l ++ rest) c.in_ok-add_serving.ensures.starts ∙ append_over (map (serving_start state) before) (cast_start state replies (c.in-Some.cast, c.in-Some.exec)) rest
           ∙ (λ i. map (serving_start state) before ++ map (cast_start state replies) (zip (sym first i) (sym second i))) ∙ inv.starts;
