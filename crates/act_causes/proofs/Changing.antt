@@ -1,15 +1,14 @@
 -- A caller that copies, releases, submits, sends, or asks a kill.
-use Rattle.act_causes.proofs.Common.{◌≡◌, ℕ, ◌+◌, ◌<◌, ◌≤◌, Bool, true, false, cond, List, ◌∷◌, ◌++◌, length, Option, Some, None, Ok, All, inl, inr, refl}
-use Rattle.act_causes.proofs.Common.{ap, sym, ◌∙◌, subst, arith, get_or, ◌==◌, find, slice_get, slice_set, unwrap_or, is_some, nat_lt, list_all, eqb-true}
-use Rattle.act_causes.proofs.Common.{eqb_tells, get_or-set_same, length-set, slice_get_within, slice_get-get_or, Arg, Method, KillNote, Submit, Copy}
-use Rattle.act_causes.proofs.Common.{Release, Send, AskKill, Submission, Future, Copies, Mail, Asked, HandleRefusal, NoActor, NoHandle, NotReady, needs}
-use Rattle.act_causes.proofs.Common.{number_of, is_known, copies_held, copy_refusal, handle_refusal, send_refusal, ActorSpec, History, names, add_event}
-use Rattle.act_causes.proofs.Common.{needs-none, find-tells, copies_in, or_else, with_copy, without_copy, OwnerView, is_sent, address_at, refusal_to_submit}
+use Rattle.act_causes.proofs.Common.{◌≡◌, ℕ, ◌+◌, ◌<◌, ◌≤◌, Bool, true, false, cond, List, ◌∷◌, ◌++◌, length, Option, Some, None, Ok, All, inl, inr, refl, ap}
+use Rattle.act_causes.proofs.Common.{sym, ◌∙◌, subst, arith, get_or, ◌==◌, find, slice_get, slice_set, unwrap_or, is_some, nat_lt, list_all, eqb-true}
+use Rattle.act_causes.proofs.Common.{eqb_tells, get_or-set_same, length-set, slice_get_within, slice_get-get_or, Arg, Method, KillNote, Submit, Copy, Release}
+use Rattle.act_causes.proofs.Common.{Send, AskKill, Submission, Future, Copies, Mail, Asked, HandleRefusal, NoActor, NoHandle, NotReady, needs, number_of}
+use Rattle.act_causes.proofs.Common.{is_known, copies_held, copy_refusal, handle_refusal, send_refusal, ActorSpec, History, names, add_event, needs-none}
+use Rattle.act_causes.proofs.Common.{find-tells, copies_in, or_else, with_copy, without_copy, OwnerView, is_sent, address_at, refusal_to_submit}
 use Rattle.act_causes.proofs.Common.{sending_refusal, release_note, with_handles, with_submission, with_sent, Action, Copied, Released, Submitted, Sent}
 use Rattle.act_causes.proofs.Common.{after_action, is_known_at, cast_at, NetworkView, is_owner, SlotView, ask_follows, copy_follows, contains-last}
 use Rattle.act_causes.proofs.Common.{get_set-same, release_follows, last_follows, is_named, send_follows, submit_follows, Site, IsNamed, owner_by, Caller}
-use Rattle.act_causes.proofs.Common.{KillAsked, []}
-use Rattle.act_world.specs.declared.network.MailEntry.TheVariants.{Call as CallEntry, Note as NoteEntry}
+use Rattle.act_causes.proofs.Common.{KillAsked, [], CallEntry, NoteEntry}
 use Rattle.act_causes.proofs.Made.{owner_changed, owner_other, owner_asked, owner_id, by_caller, actors_stay}
 use Rattle.act_causes.proofs.Places.{IsFoundAt, found_at, written_here, written_other}
 use Rattle.act_causes.proofs.Keeping.{Keeps, GoesOn, go_on, cast_is, owner_of}

@@ -1,12 +1,10 @@
 -- A caller that collects a notice.
-use Rattle.act_causes.proofs.Common.{◌≡◌, ℕ, ◌<◌, ◌≤◌, Bool, true, false, cond, List, length, Option, Some, None, All, refl, ap, sym, ◌∙◌, subst, arith}
-use Rattle.act_causes.proofs.Common.{get_or, Contains, slice_get, slice_set, option_map, option_and_then, unwrap_or, is_some, slice_get-get_or, KindState}
-use Rattle.act_causes.proofs.Common.{Notice, Answered, Death, Reply, Collect, Post, RunItem, WorldRefusal, NoReply, Answer, answer_at, needs, ActorSpec}
-use Rattle.act_causes.proofs.Common.{History, runs_of, answer_of, did, refusal_of, outcome_by, add_event, copies_in, Noticed, Posted, told_collected}
-use Rattle.act_causes.proofs.Common.{reply_as, reply_at, posted_notice, collect_follows, get_set-same, Site, Action, IsNamed, IsReplyGiven, owner_by}
-use Rattle.act_causes.proofs.Common.{IsEventOf, Actor, Caller, DeathTold}
-use Rattle.act_rules.specs.declared.history.Post.TheVariants.{Reply as ReplyPost, Death as DeathPost}
-use Rattle.act_owner.specs.Owner.{OwnerView, is_known_dead as knows_dead, collect_result, after_collect, with_death, KnowsDeath}
+use Rattle.act_causes.proofs.Common.{◌≡◌, ℕ, ◌<◌, ◌≤◌, Bool, true, false, cond, List, length, Option, Some, None, All, refl, ap, sym, ◌∙◌, subst, arith, get_or}
+use Rattle.act_causes.proofs.Common.{Contains, slice_get, slice_set, option_map, option_and_then, unwrap_or, is_some, slice_get-get_or, KindState, Notice}
+use Rattle.act_causes.proofs.Common.{Answered, Death, Reply, Collect, Post, RunItem, WorldRefusal, NoReply, Answer, answer_at, needs, ActorSpec, History}
+use Rattle.act_causes.proofs.Common.{runs_of, answer_of, did, refusal_of, outcome_by, add_event, copies_in, Noticed, Posted, told_collected, reply_as, reply_at}
+use Rattle.act_causes.proofs.Common.{posted_notice, collect_follows, get_set-same, Site, Action, IsNamed, IsReplyGiven, owner_by, IsEventOf, Actor, Caller}
+use Rattle.act_causes.proofs.Common.{DeathTold, ReplyPost, DeathPost, OwnerView, knows_dead, collect_result, after_collect, with_death, KnowsDeath}
 use Rattle.act_causes.proofs.Made.{marks_are, by_caller, actors_stay}
 use Rattle.act_causes.proofs.Marks.{HasPost}
 use Rattle.act_causes.proofs.Keeping.{Keeps, GoesOn, go_on, cast_is}

@@ -1,19 +1,15 @@
 -- An actor that takes a kill, tells its death, or retires.
-use Rattle.act_causes.proofs.Common.{◌≡◌, ℕ, true, false, List, ◌∷◌, ◌++◌, length, Option, Some, None, Ok, refl, ap, sym, ◌∙◌, Contains, slice_get}
-use Rattle.act_causes.proofs.Common.{slice_set, eqb-true, Death, ReleaseNote, TakeKill, Tell, Retire, RunItem, items_of, ActorSpec, History, cast_of, names}
-use Rattle.act_causes.proofs.Common.{has_letter, add_event, handed_of, note_of, OwnerView, RetiredView, cast_at, NetworkView, SlotView, Runs, Ended}
-use Rattle.act_causes.proofs.Common.{is_dead_slot, dead_slot, is_note_of, IsStage, still_lives, kill_follows, retire_follows, Site, Action, Actor, Caller}
-use Rattle.act_causes.proofs.Common.{actions_of, KillAsked, contains, ActorMayDo, DeathTold, KillTaken, NoteTaken, Retirement, has_died_in, KillNote}
-use Rattle.act_causes.proofs.Common.{has_ended_in, log_of, is_some, []}
-use Rattle.act_rules.specs.declared.history.Letter.TheVariants.{Note as NoteLetter}
-use Rattle.act_rules.specs.declared.history.Post.TheVariants.{Death as DeathPost}
-use Rattle.act_rules.specs.declared.outcome.Did.TheVariants.{Dead, Told, Retired as DidRetire}
+use Rattle.act_causes.proofs.Common.{◌≡◌, ℕ, true, false, List, ◌∷◌, ◌++◌, length, Option, Some, None, Ok, refl, ap, sym, ◌∙◌, Contains, slice_get, slice_set}
+use Rattle.act_causes.proofs.Common.{eqb-true, Death, ReleaseNote, TakeKill, Tell, Retire, RunItem, items_of, ActorSpec, History, cast_of, names, has_letter}
+use Rattle.act_causes.proofs.Common.{add_event, handed_of, note_of, OwnerView, RetiredView, cast_at, NetworkView, SlotView, Runs, Ended, is_dead_slot}
+use Rattle.act_causes.proofs.Common.{dead_slot, is_note_of, IsStage, still_lives, kill_follows, retire_follows, Site, Action, Actor, Caller, actions_of}
+use Rattle.act_causes.proofs.Common.{KillAsked, contains, ActorMayDo, DeathTold, KillTaken, NoteTaken, Retirement, has_died_in, KillNote, has_ended_in, log_of}
+use Rattle.act_causes.proofs.Common.{is_some, [], NoteLetter, DeathPost, Dead, Told, DidRetire, some_cast}
 use Rattle.act_world.proofs.Telling.{tell_follows, dead_is as dead_seen_is}
 use Rattle.act_causes.proofs.Made.{owner_same, dead_is, by_actor, actors_stay, actors_killed, actors_retired}
 use Rattle.act_causes.proofs.Marks.{last_post}
 use Rattle.act_causes.proofs.Keeping.{Keeps, GoesOn, go_on, cast_is}
 use Rattle.act_causes.proofs.Standing.{Lives, lives, inboxes_set, naming_free}
-use Rattle.act_rules.proofs.Events.{some_cast}
 use Rattle.act_causes.proofs.Sites.{deed_of}
 
 note_is : (n : ℕ) (o : Option ℕ) → is_note_of n o ≡ true → o ≡ Some n

@@ -3,10 +3,9 @@ use Rattle.act_causes.proofs.Common.{◌≡◌, ◌≢◌, ℕ, zero, suc, ◌�
 use Rattle.act_causes.proofs.Common.{Contains, ◌==◌, pos, eqb-true, All-nil, All-cons, CounterAt, Plain, Good, Answered, Death, Reply, ReleaseNote, RunItem}
 use Rattle.act_causes.proofs.Common.{ActorSpec, items_of, All-two, Copied, Released, Submitted, Sent, Noticed, packet_of_item, Site, Action, AreCaused}
 use Rattle.act_causes.proofs.Common.{SpecsFit, IsGiven, Actor, Caller, actions_of, owner_by, CallerMayDo, KillAsked, cast_at, contains, ActorMayDo, CallRun}
-use Rattle.act_causes.proofs.Common.{DeathTold, KillTaken, CallTaken, NoteTaken, Retirement, Some, KillNote, IsCaused, [], ◌||◌}
+use Rattle.act_causes.proofs.Common.{DeathTold, KillTaken, CallTaken, NoteTaken, Retirement, Some, KillNote, IsCaused, [], ◌||◌, note_after_calls}
 use Rattle.act_types.specs.declared.call.Method.TheVariants as method
 use Rattle.act_types.specs.declared.call.Value.TheVariants as value
-use Rattle.act_actor.specs.Actor.{note_after_calls}
 
 -- a counter that this caller may call
 abbrev counter : ℕ → ActorSpec

@@ -2,11 +2,9 @@
 use Rattle.act_causes.proofs.Common.{◌≡◌, ℕ, zero, suc, Bool, true, false, List, ◌∷◌, ◌++◌, Option, Some, None, refl, ap, sym, ◌∙◌, subst, filter_map}
 use Rattle.act_causes.proofs.Common.{slice_get, unwrap_or, replicate, list_any, cons_option, append-nil, append_assoc, Answered, Death, Event, Letter, Post}
 use Rattle.act_causes.proofs.Common.{RunItem, ActorSpec, History, kept_of, next_item, history, add_event, after_run, and_also, is_known_dead, Noticed}
-use Rattle.act_causes.proofs.Common.{is_death_to, Site, Action, owner_by, IsEventOf, IsPlayOfDeeds, run_collected, Actor, Caller, left_by, opened_of}
-use Rattle.act_causes.proofs.Common.{CallRun, CallTaken, NoteTaken, Copied, DeathTold, KillAsked, KillTaken, Released, Retirement, Sent, Submitted, []}
-use Rattle.act_causes.proofs.Common.{AskKill, Collect, Copy, Deliver, Release, Retire, Run, Send, Submit, TakeKill, Tell}
-use Rattle.act_rules.specs.declared.history.Letter.TheVariants.{Call as CallLetter, Note as NoteLetter}
-use Rattle.act_rules.specs.declared.history.Post.TheVariants.{Reply as ReplyPost, Death as DeathPost}
+use Rattle.act_causes.proofs.Common.{is_death_to, Site, Action, owner_by, IsEventOf, IsPlayOfDeeds, run_collected, Actor, Caller, left_by, opened_of, CallRun}
+use Rattle.act_causes.proofs.Common.{CallTaken, NoteTaken, Copied, DeathTold, KillAsked, KillTaken, Released, Retirement, Sent, Submitted, [], AskKill, Collect}
+use Rattle.act_causes.proofs.Common.{Copy, Deliver, Release, Retire, Run, Send, Submit, TakeKill, Tell, CallLetter, NoteLetter, ReplyPost, DeathPost}
 use Rattle.act_causes.proofs.Keeping.{Keeps, told_of, owner_of, is_named}
 
 -- each caller's answers are kept as the deeds leave them, and of each actor that it knows to be dead it collected that

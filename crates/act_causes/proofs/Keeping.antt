@@ -6,12 +6,10 @@ use Rattle.act_causes.proofs.Common.{ActorSpec, History, contains, cast_of, name
 use Rattle.act_causes.proofs.Common.{refusal_of, outcome_by, outcome_of, add_event, after_run, after_by, after, whole_front, more_front, added_grows}
 use Rattle.act_causes.proofs.Common.{contains_more, IsInbox, packet_at, is_sent, Sent, is_known_at, cast_at, is_owner, SlotView, Runs, WorldView, IsOwnerOf}
 use Rattle.act_causes.proofs.Common.{IsOwnerAt, Refines, IsLawful, lawful_step, named_caller, Site, Action, IsNamed, owner_by, IsEventOf, named_call, Actor}
-use Rattle.act_causes.proofs.Common.{Caller, action_at, actions_of, left_by, KillAsked, DeathTold, CallTaken, NoteTaken, []}
-use Rattle.act_rules.specs.declared.history.Letter.TheVariants.{Call as CallLetter, Note as NoteLetter}
-use Rattle.act_rules.specs.declared.history.Post.TheVariants.{Death as DeathPost}
+use Rattle.act_causes.proofs.Common.{Caller, action_at, actions_of, left_by, KillAsked, DeathTold, CallTaken, NoteTaken, [], CallLetter, NoteLetter, DeathPost}
+use Rattle.act_causes.proofs.Common.{has_front}
 use Rattle.act_causes.proofs.Made.{known_on, sent_on, AreActorsOf}
 use Rattle.act_causes.proofs.Marks.{HasPost, AreReplied, AreNoted, post_stays, replied_step, noted_step}
-use Rattle.act_rules.proofs.Letters.{has_front}
 
 -- ---- what each deed has left
 

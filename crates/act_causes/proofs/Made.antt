@@ -1,11 +1,11 @@
 -- What one deed more makes of each caller and of each actor.
 use Rattle.act_causes.proofs.Common.{◌≡◌, ◌≢◌, ℕ, Bool, true, false, cond, List, ◌∷◌, ◌++◌, length, Option, Some, None, refl, ap, sym, ◌∙◌, subst, ◌==◌}
 use Rattle.act_causes.proofs.Common.{is_some, cons_option, list_any, or-false, append-nil, length-set, filter_map-append, list_any-append, Answered, Death}
-use Rattle.act_causes.proofs.Common.{Reply, RunItem, ActorSpec, History, contains, runs_of, under, is_dead, is_ended, has_terminated, kept_at, copies_in}
-use Rattle.act_causes.proofs.Common.{First, Late, Stray, OwnerView, packet_at, is_sent, with_death, after_reply_that, is_of_call, Action, Noticed}
-use Rattle.act_causes.proofs.Common.{after_action, after_actions, is_known_at, step, places_all, packet_stays_all, after_all-append, sent_stays_all}
-use Rattle.act_causes.proofs.Common.{under-push, ran_on, Site, owner_by, Actor, Caller, action_at, actions_of, left_by, opened_of, KillAsked, CallRun}
-use Rattle.act_causes.proofs.Common.{KillTaken, Retirement, call_run, has_died_in, has_ended_in, is_kill_taken, is_retirement, log_of, KillNote, [], ◌||◌}
+use Rattle.act_causes.proofs.Common.{Reply, RunItem, ActorSpec, History, contains, runs_of, under, is_dead, is_ended, has_terminated, kept_at, copies_in, First}
+use Rattle.act_causes.proofs.Common.{Late, Stray, OwnerView, packet_at, is_sent, with_death, after_reply_that, is_of_call, Action, Noticed, after_action}
+use Rattle.act_causes.proofs.Common.{after_actions, is_known_at, step, places_all, packet_stays_all, after_all-append, sent_stays_all, under-push, ran_on, Site}
+use Rattle.act_causes.proofs.Common.{owner_by, Actor, Caller, action_at, actions_of, left_by, opened_of, KillAsked, CallRun, KillTaken, Retirement, call_run}
+use Rattle.act_causes.proofs.Common.{has_died_in, has_ended_in, is_kill_taken, is_retirement, log_of, KillNote, [], ◌||◌}
 use Rattle.act_causes.proofs.Sites.{action_here, action_elsewhere}
 
 -- ---- a caller

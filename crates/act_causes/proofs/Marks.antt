@@ -1,14 +1,12 @@
 -- What every history keeps of replies and notes: each call that ran was replied to, and each last release sent its note.
-use Rattle.act_causes.proofs.Common.{◌≡◌, ℕ, zero, suc, ◌+◌, ◌-◌, ◌<◌, Bool, true, false, cond, List, [], ◌∷◌, ◌++◌, length, Some, None, inl, inr, refl}
-use Rattle.act_causes.proofs.Common.{ap, sym, ◌∙◌, subst, arith, Option, ◌==◌, ◌&&◌, slice_get, option_map, is_some, nat_lt, eqb-true, eq-eqb, ltb-true}
-use Rattle.act_causes.proofs.Common.{and_parts, eqb_tells, Event, Submit, Copy, Release, Send, Deliver, Run, Collect, AskKill, TakeKill, Tell, Retire, Letter}
-use Rattle.act_causes.proofs.Common.{Post, RunItem, Submission, NoActor, NoHandle, TooManyCopies, NoCaller, Handle, IsPrefix, calls_to, needs, copies_held}
+use Rattle.act_causes.proofs.Common.{◌≡◌, ℕ, zero, suc, ◌+◌, ◌-◌, ◌<◌, Bool, true, false, cond, List, [], ◌∷◌, ◌++◌, length, Some, None, inl, inr, refl, ap}
+use Rattle.act_causes.proofs.Common.{sym, ◌∙◌, subst, arith, Option, ◌==◌, ◌&&◌, slice_get, option_map, is_some, nat_lt, eqb-true, eq-eqb, ltb-true, and_parts}
+use Rattle.act_causes.proofs.Common.{eqb_tells, Event, Submit, Copy, Release, Send, Deliver, Run, Collect, AskKill, TakeKill, Tell, Retire, Letter, Post}
+use Rattle.act_causes.proofs.Common.{RunItem, Submission, NoActor, NoHandle, TooManyCopies, NoCaller, Handle, IsPrefix, calls_to, needs, copies_held}
 use Rattle.act_causes.proofs.Common.{copy_refusal, handle_refusal, ActorSpec, History, opening, is_caller, cast_of, names, count_pairs, calls_of, copies_of}
 use Rattle.act_causes.proofs.Common.{runs_of, has_letter, next_item, refusal_of, add_event, after_run, is_last, and_also, slice_get_front, option_map-none}
-use Rattle.act_causes.proofs.Common.{added_grows, IsKept, needs-none, next_item_caller, times-push, gone_step, has_last, ran_on, runs_here}
-use Rattle.act_causes.proofs.Common.{runs_other, slice_get_pushed, has_front}
-use Rattle.act_rules.specs.declared.history.Letter.TheVariants.{Note as NoteLetter}
-use Rattle.act_rules.specs.declared.history.Post.TheVariants.{Reply as ReplyPost}
+use Rattle.act_causes.proofs.Common.{added_grows, IsKept, needs-none, next_item_caller, times-push, gone_step, has_last, ran_on, runs_here, runs_other}
+use Rattle.act_causes.proofs.Common.{slice_get_pushed, has_front, NoteLetter, ReplyPost}
 
 -- ---- each call that ran was replied to
 

@@ -1,7 +1,7 @@
 -- What threads did, merged by stamps.
-use Rattle.act_causes.proofs.Common.{◌≡◌, ◌≢◌, ℕ, zero, suc, ◌≤◌, ◌<◌, Bool, true, false, cond, List, ◌∷◌, ◌++◌, Option, Some, None, refl, sym, ap, subst}
-use Rattle.act_causes.proofs.Common.{◌∙◌, arith, map, nat_le, AllPairs, cons_option, option_map, leb-true, leb-false, append-nil, leb_tells, eqb_tells, inl}
-use Rattle.act_causes.proofs.Common.{inr, All-from_recursion, recursion_from_All, AllPairs-cons, Site, Caller, Actor, Action, action_at, found_in, Threads}
+use Rattle.act_causes.proofs.Common.{◌≡◌, ◌≢◌, ℕ, zero, suc, ◌≤◌, ◌<◌, Bool, true, false, cond, List, ◌∷◌, ◌++◌, Option, Some, None, refl, sym, ap, subst, ◌∙◌}
+use Rattle.act_causes.proofs.Common.{arith, map, nat_le, AllPairs, cons_option, option_map, leb-true, leb-false, append-nil, leb_tells, eqb_tells, inl, inr}
+use Rattle.act_causes.proofs.Common.{All-from_recursion, recursion_from_All, AllPairs-cons, Site, Caller, Actor, Action, action_at, found_in, Threads}
 use Rattle.act_causes.proofs.Common.{site_number, AreBelow, NeverFall, IsFrontBelow, IsMergeOf, []}
 pub use Rattle.act_causes.proofs.Found.{IsLeast, place_in_front}
 use Rattle.act_causes.proofs.Found.{found_append, found_from}

@@ -3,9 +3,9 @@ use Rattle.act_causes.proofs.Common.{◌≡◌, ◌≢◌, ℕ, ◌<◌, ◌≤�
 use Rattle.act_causes.proofs.Common.{inr, refl, ap, sym, ◌∙◌, subst, arith, ◌==◌, find, slice_get, replicate, nat_lt, list_any, range_with_len, eqb-true}
 use Rattle.act_causes.proofs.Common.{eqb_tells, leb_tells, All-contains, list_any-append, get_or-map-range_with_len, length-map-range_with_len}
 use Rattle.act_causes.proofs.Common.{slice_get-get_or, slice_get_past, map-map, KindState, Packet, ActorSpec, opening, contains, cast_of, names, find-tells}
-use Rattle.act_causes.proofs.Common.{AllPairs-map, InboxView, lane_at_first, IsOpened, no_notes, opened, opened_is_inbox, OwnerView, opened_under}
-use Rattle.act_causes.proofs.Common.{opened_with, Cast, ActorView, cast_at, limits_naming, is_owner, SlotView, Runs, Vacant, WorldView, IsLive, IsStage}
-use Rattle.act_causes.proofs.Common.{IsOwnerAt, Refines, world_lawful, owners_opened, nothing_asked, Site, Action, IsNamed, owner_by, SpecsFit, [], ◌||◌}
+use Rattle.act_causes.proofs.Common.{AllPairs-map, InboxView, lane_at_first, IsOpened, no_notes, opened, opened_is_inbox, OwnerView, opened_under, opened_with}
+use Rattle.act_causes.proofs.Common.{Cast, ActorView, cast_at, limits_naming, is_owner, SlotView, Runs, Vacant, WorldView, IsLive, IsStage, IsOwnerAt, Refines}
+use Rattle.act_causes.proofs.Common.{world_lawful, owners_opened, nothing_asked, Site, Action, IsNamed, owner_by, SpecsFit, [], ◌||◌}
 use Rattle.act_actor.specs.Casts.{actor_spec, actor_limit, callers_named, limits_that_name as limits_of_casts}
 use Rattle.act_causes.proofs.Keeping.{HasInbox, HasLeft, Keeps}
 use Rattle.act_causes.proofs.Marks.{replied_opening, noted_opening}

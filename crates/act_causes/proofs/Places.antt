@@ -1,7 +1,6 @@
 -- Where something stands in a list, once it was found there.
-use Rattle.act_causes.proofs.Common.{◌≡◌, ◌≢◌, ℕ, ◌<◌, Bool, List, length, Option, Some, None, refl, sym, ◌∙◌, get_or}
-use Rattle.act_causes.proofs.Common.{find, position, slice_set, eqb-true, eq-eqb, find-set, find_past, position-Some}
-use Rattle.act_causes.proofs.Common.{find-Some, find-None, position_or_len-Some, OwnerView, is_owner, not_owner}
+use Rattle.act_causes.proofs.Common.{◌≡◌, ◌≢◌, ℕ, ◌<◌, Bool, List, length, Option, Some, None, refl, sym, ◌∙◌, get_or, find, position, slice_set, eqb-true}
+use Rattle.act_causes.proofs.Common.{eq-eqb, find-set, find_past, position-Some, find-Some, find-None, position_or_len-Some, OwnerView, is_owner, not_owner}
 
 -- what is found stands at its place
 pub record IsFoundAt {X : Type 0} (p : X → Bool) (xs : List X) (x : X) : Type 0 where

@@ -2,11 +2,9 @@
 use Rattle.act_causes.proofs.Common.{◌≡◌, List, ◌∷◌, ◌++◌, None, refl, ap, sym, ◌∙◌, subst, Option, IsOk, AllByRecursion, AllZip, cons_option, append-nil}
 use Rattle.act_causes.proofs.Common.{append_assoc, All-from_recursion, filter_map-append, Answered, Death, Event, Letter, Post, WorldRefusal, ActorSpec}
 use Rattle.act_causes.proofs.Common.{History, opening, history, Outcome, outcome_by, outcome_of, outcomes, add_event, after_by, Grows, added_grows, All_more}
-use Rattle.act_causes.proofs.Common.{slice_get_front, outcomes-append, Copied, Released, Submitted, Sent, Noticed, Site, Action, IsCaused, AreCaused}
-use Rattle.act_causes.proofs.Common.{SpecsFit, IsEventOf, Actor, Caller, KillAsked, names, CallRun, DeathTold, KillTaken, CallTaken, NoteTaken, Retirement}
-use Rattle.act_causes.proofs.Common.{[]}
-use Rattle.act_rules.specs.declared.history.Letter.TheVariants.{Call as CallLetter, Note as NoteLetter}
-use Rattle.act_rules.specs.declared.history.Post.TheVariants.{Reply as ReplyPost, Death as DeathPost}
+use Rattle.act_causes.proofs.Common.{slice_get_front, outcomes-append, Copied, Released, Submitted, Sent, Noticed, Site, Action, IsCaused, AreCaused, SpecsFit}
+use Rattle.act_causes.proofs.Common.{IsEventOf, Actor, Caller, KillAsked, names, CallRun, DeathTold, KillTaken, CallTaken, NoteTaken, Retirement, []}
+use Rattle.act_causes.proofs.Common.{CallLetter, NoteLetter, ReplyPost, DeathPost}
 use Rattle.act_rules.proofs.Steps.{after_all-append}
 use Rattle.act_causes.proofs.Changing.{copied, released, submitted, sent, asked}
 use Rattle.act_causes.proofs.Collecting.{heard_death, heard_reply}

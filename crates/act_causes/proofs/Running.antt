@@ -1,21 +1,17 @@
 -- An actor that runs its caller's next call.
-use Rattle.act_causes.proofs.Common.{◌≡◌, ℕ, Bool, true, false, cond, List, ◌∷◌, ◌++◌, length, Option, Some, None, refl, ap, sym, ◌∙◌, subst, IfSome}
-use Rattle.act_causes.proofs.Common.{slice_get, slice_set, option_map, eq-eqb, Packet, Answered, Reply, Run, RunItem, Submission, Answer, after_item}
-use Rattle.act_causes.proofs.Common.{items_of, has_terminated, calls_to, number_of, ActorSpec, History, cast_of, names, calls_of, kept_of, ran_count}
-use Rattle.act_causes.proofs.Common.{has_letter, run_item, next_item, after_run, calls_to-number, Lane, IsInbox, InboxView, is_lane_of, lane_of, next_of}
-use Rattle.act_causes.proofs.Common.{IsNextTaken, one_more, unlisted_next, listed_next, sound_then, next_taken, ActorView, cast_at, Runs, dead_slot}
-use Rattle.act_causes.proofs.Common.{bury_ended, HasRunNext, IsOwnerOf, still_lives, next_is, item_is, run_follows, Site, Action, owner_by, Actor}
-use Rattle.act_causes.proofs.Common.{actions_of, ActorMayDo, CallRun, CallTaken, []}
-use Rattle.act_rules.specs.declared.history.Letter.TheVariants.{Call as CallLetter}
-use Rattle.act_rules.specs.declared.outcome.Did.TheVariants.{Ran as DidRun}
-use Rattle.act_owner.specs.Owner.{OwnerView, packet_for as packet_made, packet_at}
-use Rattle.act_actor.specs.Actor.{item_of as item_made, packet_of_item, reply_of_run, next_call, HasRunCall}
+use Rattle.act_causes.proofs.Common.{◌≡◌, ℕ, Bool, true, false, cond, List, ◌∷◌, ◌++◌, length, Option, Some, None, refl, ap, sym, ◌∙◌, subst, IfSome, slice_get}
+use Rattle.act_causes.proofs.Common.{slice_set, option_map, eq-eqb, Packet, Answered, Reply, Run, RunItem, Submission, Answer, after_item, items_of}
+use Rattle.act_causes.proofs.Common.{has_terminated, calls_to, number_of, ActorSpec, History, cast_of, names, calls_of, kept_of, ran_count, has_letter}
+use Rattle.act_causes.proofs.Common.{run_item, next_item, after_run, calls_to-number, Lane, IsInbox, InboxView, is_lane_of, lane_of, next_of, IsNextTaken}
+use Rattle.act_causes.proofs.Common.{one_more, unlisted_next, listed_next, sound_then, next_taken, ActorView, cast_at, Runs, dead_slot, bury_ended, HasRunNext}
+use Rattle.act_causes.proofs.Common.{IsOwnerOf, still_lives, next_is, item_is, run_follows, Site, Action, owner_by, Actor, actions_of, ActorMayDo, CallRun}
+use Rattle.act_causes.proofs.Common.{CallTaken, [], CallLetter, DidRun, OwnerView, packet_made, packet_at, item_made, packet_of_item, reply_of_run, next_call}
+use Rattle.act_causes.proofs.Common.{HasRunCall, some_cast}
 use Rattle.act_causes.proofs.Keeping.{Keeps, GoesOn, HasInbox, go_on, named_is, cast_is, owner_of}
 use Rattle.act_causes.proofs.Made.{AreActorsOf, owner_same, actors_ran}
 use Rattle.act_causes.proofs.Sites.{deed_of}
 use Rattle.act_causes.proofs.Places.{found_at}
 use Rattle.act_causes.proofs.Standing.{lives, inboxes_set}
-use Rattle.act_rules.proofs.Events.{some_cast}
 
 -- ---- the actor
 

@@ -1,8 +1,8 @@
 -- Where an actor stands in the world of the deeds.
 use Rattle.act_causes.proofs.Common.{◌≡◌, ℕ, Bool, true, false, List, Option, Some, None, inl, inr, refl, ap, sym, ◌∙◌, subst, find, slice_get, slice_set}
 use Rattle.act_causes.proofs.Common.{is_some, eqb_tells, NoActor, Handle, ActorSpec, History, cast_of, names, is_caller, is_dead, is_retired, is_ended}
-use Rattle.act_causes.proofs.Common.{copies_in, OwnerView, ActorView, cast_at, is_owner, naming_refusal, SlotView, Runs, Died, Ended, Vacant, IsLive}
-use Rattle.act_causes.proofs.Common.{IsStage, named_caller, get_set-same, get_set-other, needs_holds, is_named, Site, Action, IsNamed, owner_by, actions_of}
+use Rattle.act_causes.proofs.Common.{copies_in, OwnerView, ActorView, cast_at, is_owner, naming_refusal, SlotView, Runs, Died, Ended, Vacant, IsLive, IsStage}
+use Rattle.act_causes.proofs.Common.{named_caller, get_set-same, get_set-other, needs_holds, is_named, Site, Action, IsNamed, owner_by, actions_of}
 use Rattle.act_causes.proofs.Common.{has_ended_in, Actor, ◌||◌}
 use Rattle.act_causes.proofs.Made.{ended_is}
 use Rattle.act_causes.proofs.Keeping.{HasInbox, Keeps, cast_is, owner_of}

@@ -1,19 +1,15 @@
 -- An actor that takes a letter.
-use Rattle.act_causes.proofs.Common.{◌≡◌, ℕ, true, List, ◌∷◌, ◌++◌, length, Option, Some, None, Ok, refl, ap, sym, ◌∙◌, subst, slice_get, slice_set}
-use Rattle.act_causes.proofs.Common.{option_map, option_and_then, is_some, Packet, ReleaseNote, Deliver, Letter, Submission, Arrival, Arrived, calls_to}
-use Rattle.act_causes.proofs.Common.{number_of, ActorSpec, History, cast_of, names, calls_of, copies_of, has_letter, add_event, and_also, was_sent, All_at}
-use Rattle.act_causes.proofs.Common.{IsSoundLetter, IsInbox, OwnerView, packet_for, packet_at, is_sent, Sent, is_known_at, ActorView, MailEntry, entry_actor}
-use Rattle.act_causes.proofs.Common.{SlotView, Runs, HasArrived, IsOwnerOf, call_key, mail_entry, deliver_follows, IsNamedLetter, has_last, Site, Action}
-use Rattle.act_causes.proofs.Common.{owner_by, IsSentCall, IsLastNote, IsEventOf, Actor, Caller, actions_of, action_at, CallTaken, NoteTaken, has_ended_in}
-use Rattle.act_causes.proofs.Common.{false, []}
-use Rattle.act_rules.specs.declared.history.Letter.TheVariants.{Call as CallLetter, Note as NoteLetter}
-use Rattle.act_world.specs.declared.network.MailEntry.TheVariants.{Call as CallEntry, Note as NoteEntry}
+use Rattle.act_causes.proofs.Common.{◌≡◌, ℕ, true, List, ◌∷◌, ◌++◌, length, Option, Some, None, Ok, refl, ap, sym, ◌∙◌, subst, slice_get, slice_set, option_map}
+use Rattle.act_causes.proofs.Common.{option_and_then, is_some, Packet, ReleaseNote, Deliver, Letter, Submission, Arrival, Arrived, calls_to, number_of}
+use Rattle.act_causes.proofs.Common.{ActorSpec, History, cast_of, names, calls_of, copies_of, has_letter, add_event, and_also, was_sent, All_at, IsSoundLetter}
+use Rattle.act_causes.proofs.Common.{IsInbox, OwnerView, packet_for, packet_at, is_sent, Sent, is_known_at, ActorView, MailEntry, entry_actor, SlotView, Runs}
+use Rattle.act_causes.proofs.Common.{HasArrived, IsOwnerOf, call_key, mail_entry, deliver_follows, IsNamedLetter, has_last, Site, Action, owner_by, IsSentCall}
+use Rattle.act_causes.proofs.Common.{IsLastNote, IsEventOf, Actor, Caller, actions_of, action_at, CallTaken, NoteTaken, has_ended_in, false, [], CallLetter}
+use Rattle.act_causes.proofs.Common.{NoteLetter, CallEntry, NoteEntry, letter_place, some_cast}
 use Rattle.act_causes.proofs.Inboxes.{takes_call, takes_note}
 use Rattle.act_causes.proofs.Keeping.{Keeps, GoesOn, HasLeft, HasInbox, IsByNamed, go_on, cast_is, owner_of}
 use Rattle.act_causes.proofs.Made.{owner_same, IsNoEnd, by_actor, actors_stay}
 use Rattle.act_causes.proofs.Standing.{Lives, lives, inboxes_set}
-use Rattle.act_rules.proofs.Letters.{letter_place}
-use Rattle.act_rules.proofs.Events.{some_cast}
 
 -- the letter of a call that its caller sent is in the mail
 sent_letter : (h : History) (c k : ℕ) (owner : OwnerView) (packet : Packet) → IsOwnerOf h c owner → is_sent owner k ≡ true → packet_at owner k ≡ Some packet → has_letter (CallLetter c packet.actor packet.number) h.mail ≡ true

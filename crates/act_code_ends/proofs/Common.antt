@@ -14,30 +14,26 @@ pub use Rattle.act_handles.proofs.Lookups.{copies-with_number}
 pub use Rattle.act_handles.specs.Handles.{copies_in}
 pub use Rattle.act_lists.proofs.Lists.{filter_mapped}
 pub use Rattle.act_owner.proofs.Life.{step}
+pub use Rattle.act_owner.specs.Owner.{OwnerView, after_collect, opened_with, with_submission}
 pub use Rattle.act_rules.specs.Actions.{Noticed, Submitted}
-pub use Rattle.act_owner.specs.Owner.{OwnerView, after_collect, call_at, numbered_call, opened_with, with_submission}
-pub use Rattle.act_owner.specs.declared.owner.Call.{Call}
 pub use Rattle.act_rules.specs.History.{ActorSpec, History, calls_of, contains, kept_of, opening}
 pub use Rattle.act_rules.specs.Laws.{history}
-pub use Rattle.act_rules.specs.Rules.{Outcome, outcomes}
+pub use Rattle.act_rules.specs.Rules.{outcomes}
 pub use Rattle.act_rules.specs.RunList.{Answer}
 pub use Rattle.act_rules.specs.Submissions.{kept_at}
 pub use Rattle.act_rules.specs.declared.event.Event.{Event}
-pub use Rattle.act_rules.specs.declared.history.Submission.{Submission}
 pub use Rattle.act_rules.specs.declared.script.Step.{Step}
 pub use Rattle.act_types.specs.KindState.{KindState}
 pub use Rattle.act_types.specs.declared.call.Arg.{Arg}
 pub use Rattle.act_types.specs.declared.call.Method.{Method}
 pub use Rattle.act_types.specs.declared.call.Notice.{Notice}
 pub use Rattle.act_world.proofs.OpenedOwners.{actors_differ, limits_fit}
-pub use Rattle.act_world.specs.IsReachedBy.{HasPlayed, IsReachedBy}
+pub use Rattle.act_world.specs.IsReachedBy.{IsReachedBy}
 pub use Rattle.act_world.specs.Refines.{IsOwnerAt}
-pub use Rattle.act_world.specs.View.{WorldView, world_view}
-pub use Rattle.std.proofs.Common.{All, AllPairs, Bool, IfSome, IsOk, IsTrue, List, None, Option, Some, [], ap, arith, false, filter, get_or, if◌then◌else◌, inl}
-pub use Rattle.std.proofs.Common.{inr, is_some, length, map, option_map, option_to_list, refl, slice_get, subst, suc, sym, take, true, true≢false, zero, ℕ}
-pub use Rattle.std.proofs.Common.{◌++◌, ◌+◌, ◌<◌, ◌↔◌, ◌∙◌, ◌∷◌, ◌≡◌, ◌≢◌, ◌≤◌, ◌⊎◌}
-pub use Rattle.std.proofs.lemmas.List.{take_all, take_more_same}
-pub use Rattle.std.proofs.lemmas.List.Elements.{All-append, All-cons, All-get_or, All-more, All-nil}
-pub use Rattle.std.proofs.lemmas.Option.{get_or_from_slice_get, slice_get_cases}
+pub use Rattle.act_world.specs.View.{world_view}
+pub use Rattle.std.proofs.Common.{All, AllPairs, IfSome, IsOk, List, None, Option, Some, [], ap, arith, filter, is_some, length, map, option_to_list, refl}
+pub use Rattle.std.proofs.Common.{subst, suc, sym, take, true, zero, ℕ, ◌++◌, ◌<◌, ◌∙◌, ◌∷◌, ◌≡◌, ◌≢◌, ◌≤◌}
+pub use Rattle.std.proofs.lemmas.List.{take_all}
+pub use Rattle.std.proofs.lemmas.List.Elements.{All-append, All-cons, All-more, All-nil}
 pub use Rattle.std.proofs.lemmas.Simd.{map-map}
 pub use Rattle.std.specs.List.{list_all}

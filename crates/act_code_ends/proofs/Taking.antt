@@ -7,15 +7,9 @@ use Rattle.act_code_ends.proofs.Common.{Submits, hears_trans, later_trans, notic
 abbrev pub seen_of : OwnerView → List ℕ → List Step → SessionView
 seen_of owner kills did = record (session_view owner) { kills = kills; did = did }
 
-pub places_heard : (owner : OwnerView) (notice : Notice) → length owner.kept ≡ length owner.calls → length (after_collect owner notice).kept ≡ length (after_collect owner notice).calls
+pub places_heard : (owner : OwnerView) (notice : Notice) → length owner.kept ≡ length owner.calls
+    → length (after_collect owner notice).kept ≡ length (after_collect owner notice).calls
 places_heard owner notice places = (step owner (Noticed notice) places).places
-
-pub takes_nothing : (seen : SessionView) → OnlyTakes seen seen
-takes_nothing seen = record {
-  hears = record { calls = refl; handles = refl; kills = refl };
-  on = record { limits = refl; kept = λ k answer has. has };
-  did = refl;
-}
 
 pub takes_more : (old mid new : SessionView) → OnlyTakes old mid → OnlyTakes mid new → OnlyTakes old new
 takes_more old mid new before after = record {
@@ -29,7 +23,8 @@ kept_stays owner notice places k answer has =
     (step owner (Noticed notice) places).kept k (ap is_some has) ∙ has
 
 -- a notice more
-pub takes_one : (owner : OwnerView) (notice : Notice) (kills : List ℕ) (did : List Step) → length owner.kept ≡ length owner.calls → OnlyTakes (seen_of owner kills did) (seen_of (after_collect owner notice) kills did)
+pub takes_one : (owner : OwnerView) (notice : Notice) (kills : List ℕ) (did : List Step) → length owner.kept ≡ length owner.calls
+    → OnlyTakes (seen_of owner kills did) (seen_of (after_collect owner notice) kills did)
 takes_one owner notice kills did places =
     let keeps = notice_keeps owner notice in
     record {
@@ -41,7 +36,8 @@ takes_one owner notice kills did places =
 -- ---- a call more
 
 -- the caller as it was seen, with a call more and other steps
-pub submits_seen : (old mid : SessionView) (owner : OwnerView) (a : ℕ) (method : Method) (args : List Arg) (kills : List ℕ) (did steps : List Step) → seen_of owner kills did ≡ old → mid ≡ seen_of (with_submission owner a method args) kills did
+pub submits_seen : (old mid : SessionView) (owner : OwnerView) (a : ℕ) (method : Method) (args : List Arg) (kills : List ℕ) (did steps : List Step)
+    → seen_of owner kills did ≡ old → mid ≡ seen_of (with_submission owner a method args) kills did
     → Submits (record { actor = a; method = method; args = args }) old (record mid { did = steps })
 submits_seen old mid owner a method args kills did steps is same =
     subst (λ (s : SessionView). Submits (record { actor = a; method = method; args = args }) s (record mid { did = steps })) is (record {
@@ -50,7 +46,8 @@ submits_seen old mid owner a method args kills did steps is same =
       kills = ap (λ (s : SessionView). s.kills) same;
     })
 
-pub later_seen : (old mid : SessionView) (owner : OwnerView) (a : ℕ) (method : Method) (args : List Arg) (kills : List ℕ) (did steps : List Step) → length owner.kept ≡ length owner.calls → seen_of owner kills did ≡ old → mid ≡ seen_of (with_submission owner a method args) kills did
+pub later_seen : (old mid : SessionView) (owner : OwnerView) (a : ℕ) (method : Method) (args : List Arg) (kills : List ℕ) (did steps : List Step)
+    → length owner.kept ≡ length owner.calls → seen_of owner kills did ≡ old → mid ≡ seen_of (with_submission owner a method args) kills did
     → IsLater old (record mid { did = steps })
 later_seen old mid owner a method args kills did steps places is same =
     subst (λ (s : SessionView). IsLater s (record mid { did = steps })) is (record {

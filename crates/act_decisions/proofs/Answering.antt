@@ -1,19 +1,10 @@
 -- What an actor answers, one call after the other.
-use Rattle.act_decisions.proofs.Common.{◌≡◌, ℕ, zero, suc, ◌+◌, ◌<◌, ◌≤◌, ◌==◌, ◌⊎◌, inl, inr, List, [], ◌∷◌, ◌++◌, length, map, take, get_or, slice_get, Option, Some, None, option_map, refl, sym, ap, ◌∙◌, take_more, take_all, map-append, ActorSpec, actor_spec_of, Role, ToldEnd}
-use Rattle.std.specs.Prelude.{find, option_and_then}
-use Rattle.std.proofs.lemmas.List.{length-append}
-use Rattle.std.proofs.lemmas.Option.{same_Some}
+use Rattle.act_decisions.proofs.Common.{◌≡◌, ℕ, zero, suc, ◌+◌, ◌<◌, ◌≤◌, ◌==◌, ◌⊎◌, inl, inr, List, [], ◌∷◌, ◌++◌, length, map, take, get_or, slice_get}
+use Rattle.act_decisions.proofs.Common.{Option, Some, None, option_map, refl, sym, ap, ◌∙◌, take_more, take_all, map-append, ActorSpec, actor_spec_of, Role}
+use Rattle.act_decisions.proofs.Common.{ToldEnd, find, option_and_then, length-append, same_Some, Answer, after_item, answer_at, answers_from, state_after}
+use Rattle.act_decisions.proofs.Common.{opening_state, find-map, answers_from-append, ToldRun, rans_in, Answered, AreAnswers, item_told, answer_told}
 use Rattle.act_types.specs.KindState.{KindState}
-use Rattle.act_rules.specs.RunList.{Answer, after_item, answer_at, answers_from, state_after}
-use Rattle.act_rules.specs.Scripts.{opening_state}
-use Rattle.act_rules.proofs.Lists.{find-map}
-use Rattle.act_rules.proofs.Kept.{answers_from-append}
 use Rattle.act_rules.proofs.RunLists.{state_after-push}
-use Rattle.act_walks.specs.declared.told.ToldRun.{ToldRun}
-use Rattle.act_walks.specs.Fits.{rans_in}
-use Rattle.act_decisions.specs.declared.answers.Answered.{Answered}
-use Rattle.act_decisions.specs.Answered.{AreAnswers}
-use Rattle.act_decisions.specs.Placed.{item_told, answer_told}
 
 -- the answers to the calls so far, and the state after them
 pub record AreSoFar (start : KindState) (runs : List ToldRun) (i : ℕ) (answers : List Answer) (now : KindState) : Type 0 where
@@ -30,7 +21,8 @@ items_more runs i run within is =
 
 -- one call more
 pub one_answer : (start : KindState) (runs : List ToldRun) (i : ℕ) (run : ToldRun) (answers new : List Answer) (now next : KindState) (answer : Answer)
-    → i < length runs → run ≡ get_or runs i run → AreSoFar start runs i answers now → answer ≡ (after_item now (item_told run)).1 → next ≡ (after_item now (item_told run)).0
+    → i < length runs → run ≡ get_or runs i run → AreSoFar start runs i answers now → answer ≡ (after_item now (item_told run)).1
+    → next ≡ (after_item now (item_told run)).0
     → new ≡ answers ++ answer ∷ [] → AreSoFar start runs (i + 1) new next
 one_answer start runs i run answers new now next answer within is so_far answered moved added =
     let items = map item_told (take i runs) in
@@ -43,13 +35,16 @@ one_answer start runs i run answers new now next answer within is so_far answere
     }
 
 -- all of them
-pub all_answered : (start : KindState) (runs : List ToldRun) (i : ℕ) (answers : List Answer) (now : KindState) → length runs ≤ i → AreSoFar start runs i answers now
+pub all_answered : (start : KindState) (runs : List ToldRun) (i : ℕ) (answers : List Answer) (now : KindState) → length runs ≤ i
+    → AreSoFar start runs i answers now
     → answers ≡ answers_from start (map item_told runs)
-all_answered start runs i answers now whole so_far = so_far.answers_are ∙ ap (λ (l : List ToldRun). answers_from start (map item_told l)) (take_all i runs whole)
+all_answered start runs i answers now whole so_far =
+    so_far.answers_are ∙ ap (λ (l : List ToldRun). answers_from start (map item_told l)) (take_all i runs whole)
 
 -- ---- by the actors' roles
 
-find_role : (roles : List Role) (a : ℕ) → find (λ (cast : ActorSpec). cast.actor == a) (map actor_spec_of roles) ≡ option_map actor_spec_of (find (λ (role : Role). role.actor == a) roles)
+find_role : (roles : List Role) (a : ℕ) → find (λ (cast : ActorSpec). cast.actor == a) (map actor_spec_of roles) ≡ option_map actor_spec_of
+    (find (λ (role : Role). role.actor == a) roles)
 find_role roles a = find-map (λ (cast : ActorSpec). cast.actor == a) actor_spec_of roles
 
 -- what an actor is told to answer, by its role
@@ -57,10 +52,12 @@ pub told_by_role : (roles : List Role) (end : ToldEnd) (a p : ℕ) (found : Opti
     → answer_told (map actor_spec_of roles) end a p
     ≡ option_and_then (λ (role : Role). answer_at (opening_state role.kind) (map item_told (rans_in end a)) p) found
 told_by_role roles end a p found is =
-    ap (λ (o : Option ActorSpec). option_and_then (λ (state : KindState). answer_at state (map item_told (rans_in end a)) p) (option_map (λ (cast : ActorSpec). cast.opening) o))
+    ap (λ (o : Option ActorSpec). option_and_then (λ (state : KindState). answer_at state (map item_told (rans_in end a)) p)
+    (option_map (λ (cast : ActorSpec). cast.opening) o))
     (find_role roles a ∙ ap (option_map actor_spec_of) (sym is)) ∙ go found
   where
-    go : (o : Option Role) → option_and_then (λ (state : KindState). answer_at state (map item_told (rans_in end a)) p) (option_map (λ (cast : ActorSpec). cast.opening) (option_map actor_spec_of o))
+    go : (o : Option Role) → option_and_then (λ (state : KindState). answer_at state (map item_told (rans_in end a)) p)
+        (option_map (λ (cast : ActorSpec). cast.opening) (option_map actor_spec_of o))
         ≡ option_and_then (λ (role : Role). answer_at (opening_state role.kind) (map item_told (rans_in end a)) p) o
     go None = refl
     go (Some role) = refl
@@ -69,8 +66,10 @@ pub told_by_none : (roles : List Role) (end : ToldEnd) (a p : ℕ) (answers : Li
     → slice_get answers p ≡ answer_told (map actor_spec_of roles) end a p
 told_by_none roles end a p answers none is = ap (λ (l : List Answer). slice_get l p) none ∙ sym (told_by_role roles end a p None is)
 
-pub told_by_some : (roles : List Role) (end : ToldEnd) (a p : ℕ) (role : Role) (runs : List ToldRun) (answers : List Answer) → Some role ≡ find (λ (role : Role). role.actor == a) roles
-    → runs ≡ rans_in end a → answers ≡ answers_from (opening_state role.kind) (map item_told runs) → slice_get answers p ≡ answer_told (map actor_spec_of roles) end a p
+pub told_by_some : (roles : List Role) (end : ToldEnd) (a p : ℕ) (role : Role) (runs : List ToldRun) (answers : List Answer)
+    → Some role ≡ find (λ (role : Role). role.actor == a) roles
+    → runs ≡ rans_in end a → answers ≡ answers_from (opening_state role.kind) (map item_told runs)
+    → slice_get answers p ≡ answer_told (map actor_spec_of roles) end a p
 told_by_some roles end a p role runs answers is same are =
     ap (λ (l : List Answer). slice_get l p) (are ∙ ap (λ (l : List ToldRun). answers_from (opening_state role.kind) (map item_told l)) same)
     ∙ sym (told_by_role roles end a p (Some role) is)
@@ -92,20 +91,16 @@ pub record AreAnswersTo (casts : List ActorSpec) (end : ToldEnd) (n : ℕ) (all 
   pub long : length all ≡ n
   pub are : AreAnswers casts end all
 
-pub no_actors : (casts : List ActorSpec) (end : ToldEnd) (all : List Answered) → all ≡ [] → AreAnswersTo casts end 0 all
-no_actors casts end all none = record {
-  long = ap (λ (l : List Answered). length l) none;
-  are = λ a told at. absurd (let bad : None ≡ Some told = sym (ap (λ (l : List Answered). slice_get l a) none) ∙ at in cc);
-}
-
-pub one_actor : (casts : List ActorSpec) (end : ToldEnd) (n : ℕ) (all new : List Answered) (told : Answered) → AreAnswersTo casts end n all → new ≡ all ++ told ∷ []
+pub one_actor : (casts : List ActorSpec) (end : ToldEnd) (n : ℕ) (all new : List Answered) (told : Answered) → AreAnswersTo casts end n all
+    → new ≡ all ++ told ∷ []
     → ((p : ℕ) → slice_get told.answers.items p ≡ answer_told casts end n p) → AreAnswersTo casts end (n + 1) new
 one_actor casts end n all new told so_far is own = record {
   long = ap (λ (l : List Answered). length l) is ∙ length-append all (told ∷ []) ∙ ap (λ (m : ℕ). m + 1) so_far.long;
   are = λ a other at p. go a other p (at_push all told other a (ap (λ (l : List Answered). slice_get l a) (sym is) ∙ at));
 }
   where
-    go : (a : ℕ) (other : Answered) (p : ℕ) → (slice_get all a ≡ Some other) ⊎ ((a ≡ length all) × (told ≡ other)) → slice_get other.answers.items p ≡ answer_told casts end a p
+    go : (a : ℕ) (other : Answered) (p : ℕ) → (slice_get all a ≡ Some other) ⊎ ((a ≡ length all) × (told ≡ other))
+        → slice_get other.answers.items p ≡ answer_told casts end a p
     go a other p (inl at) = so_far.are a other at p
     go a other p (inr (here, same)) =
         ap (λ (x : Answered). slice_get x.answers.items p) (sym same) ∙ own p ∙ ap (λ (b : ℕ). answer_told casts end b p) (sym (here ∙ so_far.long))

@@ -1,11 +1,7 @@
 -- Of answers that are left open, the one that the data takes each for.
-use Rattle.act_early.proofs.Common.{◌≡◌, ℕ, zero, suc, ◌&&◌, not, Bool, true, false, cond, List, [], ◌∷◌, length, Option, Some, None}
-use Rattle.act_early.proofs.Common.{refl, ap, slice_get, Answer, kept_at, History}
-use Rattle.act_early.proofs.Common.{is_reply}
-use Rattle.act_rules.specs.History.{answer_of}
-use Rattle.act_walks.specs.declared.told.Left.{Left}
+use Rattle.act_decisions.proofs.Common.{◌≡◌, ℕ, zero, suc, ◌&&◌, not, Bool, true, false, cond, List, [], ◌∷◌, length, Option, Some, None, refl, ap, slice_get}
+use Rattle.act_decisions.proofs.Common.{Answer, kept_at, History, is_reply, answer_of, Left, ToldCall}
 use Rattle.act_walks.specs.declared.told.Left.TheVariants as left
-use Rattle.act_walks.specs.declared.told.ToldCall.{ToldCall}
 
 -- whether a reply is told
 abbrev pub wants_reply : Left → Bool

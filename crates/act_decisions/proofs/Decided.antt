@@ -1,26 +1,10 @@
 -- What a walk decides that doesn't end as steps and lines tell.
-use Rattle.act_early.proofs.Common.{◌≡◌, ℕ, ◌≤◌, ◌==◌, Bool, true, cond, List, length, map, filter, Some, None, inl, inr, sym, ap, ◌∙◌, arith, Event, Step, ActorSpec}
-use Rattle.std.specs.Prelude.{All, IsOk, IsTrue}
-use Rattle.std.specs.List.{list_all}
-use Rattle.std.proofs.lemmas.List.{length-map}
-use Rattle.act_rules.specs.declared.script.Role.{Role}
-use Rattle.act_rules.specs.History.{actors_naming, opening}
-use Rattle.act_rules.specs.Rules.{outcomes}
-use Rattle.act_rules.specs.Plans.{first_bad}
-use Rattle.act_rules.specs.Scripts.{actor_spec_of}
-use Rattle.act_rules.proofs.Lists.{length-filter_least}
-use Rattle.act_scripts.specs.Roles.{AreFitting}
-use Rattle.act_summaries.specs.Summaries.{is_sayable_role}
-use Rattle.act_console.specs.Plans.{steps_of_caller}
-use Rattle.act_walks.specs.declared.told.ToldEnd.{ToldEnd}
-use Rattle.act_walks.specs.Fits.{bound_of}
+use Rattle.act_decisions.proofs.Common.{◌≡◌, ℕ, ◌≤◌, ◌==◌, Bool, true, cond, List, length, map, filter, Some, None, inl, inr, sym, ap, ◌∙◌, arith, Event, Step}
+use Rattle.act_decisions.proofs.Common.{ActorSpec, All, IsOk, IsTrue, list_all, length-map, Role, actors_naming, opening, outcomes, first_bad, actor_spec_of}
+use Rattle.act_decisions.proofs.Common.{length-filter_least, AreFitting, is_sayable_role, steps_of_caller, ToldEnd, bound_of, bound_is, EndsNowhere, IsBadStep}
+use Rattle.act_decisions.proofs.Common.{IsBadIn, Refutes, AllFitSteps, RunsArePlaced, AllDecided, NoValueIsLost, EndsSo, awaits, FollowsTold, HasGoodPlans}
+use Rattle.act_decisions.proofs.Common.{IsLined, IsRead, Matches}
 use Rattle.act_walks.specs.Whole.{Decides, DoesAllSteps}
-use Rattle.act_walks.proofs.Calls.{bound_is}
-use Rattle.act_decisions.specs.Decided.{EndsNowhere, IsBadStep, IsBadIn, Refutes}
-use Rattle.act_decisions.specs.Fits.{AllFitSteps}
-use Rattle.act_decisions.specs.Placed.{RunsArePlaced, AllDecided, NoValueIsLost}
-use Rattle.act_decisions.specs.Play.{EndsSo, awaits}
-use Rattle.act_decisions.specs.Read.{FollowsTold, HasGoodPlans, IsLined, IsRead, Matches}
 use Rattle.act_decisions.proofs.Refuted.{none_misplaced, some_told, walks_decide}
 use Rattle.act_decisions.proofs.RolesFit.{fits_casts}
 use Rattle.act_decisions.proofs.SaidEnds.{binds}
@@ -58,7 +42,8 @@ module _ (end : ToldEnd) (steps : List (ℕ × Step × ℕ)) (lines : AllFitStep
       bound_is end c line.0 line.1 ∙ line.2.bound ∙ ap (λ (b : Bool). cond b (Some (steps_of_caller c steps)) None) awaited
 
   pub ends_so : (casts : List ActorSpec) (rest : List ℕ) (walk : List Event) → All IsOk (outcomes (opening casts) walk)
-      → ((c : ℕ) (plan : List Step) → bound_of end c ≡ Some plan → DoesAllSteps casts c plan walk) → Matches casts steps rest walk → EndsSo casts steps walk rest
+      → ((c : ℕ) (plan : List Step) → bound_of end c ≡ Some plan → DoesAllSteps casts c plan walk) → Matches casts steps rest walk
+      → EndsSo casts steps walk rest
   ends_so casts rest walk accepted does matches = record {
     accepted = accepted;
     shown = matches.shown;

@@ -1,24 +1,16 @@
 -- Lines beside the text that they tell: what is read off the text is what they tell.
 use Rattle.act_decisions.proofs.Common.{◌≡◌, ◌⊎◌, ℕ, suc, ◌+◌, ◌-◌, ◌<◌, ◌≤◌, ◌==◌, ◌||◌, Bool, true, false, List, [], ◌∷◌, ◌++◌, length, map, take, inl, inr}
-use Rattle.act_decisions.proofs.Common.{refl, sym, ap, ◌∙◌, subst, arith, append_assoc, append-nil, All, flat_map, flat_map-append}
-use Rattle.act_decisions.proofs.Common.{if◌then◌else◌, get_or, eq-eqb, eqb-true, told_line, IsToldAs, Make, is_skipped, lines_in}
-use Rattle.std.proofs.Common.{codes, drop, None, Some, position, ◌≢◌, add-one}
+use Rattle.act_decisions.proofs.Common.{refl, sym, ap, ◌∙◌, subst, arith, append_assoc, append-nil, All, flat_map, flat_map-append, if◌then◌else◌, get_or}
+use Rattle.act_decisions.proofs.Common.{eq-eqb, eqb-true, told_line, IsToldAs, Make, is_skipped, lines_in, codes, drop, None, Some, position, ◌≢◌, add-one}
+use Rattle.act_decisions.proofs.Common.{get_or-take, length-take, take-append-drop, All-cons, All-from_get_or, All-head, All-nil, All-tail, drop-cons}
+use Rattle.act_decisions.proofs.Common.{position_or_len, starts_with, length-append, length-drop, take_all, All-append, All-take, line, ends_in, is_open}
+use Rattle.act_decisions.proofs.Common.{onto_first, slice_split-cons_yes, slice_split-cons_no}
 use Rattle.std.proofs.lemmas.Bool.Decides.{leb_tells}
-use Rattle.std.proofs.lemmas.List.{get_or-take, length-take, take-append-drop}
-use Rattle.std.proofs.lemmas.List.Elements.{All-cons, All-from_get_or, All-head, All-nil, All-tail}
 use Rattle.std.proofs.lemmas.List.Quantifiers.{position-Some}
 use Rattle.std.proofs.lemmas.List.Sums.{fails_before_first}
-use Rattle.std.proofs.Math.Seq.{drop-cons}
 use Rattle.std.specs.Bool.{Decides}
-use Rattle.std.specs.List.{position_or_len, starts_with}
-use Rattle.std.proofs.lemmas.List.{length-append, length-drop, take_all}
-use Rattle.std.proofs.lemmas.List.Elements.{All-append, All-take}
 use Rattle.std.proofs.lemmas.Slice.Eq.{starts_is, ends_is}
-use Rattle.act_rules.specs.Report.{line}
-use Rattle.act_summaries.specs.Lines.{ends_in, is_open}
 use Rattle.act_summaries.proofs.Bytes.{heads, tails}
-use Rattle.std.specs.List.{onto_first}
-use Rattle.std.proofs.lemmas.List.Splits.{slice_split-cons_yes, slice_split-cons_no}
 
 -- the text ends no line
 abbrev pub IsOfOneLine : List ℕ → Type 0
@@ -48,7 +40,8 @@ abbrev pub IsCut : List ℕ → List ℕ → List ℕ → Type 0
 IsCut text first left = (text ≡ first ++ 10 ∷ left) ⊎ ((text ≡ first) × (left ≡ []))
 
 -- what begins with a line is cut behind it
-pub cut_behind : (text first left line more : List ℕ) → IsOfOneLine first → IsOfOneLine line → IsCut text first left → text ≡ line ++ 10 ∷ more → (first ≡ line) × (left ≡ more)
+pub cut_behind : (text first left line more : List ℕ) → IsOfOneLine first → IsOfOneLine line → IsCut text first left → text ≡ line ++ 10 ∷ more → (first ≡ line)
+    × (left ≡ more)
 cut_behind text first left line more plain same (inl cut) is = cut_alike first line left more plain same (sym cut ∙ is)
 cut_behind text first left line more plain same (inr (all, none)) is = absurd (uncut first line more plain (sym all ∙ is))
 
@@ -98,22 +91,19 @@ nat_decides a b = (eqb-true a b, eq-eqb a b)
 pub begins : (front what text : List ℕ) → text ≡ front ++ what → starts_with (λ a b. a == b) text front ≡ true
 begins front what text is = (starts_is nat_decides text front (starts_with (λ a b. a == b) text front) refl).1 what is
 
--- behind it stands the rest
-pub drop_front : (front what : List ℕ) → drop (length front) (front ++ what) ≡ what
-drop_front [] what = refl
-drop_front (b ∷ front) what = drop_front front what
-
 -- a text that ends in another is as long at least
 ended : (end text : List ℕ) → ends_in end text ≡ true → length end ≤ length text
 ended end text is =
     let front = take (length text - length end) text in
-    let e : length text ≡ length front + length end = ap (λ (l : List ℕ). length l) ((ends_is nat_decides text end (ends_in end text) refl).0 is) ∙ length-append front end in
+    let e : length text ≡ length front + length end = ap (λ (l : List ℕ). length l) ((ends_is nat_decides text end (ends_in end text) refl).0 is)
+    ∙ length-append front end in
     omega arith
 
 open_long : (text : List ℕ) → is_open text ≡ true → 4 ≤ length text
 open_long text is = go (ends_in (codes " = *") text) (ends_in (codes " live ?") text) (ends_in (codes " retired ?") text) refl refl refl is
   where
-    go : (a b c : Bool) → ends_in (codes " = *") text ≡ a → ends_in (codes " live ?") text ≡ b → ends_in (codes " retired ?") text ≡ c → (a || b || c) ≡ true → 4 ≤ length text
+    go : (a b c : Bool) → ends_in (codes " = *") text ≡ a → ends_in (codes " live ?") text ≡ b → ends_in (codes " retired ?") text ≡ c → (a || b || c) ≡ true
+        → 4 ≤ length text
     go true b c one two three any = let n = ended (codes " = *") text one in omega arith
     go false true c one two three any = let n = ended (codes " live ?") text two in omega arith
     go false false true one two three any = let n = ended (codes " retired ?") text three in omega arith
@@ -140,13 +130,15 @@ told_plain text told plain (inr filled) =
 pub nothing_told : (line old : List ℕ) → is_skipped line ≡ true → old ≡ old ++ told_line line
 nothing_told text old is = sym (ap (λ (b : Bool). old ++ (if b then [] else line text)) is ∙ append-nil old)
 
-pub beside_skipped : (text told more shown old : List ℕ) → is_skipped text ≡ true → IsToldAs text told → shown ≡ told_line told ++ more → (old ≡ old ++ told_line told) × (shown ≡ more)
+pub beside_skipped : (text told more shown old : List ℕ) → is_skipped text ≡ true → IsToldAs text told → shown ≡ told_line told ++ more
+    → (old ≡ old ++ told_line told) × (shown ≡ more)
 beside_skipped text told more shown old is as_told begun =
     let so = told_skipped text told as_told ∙ is in
     (nothing_told told old so, begun ∙ ap (λ (b : Bool). (if b then [] else line told) ++ more) so)
 
 -- another is what is shown first
-pub beside_told : (text told more shown first left old new : List ℕ) → is_skipped text ≡ false → IsOfOneLine text → IsToldAs text told → shown ≡ told_line told ++ more → IsOfOneLine first → IsCut shown first left
+pub beside_told : (text told more shown first left old new : List ℕ) → is_skipped text ≡ false → IsOfOneLine text → IsToldAs text told
+    → shown ≡ told_line told ++ more → IsOfOneLine first → IsCut shown first left
     → (IsToldAs text first → new ≡ old ++ told_line first) → (new ≡ old ++ told_line told) × (left ≡ more)
 beside_told text told more shown first left old new is plain as_told begun first_plain cut adds =
     let so = told_skipped text told as_told ∙ is in
@@ -164,12 +156,9 @@ IsTold pair = IsToldAs pair.0 pair.1
 
 -- where what is shown begins with what these lines tell, this is the text so far, and the rest is left
 abbrev pub Follows : List (List ℕ) → List ℕ → List ℕ → List ℕ → Type 0
-Follows lines shown text left = (pairs : List (List ℕ × List ℕ)) (more : List ℕ) → map (λ pair. pair.0) pairs ≡ lines → All IsOfOneLine lines → All IsTold pairs → shown ≡ flat_map told_of pairs ++ more →
+Follows lines shown text left = (pairs : List (List ℕ × List ℕ)) (more : List ℕ) → map (λ pair. pair.0) pairs ≡ lines → All IsOfOneLine lines → All IsTold pairs
+    → shown ≡ flat_map told_of pairs ++ more →
     (text ≡ flat_map told_of pairs) × (left ≡ more)
-
-pub follows_none : (shown : List ℕ) → Follows [] shown [] shown
-follows_none shown [] more same plain told is = (refl, is)
-follows_none shown (pair ∷ pairs) more same plain told is = cc
 
 All-split : {X : Type 0} (P : X → Type 0) (xs ys : List X) → All P (xs ++ ys) → All P xs × All P ys
 All-split P [] ys all = (All-nil P, all)
@@ -204,8 +193,11 @@ follows_more lines text_line shown old new left after so_far one pairs more same
     let each : All IsTold (before ++ (text_line, last) ∷ []) = subst (All IsTold) at.2 told in
     let lines_split = All-split IsOfOneLine lines (text_line ∷ []) plain in
     let pairs_split = All-split IsTold before ((text_line, last) ∷ []) each in
-    let whole : flat_map told_of pairs ≡ flat_map told_of before ++ told_line last = ap (flat_map told_of) at.2 ∙ flat_map-append told_of before ((text_line, last) ∷ []) ∙ ap (λ (l : List ℕ). flat_map told_of before ++ l) (append-nil (told_line last)) in
-    let was = so_far before (told_line last ++ more) at.3 lines_split.0 pairs_split.0 (is ∙ ap (λ (l : List ℕ). l ++ more) whole ∙ append_assoc (flat_map told_of before) (told_line last) more) in
+    let whole : flat_map told_of pairs ≡ flat_map told_of before ++ told_line last =
+    ap (flat_map told_of) at.2 ∙ flat_map-append told_of before ((text_line, last) ∷ [])
+    ∙ ap (λ (l : List ℕ). flat_map told_of before ++ l) (append-nil (told_line last)) in
+    let was = so_far before (told_line last ++ more) at.3 lines_split.0 pairs_split.0 (is ∙ ap (λ (l : List ℕ). l ++ more) whole
+    ∙ append_assoc (flat_map told_of before) (told_line last) more) in
     let now = one last more (All-head IsOfOneLine text_line [] lines_split.1) (All-head IsTold (text_line, last) [] pairs_split.1) was.1 in
     (now.0 ∙ ap (λ (l : List ℕ). l ++ told_line last) was.0 ∙ sym whole, now.1)
 
@@ -213,10 +205,12 @@ follows_more lines text_line shown old new left after so_far one pairs more same
 plain_onto : (c : ℕ) (lines : List (List ℕ)) → c ≢ 10 → All IsOfOneLine lines → All IsOfOneLine (onto_first c lines)
 plain_onto c [] differs plain = All-cons IsOfOneLine (c ∷ []) [] (All-cons (λ (b : ℕ). b ≢ 10) c [] differs (All-nil (λ (b : ℕ). b ≢ 10))) (All-nil IsOfOneLine)
 plain_onto c (text ∷ lines) differs plain =
-    All-cons IsOfOneLine (c ∷ text) lines (All-cons (λ (b : ℕ). b ≢ 10) c text differs (All-head IsOfOneLine text lines plain)) (All-tail IsOfOneLine text lines plain)
+    All-cons IsOfOneLine (c ∷ text) lines (All-cons (λ (b : ℕ). b ≢ 10) c text differs (All-head IsOfOneLine text lines plain))
+    (All-tail IsOfOneLine text lines plain)
 
 plain_more : (b : ℕ) (bytes : List ℕ) (is : Bool) → (b == 10) ≡ is → All IsOfOneLine (lines_in bytes) → All IsOfOneLine (lines_in (b ∷ bytes))
-plain_more b bytes true is plain = subst (All IsOfOneLine) (sym (slice_split-cons_yes (λ b. b == 10) b bytes is)) (All-cons IsOfOneLine [] (lines_in bytes) (All-nil (λ (b : ℕ). b ≢ 10)) plain)
+plain_more b bytes true is plain = subst (All IsOfOneLine) (sym (slice_split-cons_yes (λ b. b == 10) b bytes is))
+    (All-cons IsOfOneLine [] (lines_in bytes) (All-nil (λ (b : ℕ). b ≢ 10)) plain)
 plain_more b bytes false is plain =
     subst (All IsOfOneLine) (sym (slice_split-cons_no (λ b. b == 10) b bytes is)) (plain_onto b (lines_in bytes) (λ same. cc (eq-eqb b 10 same, is)) plain)
 

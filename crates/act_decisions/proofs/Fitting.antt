@@ -1,17 +1,10 @@
 -- What was read, looked up by number, beside the roles of a script.
-use Rattle.act_decisions.proofs.Common.{◌≡◌, ℕ, ◌+◌, ◌<◌, ◌≤◌, ◌==◌, ◌⊎◌, inl, inr, Bool, true, false, if◌then◌else◌, List, [], length, map, filter, get_or, Option, Some, None}
-use Rattle.act_decisions.proofs.Common.{leb, leb-true, leb-false, refl, sym, ap, ◌∙◌, subst, arith, option_map, slice_get, slice_get-get_or, ActorSpec, actor_spec_of, Role, ToldEnd}
-use Rattle.std.specs.Prelude.{◌≢◌, AllPairs, find}
-use Rattle.std.proofs.lemmas.Bool.{cases_lt}
+use Rattle.act_decisions.proofs.Common.{◌≡◌, ℕ, ◌+◌, ◌<◌, ◌≤◌, ◌==◌, ◌⊎◌, inl, inr, Bool, true, false, List, [], length, map, filter, get_or, Option, Some}
+use Rattle.act_decisions.proofs.Common.{None, leb, leb-true, leb-false, refl, sym, ap, ◌∙◌, subst, arith, option_map, slice_get, slice_get-get_or, ActorSpec}
+use Rattle.act_decisions.proofs.Common.{actor_spec_of, Role, ToldEnd, ◌≢◌, AllPairs, find, cases_lt, actors_naming, callers_in, contains, AllPairs-map}
+use Rattle.act_decisions.proofs.Common.{find-map, AreFitting, ToldActor, ToldRun, callers_of, rans_in, option_map_or, same_Some, slice_get_past}
+use Rattle.act_decisions.proofs.Common.{slice_get_within}
 use Rattle.std.proofs.lemmas.List.Kept.{AllPairs-filter}
-use Rattle.act_rules.specs.History.{actors_naming, callers_in, contains}
-use Rattle.act_rules.proofs.Lists.{AllPairs-map, find-map}
-use Rattle.act_scripts.specs.Roles.{AreFitting}
-use Rattle.act_walks.specs.declared.told.ToldActor.{ToldActor}
-use Rattle.act_walks.specs.declared.told.ToldRun.{ToldRun}
-use Rattle.act_walks.specs.Fits.{callers_of, rans_in}
-use Rattle.std.specs.Option.{option_map_or}
-use Rattle.std.proofs.lemmas.Option.{same_Some, slice_get_past, slice_get_within}
 
 -- ---- places
 

@@ -1,28 +1,15 @@
 -- What lines tell of a history, as the data says it.
-use Rattle.act_early.proofs.Common.{◌≡◌, ◌≢◌, ℕ, ◌≤◌, ◌==◌, ◌||◌, Bool, true, false, cond, List, [], ◌∷◌, ◌++◌, map, Option, Some, None, inl, inr, ◌⊎◌}
-use Rattle.act_early.proofs.Common.{refl, ap, sym, ◌∙◌, subst, slice_get, is_some, Event, RunItem, Submission, Answer, Err, ActorDied, kept_at, under-push, eqb-true}
-use Rattle.act_early.proofs.Common.{ActorSpec, History, opening, history, calls_of, runs_of, kept_of, cast_of, is_dead, is_retired, is_reply, option_map, option_and_then, contains, names, next_item}
-use Rattle.act_early.proofs.Common.{after_run, has_terminated, run_needs}
-use Rattle.act_early.proofs.Worlds.{take_needs, retire_needs, contains_push}
-use Rattle.act_early.proofs.Replies.{reply_died}
-use Rattle.act_rules.proofs.Steps.{IsKept, after_all_keeps}
+use Rattle.act_decisions.proofs.Common.{◌≡◌, ◌≢◌, ℕ, ◌≤◌, ◌==◌, ◌||◌, Bool, true, false, cond, List, [], ◌∷◌, ◌++◌, map, Option, Some, None, inl, inr, ◌⊎◌}
+use Rattle.act_decisions.proofs.Common.{refl, ap, sym, ◌∙◌, subst, slice_get, is_some, Event, RunItem, Submission, Answer, Err, ActorDied, kept_at, under-push}
+use Rattle.act_decisions.proofs.Common.{eqb-true, ActorSpec, History, opening, history, calls_of, runs_of, kept_of, cast_of, is_dead, is_retired, is_reply}
+use Rattle.act_decisions.proofs.Common.{option_map, option_and_then, contains, names, next_item, after_run, has_terminated, run_needs, take_needs, retire_needs}
+use Rattle.act_decisions.proofs.Common.{contains_push, reply_died, IsKept, after_all_keeps, slice_get-map, AllZip, option_map_or, Left, ToldActor, ToldCall}
+use Rattle.act_decisions.proofs.Common.{ToldCaller, ToldEnd, ToldRun, caller_in, calls_in, bound_of, actor_in, callers_of, rans_in, is_dead_in, is_retired_in}
+use Rattle.act_decisions.proofs.Common.{FitsLeft, IsCallIn, IsRunIn, AllDecided, IsKeptSo, IsRanSo, IsActorSo, FitHistory, kept_told, call_told, calls_told}
+use Rattle.act_decisions.proofs.Common.{ran_told, of_role, end_told, ends_told, IsLeftBy, IsSameRun, TellsLeft, IsOfNumbers}
 use Rattle.act_rules.specs.declared.event.Event.TheVariants as event
-use Rattle.std.proofs.lemmas.Option.{slice_get-map}
-use Rattle.std.specs.List.{AllZip}
-use Rattle.std.specs.Option.{option_map_or}
-use Rattle.act_walks.specs.declared.told.Left.{Left}
 use Rattle.act_walks.specs.declared.told.Left.TheVariants as left
-use Rattle.act_walks.specs.declared.told.ToldActor.{ToldActor}
-use Rattle.act_walks.specs.declared.told.ToldCall.{ToldCall}
-use Rattle.act_walks.specs.declared.told.ToldCaller.{ToldCaller}
-use Rattle.act_walks.specs.declared.told.ToldEnd.{ToldEnd}
-use Rattle.act_walks.specs.declared.told.ToldRun.{ToldRun}
-use Rattle.act_walks.specs.Fits.{caller_in, calls_in, bound_of, actor_in, callers_of, rans_in, is_dead_in, is_retired_in, FitsLeft}
-use Rattle.act_decisions.specs.Placed.{IsCallIn, IsRunIn, AllDecided}
-use Rattle.act_summaries.specs.Stems.{Call, IsKeptSo, IsRanSo, IsActorSo, FitHistory}
-use Rattle.act_decisions.specs.Agreed.{kept_told, call_told, calls_told, ran_told, of_role, end_told, ends_told}
-use Rattle.act_decisions.specs.LeftBy.{IsLeftBy, IsSameRun, TellsLeft}
-use Rattle.act_decisions.specs.Within.{IsOfNumbers}
+use Rattle.act_summaries.specs.Stems.{Call}
 
 -- ---- where no actor is, nothing ran or ended
 
@@ -55,7 +42,8 @@ uncast_step h (event.Run b c) u accepted a none = go (next_item b c h)
       where
         differs : (x : Bool) → (b == a) ≡ x → (b == a) ≡ false
         differs false e = e
-        differs true e = absurd (named_some c (cast_of b h) (run_needs h b c accepted).1 (ap (λ (n : ℕ). cast_of n h) (eqb-true b a e) ∙ before (next_item b c h) none))
+        differs true e = absurd (named_some c (cast_of b h) (run_needs h b c accepted).1 (ap (λ (n : ℕ). cast_of n h) (eqb-true b a e)
+            ∙ before (next_item b c h) none))
           where
             before : (o : Option RunItem) → cast_of a (after_run b c h o) ≡ None → cast_of a h ≡ None
             before None e = e
@@ -86,7 +74,8 @@ uncast_step h (event.TakeKill b) u accepted a none = record {
 uncast_step h (event.Retire b) u accepted a none = record {
   runs = (u a none).runs;
   killed = (u a none).killed;
-  retired = not_pushed a b h.retired (u a none).retired (λ same. some_not (cast_of b h) (retire_needs h b accepted).0 (ap (λ (n : ℕ). cast_of n h) same ∙ none));
+  retired = not_pushed a b h.retired (u a none).retired (λ same. some_not (cast_of b h) (retire_needs h b accepted).0 (ap (λ (n : ℕ). cast_of n h) same
+      ∙ none));
 }
 uncast_step h other u accepted a none = record { runs = (u a none).runs; killed = (u a none).killed; retired = (u a none).retired }
 
@@ -116,7 +105,8 @@ some_left : (l : Left) (o : Option Answer) → l ≢ left.Open → IsKeptSo (kep
 some_left left.Open o closed kept = absurd (closed refl)
 some_left l o closed kept = kept
 
-tells_left : (call : ToldCall) (o : Option Answer) → (call.is_open ≡ true → call.left ≢ left.Open) → IsKeptSo (kept_told call.left call.is_open) o → TellsLeft call o
+tells_left : (call : ToldCall) (o : Option Answer) → (call.is_open ≡ true → call.left ≢ left.Open) → IsKeptSo (kept_told call.left call.is_open) o
+    → TellsLeft call o
 tells_left call o closed kept = (
   λ e. left_is call.left o (subst (λ (b : Bool). IsKeptSo (kept_told call.left b) o) e kept),
   λ e. some_left call.left o (closed e) (subst (λ (b : Bool). IsKeptSo (kept_told call.left b) o) e kept),
@@ -168,7 +158,8 @@ module _ (end : ToldEnd) (casts : List ActorSpec) (events : List Event) (within 
       none_here e = ap (λ (o : Option ToldActor). option_map_or (λ (x : ToldActor). x.callers.items) o []) there ∙ e
 
       go : (callers : List ℕ) → actor.callers.items ≡ callers
-          → IsActorSo a here (of_role callers (record { dead = actor.is_dead; retired = actor.is_retired; runs = map ran_told actor.runs.items })) → ActorTold end a here
+          → IsActorSo a here (of_role callers (record { dead = actor.is_dead; retired = actor.is_retired; runs = map ran_told actor.runs.items }))
+          → ActorTold end a here
       go [] none is = nothing_told a (none_here none) is
       go (c ∷ callers) some is =
           let own : rans_in end a ≡ actor.runs.items = ap (λ (o : Option ToldActor). option_map_or (λ (x : ToldActor). x.runs.items) o []) there in
@@ -200,7 +191,8 @@ module _ (end : ToldEnd) (casts : List ActorSpec) (events : List Event) (within 
       go (inl (some, few)) = map_calls (calls_in end c) ∙ sym (so.called c some few)
       go (inr (empty, free)) = by (numbered c)
         where
-          by : (1 ≤ c) × (c ≤ 16) ⊎ (calls_of c here ≡ []) → map (λ (call : ToldCall). call.actor) (calls_in end c) ≡ map (λ (call : Submission). call.actor) (calls_of c here)
+          by : (1 ≤ c) × (c ≤ 16) ⊎ (calls_of c here ≡ []) → map (λ (call : ToldCall). call.actor) (calls_in end c) ≡ map (λ (call : Submission). call.actor)
+              (calls_of c here)
           by (inl (some, few)) = map_calls (calls_in end c) ∙ sym (so.called c some few)
           by (inr silent) = ap (map (λ (call : ToldCall). call.actor)) empty ∙ ap (map (λ (call : Submission). call.actor)) (sym silent)
 
@@ -218,10 +210,12 @@ module _ (end : ToldEnd) (casts : List ActorSpec) (events : List Event) (within 
       actor : (a : ℕ) → ActorTold end a here
       actor a = actor_told a (none a) (so.ended a)
 
-      own_caller : (c k : ℕ) (call : ToldCall) → IsCallIn end c k call → (caller : ToldCaller) × (caller_in end c ≡ Some caller) × (slice_get caller.calls.items k ≡ Some call)
+      own_caller : (c k : ℕ) (call : ToldCall) → IsCallIn end c k call → (caller : ToldCaller) × (caller_in end c ≡ Some caller)
+          × (slice_get caller.calls.items k ≡ Some call)
       own_caller c k call at = go (caller_in end c) refl
         where
-          go : (o : Option ToldCaller) → caller_in end c ≡ o → (caller : ToldCaller) × (caller_in end c ≡ Some caller) × (slice_get caller.calls.items k ≡ Some call)
+          go : (o : Option ToldCaller) → caller_in end c ≡ o → (caller : ToldCaller) × (caller_in end c ≡ Some caller)
+              × (slice_get caller.calls.items k ≡ Some call)
           go None empty = let past : slice_get (calls_in end c) k ≡ None = rw empty refl in let bad : None ≡ Some call = sym past ∙ at in cc
           go (Some caller) there = (caller, there, ap (λ (l : List ToldCall). slice_get l k) (sym (rw there refl)) ∙ at)
 

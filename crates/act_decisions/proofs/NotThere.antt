@@ -1,17 +1,8 @@
 -- No events leave a run of a call that wasn't made, that went to another actor, or that ran elsewhere, too.
-use Rattle.act_early.proofs.Common.{◌≡◌, ℕ, List, map, Some, None, refl, ap, sym, ◌∙◌, slice_get, RunItem, Submission}
-use Rattle.act_early.proofs.Common.{History, calls_of, runs_of, option_map, IsSound}
-use Rattle.act_rules.proofs.Unique.{held_submission, one_place}
-use Rattle.std.proofs.lemmas.Option.{slice_get-map}
-use Rattle.act_walks.specs.declared.told.ToldCall.{ToldCall}
-use Rattle.act_walks.specs.declared.told.ToldEnd.{ToldEnd}
-use Rattle.act_walks.specs.declared.told.ToldRun.{ToldRun}
-use Rattle.act_walks.specs.Fits.{calls_in, rans_in, call_of_run, call_of_item}
-use Rattle.act_decisions.specs.LeftBy.{IsSameRun}
-use Rattle.act_decisions.specs.Placed.{IsRunIn}
+use Rattle.act_decisions.proofs.Common.{◌≡◌, ℕ, List, map, Some, None, refl, ap, sym, ◌∙◌, slice_get, RunItem, Submission, History, calls_of, runs_of}
+use Rattle.act_decisions.proofs.Common.{option_map, IsSound, held_submission, one_place, slice_get-map, ToldCall, ToldEnd, ToldRun, calls_in, rans_in}
+use Rattle.act_decisions.proofs.Common.{call_of_run, call_of_item, IsSameRun, IsRunIn, AllZip, IsMisplaced, WhyMisplaced, NoCall, OtherActor, Twice}
 use Rattle.act_decisions.proofs.SaidRuns.{item_at, same_call}
-use Rattle.std.specs.List.{AllZip}
-use Rattle.act_decisions.specs.Misplaced.{IsMisplaced, WhyMisplaced, NoCall, OtherActor, Twice}
 
 module _ (end : ToldEnd) (h : History) (sound : IsSound h) (runs : (a : ℕ) → AllZip IsSameRun (rans_in end a) (runs_of a h))
     (calls : (c : ℕ) → map (λ (call : ToldCall). call.actor) (calls_in end c) ≡ map (λ (call : Submission). call.actor) (calls_of c h)) where
@@ -19,7 +10,8 @@ module _ (end : ToldEnd) (h : History) (sound : IsSound h) (runs : (a : ℕ) →
       → (item : RunItem) × (slice_get (runs_of a h) p ≡ Some item) × (call_of_item item ≡ (c, k))
   ran a p c k run at is = let item = item_at (rans_in end a) (runs_of a h) p run (runs a) at in (item.0, item.1, sym (same_call run item.0 item.2) ∙ is)
 
-  made : (a p c k : ℕ) (run : ToldRun) → IsRunIn end a p run → call_of_run run ≡ (c, k) → slice_get (map (λ (call : ToldCall). call.actor) (calls_in end c)) k ≡ Some a
+  made : (a p c k : ℕ) (run : ToldRun) → IsRunIn end a p run → call_of_run run ≡ (c, k)
+      → slice_get (map (λ (call : ToldCall). call.actor) (calls_in end c)) k ≡ Some a
   made a p c k run at is =
       let item = ran a p c k run at is in
       let sub = held_submission h a c k p item.0 sound.order item.1 (ap (λ (r : ℕ × ℕ). r.0) item.2) (ap (λ (r : ℕ × ℕ). r.1) item.2) in
@@ -46,5 +38,6 @@ module _ (end : ToldEnd) (h : History) (sound : IsSound h) (runs : (a : ℕ) →
       go (Twice b q run at is twice) =
           let one = ran m.actor m.place m.run.caller m.run.future m.run m.at refl in
           let two = ran b q m.run.caller m.run.future run at is in
-          twice (one_place h m.run.caller m.run.future m.actor m.place b q one.0 two.0 sound.order one.1 (ap (λ (r : ℕ × ℕ). r.0) one.2) (ap (λ (r : ℕ × ℕ). r.1) one.2)
+          twice (one_place h m.run.caller m.run.future m.actor m.place b q one.0 two.0 sound.order one.1 (ap (λ (r : ℕ × ℕ). r.0) one.2)
+          (ap (λ (r : ℕ × ℕ). r.1) one.2)
           two.1 (ap (λ (r : ℕ × ℕ). r.0) two.2) (ap (λ (r : ℕ × ℕ). r.1) two.2))

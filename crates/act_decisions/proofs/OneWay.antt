@@ -1,8 +1,6 @@
 -- Two plays of one history end alike.
-use Rattle.std.proofs.Common.{[]}
+use Rattle.act_decisions.proofs.Common.{[], read_one_way, Play}
 use Rattle.act_decisions.specs.OneWay.{PlaysAreReadOneWay}
-use Rattle.act_summaries.proofs.Alike.{read_one_way}
-use Rattle.act_rules.specs.declared.script.Mode.TheVariants.{Play}
 use Rattle.act_summaries.proofs.Spelled.{spelled_good}
 
 pub read_plays : PlaysAreReadOneWay

@@ -1,37 +1,18 @@
 -- Where some events end as steps and lines tell, a walk after what was read ends so, too.
-use Rattle.act_early.proofs.Common.{◌≡◌, ℕ, ◌≤◌, ◌&&◌, cond, Bool, true, false, List, [], ◌∷◌, map, Option, Some, None, inl, inr, ◌⊎◌}
-use Rattle.act_early.proofs.Common.{refl, ap, sym, ◌∙◌, subst, slice_get, is_some, Event, Step, Submission, Answer, kept_at}
-use Rattle.act_early.proofs.Common.{ActorSpec, History, history, calls_of, kept_of, cast_of, option_map, option_and_then}
-use Rattle.act_rules.specs.declared.script.Role.{Role}
-use Rattle.act_rules.specs.Scripts.{actor_spec_of}
-use Rattle.std.specs.List.{list_all}
-use Rattle.std.specs.Option.{option_map_or}
-use Rattle.std.specs.Prelude.{IsTrue}
-use Rattle.std.proofs.lemmas.Option.{slice_get-map}
-use Rattle.act_told_ends.specs.Told.{Told, Leaves, told_of}
+use Rattle.act_decisions.proofs.Common.{◌≡◌, ℕ, ◌≤◌, ◌&&◌, cond, Bool, true, false, List, [], ◌∷◌, map, Option, Some, None, inl, inr, ◌⊎◌, refl, ap, sym, ◌∙◌}
+use Rattle.act_decisions.proofs.Common.{subst, slice_get, is_some, Event, Step, Submission, Answer, kept_at, ActorSpec, History, history, calls_of, kept_of}
+use Rattle.act_decisions.proofs.Common.{cast_of, option_map, option_and_then, Role, actor_spec_of, list_all, option_map_or, IsTrue, slice_get-map, Told, Leaves}
+use Rattle.act_decisions.proofs.Common.{told_of, IsReplyForDeath, with_calls, End, Any, FitHistory, IsActorSo, EndAlike, IsLeftOpen, KeepsDeath}
+use Rattle.act_decisions.proofs.Common.{is_sayable_role, kept_for, valid_or_none, ToldActor, ToldCall, ToldCaller, ToldEnd, caller_in, calls_in, bound_of}
+use Rattle.act_decisions.proofs.Common.{actor_in, callers_of, submission_of_call, Fits, of_caller, ran_told, kept_told, call_told, calls_told, of_role}
+use Rattle.act_decisions.proofs.Common.{ends_told, end_told, FitsSteps, IsLeftBy, EndsSo, HasCalls, calls_of_steps, IsLined, IsRead, Matches, AreSayable}
+use Rattle.act_decisions.proofs.Common.{FollowsTold, WalksDecide, NoRunIsMisplaced, IsMisplaced}
 use Rattle.act_told_ends.specs.Retiring.{RetiredAsTold}
-use Rattle.act_told_ends.specs.LeftOpen.{IsReplyForDeath}
-use Rattle.act_told_ends.specs.Untold.{with_calls}
-use Rattle.act_summaries.specs.Stems.{End, Any, FitHistory, IsActorSo}
-use Rattle.act_summaries.specs.Summaries.{EndAlike, IsLeftOpen, KeepsDeath, is_sayable_role, kept_for}
 use Rattle.act_summaries.proofs.Facts.{Facts, facts, IsCallerNumber, cast_good}
-use Rattle.act_summaries.proofs.Alike.{valid_or_none}
 use Rattle.act_summaries.proofs.Fitting.{agreed_lines_fit}
 use Rattle.act_summaries.proofs.Filling.{told_alike}
 use Rattle.act_walks.specs.declared.told.Left.TheVariants as left_told
-use Rattle.act_walks.specs.declared.told.ToldActor.{ToldActor}
-use Rattle.act_walks.specs.declared.told.ToldCall.{ToldCall}
-use Rattle.act_walks.specs.declared.told.ToldCaller.{ToldCaller}
-use Rattle.act_walks.specs.declared.told.ToldEnd.{ToldEnd}
 use Rattle.act_walks.specs.Eager.{SomeEnd}
-use Rattle.act_walks.specs.Fits.{caller_in, calls_in, bound_of, actor_in, callers_of, submission_of_call, Fits}
-use Rattle.act_walks.proofs.Calls.{calls_are as of_caller}
-use Rattle.act_decisions.specs.Agreed.{ran_told, kept_told, call_told, calls_told, of_role, ends_told, end_told}
-use Rattle.act_decisions.specs.Fits.{FitsSteps}
-use Rattle.act_decisions.specs.LeftBy.{IsLeftBy}
-use Rattle.act_decisions.specs.Play.{EndsSo, HasCalls, calls_of_steps}
-use Rattle.act_decisions.specs.Read.{IsLined, IsRead, Matches, AreSayable, FollowsTold, WalksDecide, NoRunIsMisplaced}
-use Rattle.act_decisions.specs.Misplaced.{IsMisplaced}
 use Rattle.act_decisions.proofs.NotThere.{not_misplaced}
 use Rattle.act_decisions.proofs.Chosen.{chosen_at, chosen_past, is_death, wants_reply, reply_there}
 use Rattle.act_decisions.proofs.LeftBy.{left_by, actor_told, calls_left}
@@ -71,7 +52,8 @@ module _ (roles : List Role) (steps : List (ℕ × Step × ℕ)) (rest : List �
         where
           by : (o : Option ToldActor) → actor_in end a ≡ o → option_and_then end_told o ≡ None
           by None e = refl
-          by (Some actor) e = empty actor.callers.items (record { dead = actor.is_dead; retired = actor.is_retired; runs = map ran_told actor.runs.items }) (sym (ap (λ (o : Option ToldActor). option_map_or (λ (x : ToldActor). x.callers.items) o []) e) ∙ none)
+          by (Some actor) e = empty actor.callers.items (record { dead = actor.is_dead; retired = actor.is_retired; runs = map ran_told actor.runs.items })
+              (sym (ap (λ (o : Option ToldActor). option_map_or (λ (x : ToldActor). x.callers.items) o []) e) ∙ none)
             where
               empty : (callers : List ℕ) (x : End) → callers ≡ [] → of_role callers x ≡ None
               empty [] x e = refl
@@ -148,7 +130,8 @@ module _ (roles : List Role) (steps : List (ℕ × Step × ℕ)) (rest : List �
         opened None past = inl (mine ∙ chosen_past left_now (calls_in end c) (kept_of c left_now) k past)
         opened (Some call) at = by (is_death (kept_for c k left_now) && call.is_open && wants_reply call.left) refl
           where
-            by : (b : Bool) → (is_death (kept_for c k left_now) && call.is_open && wants_reply call.left) ≡ b → (kept_for c k come ≡ kept_for c k left_now) ⊎ IsLeftOpen rest c k
+            by : (b : Bool) → (is_death (kept_for c k left_now) && call.is_open && wants_reply call.left) ≡ b → (kept_for c k come ≡ kept_for c k left_now)
+                ⊎ IsLeftOpen rest c k
             by false e = inl (mine ∙ chosen_at left_now (calls_in end c) (kept_of c left_now) k call at
                 ∙ ap (λ (b : Bool). cond b (reply_there left_now (kept_for c k left_now) call.place) (kept_for c k left_now)) e)
             by true e = number (read.lined.within.callers c)
@@ -156,7 +139,8 @@ module _ (roles : List Role) (steps : List (ℕ × Step × ℕ)) (rest : List �
                 is_any : call.is_open ≡ true → call.left ≡ left_told.Reply → (call_told call).kept ≡ Any
                 is_any o l = λ i. kept_told (l i) (o i)
 
-                number : (1 ≤ c) × (c ≤ 16) ⊎ (calls_in end c ≡ []) × (bound_of end c ≡ None) → (kept_for c k come ≡ kept_for c k left_now) ⊎ IsLeftOpen rest c k
+                number : (1 ≤ c) × (c ≤ 16) ⊎ (calls_in end c ≡ []) × (bound_of end c ≡ None) → (kept_for c k come ≡ kept_for c k left_now)
+                    ⊎ IsLeftOpen rest c k
                 number (inr (empty, free)) = let past : slice_get (calls_in end c) k ≡ None = ap (λ (l : List ToldCall). slice_get l k) empty in
                     let bad : None ≡ Some call = sym past ∙ at in cc
                 number (inl (some, few)) =
@@ -166,7 +150,8 @@ module _ (roles : List Role) (steps : List (ℕ × Step × ℕ)) (rest : List �
                     (slice_get-map call_told (calls_in end c) k ∙ ap (option_map call_told) at) (is_any two.1 (is_wanted call.left one.1)))
 
         go : (kept_at (told_so.kept c) k ≡ kept_for c k left_now)
-            ⊎ IsReplyForDeath casts_now (with_calls (data_calls end) (told_of left_now)) (kept_said end steps casts_now events read.lines read.lined.within fits read.placed read.decided so_numbered has g.sound g.same) c k
+            ⊎ IsReplyForDeath casts_now (with_calls (data_calls end) (told_of left_now))
+            (kept_said end steps casts_now events read.lines read.lined.within fits read.placed read.decided so_numbered has g.sound g.same) c k
             → (kept_for c k come ≡ kept_for c k left_now) ⊎ (IsLeftOpen rest c k × KeepsDeath c k left_now × (is_some (kept_for c k come) ≡ true))
         go (inl same) = inl (mine ∙ same)
         go (inr (death, reply, kept, may)) = either (opened (slice_get (calls_in end c) k) refl)
@@ -220,7 +205,8 @@ module _ (roles : List Role) (steps : List (ℕ × Step × ℕ)) (rest : List �
 
 -- a sayable walk that follows what was read matches steps and lines, where sayable roles and events end as they tell
 pub walks_decide : WalksDecide
-walks_decide roles steps rest end events walk said sayable walk_sayable read so follows = matches roles steps rest end events walk said sayable walk_sayable read so follows
+walks_decide roles steps rest end events walk said sayable walk_sayable read so follows =
+    matches roles steps rest end events walk said sayable walk_sayable read so follows
 
 -- no run of what was read is misplaced, where sayable roles and events end as steps and lines tell
 pub none_misplaced : NoRunIsMisplaced

@@ -1,20 +1,10 @@
 -- What fits the roles of a script fits their casts.
-use Rattle.act_rules.proofs.Common.{◌≡◌, ◌≢◌, ◌⊎◌, inl, inr, ℕ, ◌<◌, ◌≤◌, ◌==◌, ◌||◌, Bool, true, false, cond, List, [], ◌∷◌, length, map, find}
-use Rattle.act_rules.proofs.Common.{Some, None, Option, refl, sym, ap, subst, ◌∙◌, arith, nat_le, eqb-true, and_parts, list_all}
-use Rattle.act_rules.proofs.Common.{ActorSpec, contains, names, cast_of, opening, is_actor_number, is_caller_number, actor_spec_of}
-use Rattle.act_rules.specs.declared.script.Role.{Role}
-use Rattle.act_rules.specs.declared.script.Step.{Step}
-use Rattle.act_rules.specs.History.{actors_naming, callers_in}
-use Rattle.act_rules.specs.Plans.{first_bad}
-use Rattle.act_scripts.specs.Roles.{AreFitting}
-use Rattle.act_walks.specs.declared.told.ToldEnd.{ToldEnd}
-use Rattle.act_summaries.specs.Summaries.{is_sayable_role}
-use Rattle.act_walks.specs.Fits.{FitsCasts, bound_of, callers_of, calls_in}
-use Rattle.act_decisions.specs.Fits.{AllFitRoles}
-use Rattle.act_decisions.specs.Read.{HasGoodPlans}
-use Rattle.act_decisions.specs.Within.{IsOfNumbers}
+use Rattle.act_decisions.proofs.Common.{◌≡◌, ◌≢◌, ◌⊎◌, inl, inr, ℕ, ◌<◌, ◌≤◌, ◌==◌, ◌||◌, Bool, true, false, cond, List, [], ◌∷◌, length, map, find, Some, None}
+use Rattle.act_decisions.proofs.Common.{Option, refl, sym, ap, subst, ◌∙◌, arith, nat_le, eqb-true, and_parts, list_all, ActorSpec, contains, names, cast_of}
+use Rattle.act_decisions.proofs.Common.{opening, is_actor_number, is_caller_number, actor_spec_of, Role, Step, actors_naming, callers_in, first_bad, AreFitting}
+use Rattle.act_decisions.proofs.Common.{ToldEnd, is_sayable_role, FitsCasts, bound_of, callers_of, calls_in, AllFitRoles, HasGoodPlans, IsOfNumbers, cases_lt}
+use Rattle.act_decisions.proofs.Common.{leb-true, ne_eqb}
 use Rattle.act_decisions.proofs.Fitting.{unsaid}
-use Rattle.std.proofs.lemmas.Bool.{cases_lt, leb-true, ne_eqb}
 
 caller_number : (c : ℕ) → is_caller_number c ≡ true → (1 ≤ c) × (c ≤ 16)
 caller_number c e = let parts = and_parts (nat_le 1 c) (nat_le c 16) e in (leb-true 1 c parts.0, leb-true c 16 parts.1)

@@ -1,40 +1,21 @@
 -- The answers that the data takes for those left open may stand for these.
-use Rattle.act_early.proofs.Common.{◌≡◌, ℕ, ◌<◌, ◌≤◌, ◌==◌, ◌&&◌, Bool, true, false, cond, List, [], length, map, Option, Some, None, inl, inr, ◌⊎◌}
-use Rattle.act_early.proofs.Common.{refl, ap, sym, ◌∙◌, subst, arith, slice_get, is_some, not, slice_get_within, RunItem, Submission, Step, Answer, Err, Ok, ActorDied, kept_at}
-use Rattle.act_early.proofs.Common.{ActorSpec, History, opening, calls_of, runs_of, kept_of, opening_of, cast_of, is_dead, is_reply, option_map, option_and_then, KindState, answer_at, settle, Contains, IsSound, find, zero, suc, ◌∷◌}
-use Rattle.act_rules.proofs.Unique.{map-slice_get}
-use Rattle.act_rules.proofs.Kept.{length-answers_from}
-use Rattle.act_rules.proofs.Sound.{consistent, deaths_are}
-use Rattle.act_rules.proofs.Lists.{All_at}
+use Rattle.act_decisions.proofs.Common.{◌≡◌, ℕ, ◌<◌, ◌≤◌, ◌==◌, ◌&&◌, Bool, true, false, cond, List, [], length, map, Option, Some, None, inl, inr, ◌⊎◌, refl}
+use Rattle.act_decisions.proofs.Common.{ap, sym, ◌∙◌, subst, arith, slice_get, is_some, not, slice_get_within, RunItem, Submission, Step, Answer, Err, Ok}
+use Rattle.act_decisions.proofs.Common.{ActorDied, kept_at, ActorSpec, History, opening, calls_of, runs_of, kept_of, opening_of, cast_of, is_dead, is_reply}
+use Rattle.act_decisions.proofs.Common.{option_map, option_and_then, answer_at, settle, Contains, IsSound, find, zero, suc, ◌∷◌, map-slice_get}
+use Rattle.act_decisions.proofs.Common.{length-answers_from, consistent, deaths_are, All_at, answer_of, answers_from, reply_died, Arg, Settled, Good, Bad}
+use Rattle.act_decisions.proofs.Common.{slice_get-map, told_of, with_calls, IsReplyForDeath, MayStandForKept, Left, ToldCall, ToldCaller, ToldEnd, caller_in}
+use Rattle.act_decisions.proofs.Common.{calls_in, is_dead_in, of_caller, HasCalls, AllFitSteps, IsCallIn, RunsArePlaced, StandsThere, IsDecided, AllDecided}
+use Rattle.act_decisions.proofs.Common.{NoValueIsLost, TookFailure, answer_told, IsLeftBy, place_in}
+use Rattle.act_early.proofs.Common.{KindState}
 use Rattle.act_rules.specs.Consistent.{IsAsSubmitted}
-use Rattle.act_rules.specs.History.{answer_of}
-use Rattle.act_rules.specs.RunList.{answers_from}
 use Rattle.act_rules.specs.Submissions.{settled_future}
-use Rattle.act_early.proofs.Replies.{reply_died}
-use Rattle.act_types.specs.declared.call.Arg.{Arg}
 use Rattle.act_types.specs.declared.call.Arg.TheVariants.{Plain, Fut}
-use Rattle.act_types.specs.declared.call.Settled.{Settled}
-use Rattle.act_types.specs.declared.call.Settled.TheVariants.{Good, Bad}
 use Rattle.act_types.specs.declared.call.Value.{Value}
-use Rattle.std.proofs.lemmas.Option.{slice_get-map}
-use Rattle.act_told_ends.specs.Told.{told_of}
-use Rattle.act_told_ends.specs.Untold.{with_calls}
-use Rattle.act_told_ends.specs.LeftOpen.{IsReplyForDeath, MayStandForKept}
-use Rattle.act_walks.specs.declared.told.Left.{Left}
 use Rattle.act_walks.specs.declared.told.Left.TheVariants as left
-use Rattle.act_walks.specs.declared.told.ToldCall.{ToldCall}
-use Rattle.act_walks.specs.declared.told.ToldCaller.{ToldCaller}
-use Rattle.act_walks.specs.declared.told.ToldEnd.{ToldEnd}
-use Rattle.act_walks.specs.Fits.{caller_in, calls_in, is_dead_in}
-use Rattle.act_walks.proofs.Calls.{calls_are as of_caller}
-use Rattle.act_decisions.specs.Play.{HasCalls}
-use Rattle.act_decisions.specs.Fits.{AllFitSteps}
-use Rattle.act_decisions.specs.Placed.{IsCallIn, RunsArePlaced, StandsThere, IsDecided, AllDecided, NoValueIsLost, TookFailure, answer_told}
-use Rattle.act_decisions.specs.LeftBy.{IsLeftBy}
 use Rattle.act_decisions.proofs.SaidRuns.{item_of_said, said_of_item, said_answer}
 use Rattle.act_decisions.proofs.SaidCalls.{data_calls, ran_item}
 use Rattle.act_decisions.proofs.Chosen.{wants_reply, is_death, reply_there, chosen, chosen_all, chosen_length, chosen_at, chosen_past}
-use Rattle.act_decisions.proofs.Common.{place_in}
 
 -- ---- lists
 
@@ -49,7 +30,8 @@ settled_bad kept k (Fut j) e = go (kept_at kept j) refl
     go (Some (Err fault)) is = let same : Bad j ≡ Bad k = ap (λ (o : Option Answer). settled_future j o) (sym is) ∙ e in cc
 
 -- so there was none where the answer is a value
-no_failure : (kept : List (Option Answer)) (args : List Arg) (k : ℕ) (value : Value) → kept_at kept k ≡ Some (Ok value) → Contains (map (settle kept) args) (Bad k) → ⊥
+no_failure : (kept : List (Option Answer)) (args : List Arg) (k : ℕ) (value : Value) → kept_at kept k ≡ Some (Ok value)
+    → Contains (map (settle kept) args) (Bad k) → ⊥
 no_failure kept args k value is has =
     let at = place_in (map (settle kept) args) (Bad k) has in
     let arg = map-slice_get (settle kept) args at.0 (Bad k) at.1 in
@@ -83,14 +65,17 @@ module _ (end : ToldEnd) (steps : List (ℕ × Step × ℕ)) (casts : List Actor
   data_kept c = chosen_all h (calls_in end c) (kept_of c h)
 
   -- a caller that has a call is one of the data
-  own_caller : (c k : ℕ) (call : ToldCall) → IsCallIn end c k call → (caller : ToldCaller) × (caller_in end c ≡ Some caller) × (slice_get caller.calls.items k ≡ Some call)
+  own_caller : (c k : ℕ) (call : ToldCall) → IsCallIn end c k call → (caller : ToldCaller) × (caller_in end c ≡ Some caller)
+      × (slice_get caller.calls.items k ≡ Some call)
   own_caller c k call at = go (caller_in end c) refl
     where
-      go : (o : Option ToldCaller) → caller_in end c ≡ o → (caller : ToldCaller) × (caller_in end c ≡ Some caller) × (slice_get caller.calls.items k ≡ Some call)
+      go : (o : Option ToldCaller) → caller_in end c ≡ o → (caller : ToldCaller) × (caller_in end c ≡ Some caller)
+          × (slice_get caller.calls.items k ≡ Some call)
       go None none = let empty : slice_get (calls_in end c) k ≡ None = rw none refl in let bad : None ≡ Some call = sym empty ∙ at in cc
       go (Some caller) there = (caller, there, ap (λ (l : List ToldCall). slice_get l k) (sym (of_caller end c caller there)) ∙ at)
 
-  pub decides : (c k : ℕ) (call : ToldCall) → IsCallIn end c k call → (caller : ToldCaller) × (caller_in end c ≡ Some caller) × (slice_get caller.calls.items k ≡ Some call)
+  pub decides : (c k : ℕ) (call : ToldCall) → IsCallIn end c k call → (caller : ToldCaller) × (caller_in end c ≡ Some caller)
+      × (slice_get caller.calls.items k ≡ Some call)
       × StandsThere end c k call × IsDecided casts end c k caller call
   decides c k call at = let own = own_caller c k call at in let is = decided c k own.0 call own.1 own.2 in (own.0, own.1, own.2, is.0, is.1)
 
@@ -100,7 +85,8 @@ module _ (end : ToldEnd) (steps : List (ℕ × Step × ℕ)) (casts : List Actor
       let item = item_of_said end h fits taken.actor taken.place taken.run taken.at in
       let of : item.0.caller ≡ c = item.2.caller ∙ taken.caller in
       let sub : IsAsSubmitted (λ c. calls_of c h) (λ c. kept_of c h) item.0 =
-      All_at (IsAsSubmitted (λ c. calls_of c h) (λ c. kept_of c h)) (runs_of taken.actor h) taken.place item.0 ((consistent h sound).as_submitted taken.actor) item.1 in
+      All_at (IsAsSubmitted (λ c. calls_of c h) (λ c. kept_of c h)) (runs_of taken.actor h) taken.place item.0
+      ((consistent h sound).as_submitted taken.actor) item.1 in
       no_failure (kept_of item.0.caller h) sub.call.args k value (ap (λ (d : ℕ). kept_at (kept_of d h) k) of ∙ is)
       (subst (λ (l : List Settled). Contains l (Bad k)) (sym item.2.args ∙ sub.args) taken.took)
 
@@ -108,7 +94,8 @@ module _ (end : ToldEnd) (steps : List (ℕ × Step × ℕ)) (casts : List Actor
   opening_same a = ap (λ (l : List ActorSpec). option_map (λ (cast : ActorSpec). cast.opening) (find (λ (cast : ActorSpec). cast.actor == a) l)) (sym same)
 
   -- a call that ran gave an answer
-  pub gave : (a p : ℕ) (item : RunItem) → slice_get (runs_of a h) p ≡ Some item → is_some (cast_of a h) ≡ true → (answer : Answer) × (answer_of a p h ≡ Some answer)
+  pub gave : (a p : ℕ) (item : RunItem) → slice_get (runs_of a h) p ≡ Some item → is_some (cast_of a h) ≡ true → (answer : Answer)
+      × (answer_of a p h ≡ Some answer)
   gave a p item ran cast = go (cast_of a h) refl cast
     where
       go : (o : Option ActorSpec) → cast_of a h ≡ o → is_some o ≡ true → (answer : Answer) × (answer_of a p h ≡ Some answer)
@@ -131,7 +118,8 @@ module _ (end : ToldEnd) (steps : List (ℕ × Step × ℕ)) (casts : List Actor
   told_is a p = said_answer end h fits casts a p ∙ ap (option_and_then (λ (state : KindState). answer_at state (runs_of a h) p)) (opening_same a)
 
   -- a death that is left open of a call that ran: its reply stands for it
-  reply_for : NoValueIsLost casts end → (c k : ℕ) (call : ToldCall) → IsCallIn end c k call → kept_at (kept_of c h) k ≡ Some (Err ActorDied) → call.is_open ≡ true → call.left ≡ left.Reply
+  reply_for : NoValueIsLost casts end → (c k : ℕ) (call : ToldCall) → IsCallIn end c k call → kept_at (kept_of c h) k ≡ Some (Err ActorDied)
+      → call.is_open ≡ true → call.left ≡ left.Reply
       → chosen h call (kept_at (kept_of c h) k) ≡ reply_there h (kept_at (kept_of c h) k) call.place
       → IsReplyForDeath casts (with_calls (data_calls end) (told_of h)) data_kept c k
   reply_for lost c k call at dead opened reply chosen_is = go call.place refl

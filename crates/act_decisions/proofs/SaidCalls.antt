@@ -1,20 +1,9 @@
 -- What some events leave, as the data says it: other events leave what the data says, to the letter.
-use Rattle.act_early.proofs.Common.{◌≡◌, ℕ, ◌≤◌, Bool, true, false, cond, List, [], ◌∷◌, map, Option, Some, None, inl, inr, ◌⊎◌}
-use Rattle.act_early.proofs.Common.{refl, ap, sym, ◌∙◌, subst, slice_get, RunItem, Submission, Step}
-use Rattle.act_early.proofs.Common.{ActorSpec, History, calls_of, runs_of}
-use Rattle.act_told_ends.specs.Told.{told_of}
-use Rattle.act_told_ends.specs.Untold.{arg_as_run, IsAsRun, Ran, StandFor, MayStandFor}
-use Rattle.act_walks.specs.declared.told.ToldCall.{ToldCall}
-use Rattle.act_walks.specs.declared.told.ToldCaller.{ToldCaller}
-use Rattle.act_walks.specs.declared.told.ToldEnd.{ToldEnd}
-use Rattle.act_walks.specs.Fits.{caller_in, calls_in, bound_of, call_of_item, submission_of_call}
-use Rattle.act_walks.proofs.Calls.{bound_is, calls_are as of_caller}
-use Rattle.act_rules.proofs.Unique.{map-slice_get}
-use Rattle.act_decisions.specs.Play.{calls_of_steps, HasCalls, awaits}
-use Rattle.act_console.specs.Plans.{steps_of_caller}
-use Rattle.act_decisions.specs.Fits.{AllFitSteps, FitsSteps}
-use Rattle.act_decisions.specs.Placed.{IsCallIn, RunsArePlaced, StandsThere, IsDecided, AllDecided}
-use Rattle.act_decisions.specs.LeftBy.{IsLeftBy}
+use Rattle.act_decisions.proofs.Common.{◌≡◌, ℕ, ◌≤◌, Bool, true, false, cond, List, [], ◌∷◌, map, Option, Some, None, inl, inr, ◌⊎◌, refl, ap, sym, ◌∙◌, subst}
+use Rattle.act_decisions.proofs.Common.{slice_get, RunItem, Submission, Step, ActorSpec, History, calls_of, runs_of, told_of, arg_as_run, IsAsRun, Ran}
+use Rattle.act_decisions.proofs.Common.{StandFor, MayStandFor, ToldCall, ToldCaller, ToldEnd, caller_in, calls_in, bound_of, call_of_item, submission_of_call}
+use Rattle.act_decisions.proofs.Common.{bound_is, of_caller, map-slice_get, calls_of_steps, HasCalls, awaits, steps_of_caller, AllFitSteps, FitsSteps, IsCallIn}
+use Rattle.act_decisions.proofs.Common.{RunsArePlaced, StandsThere, IsDecided, AllDecided, IsLeftBy}
 use Rattle.act_decisions.proofs.SaidRuns.{same_call, item_of_said, said_of_item}
 
 -- ---- the calls
@@ -58,7 +47,8 @@ module _ (end : ToldEnd) (steps : List (ℕ × Step × ℕ)) (h : History) (fits
   told_there c some few e = go (calls_of_steps c steps) refl
     where
       go : (l : List Submission) → calls_of_steps c steps ≡ l → data_calls end c ≡ calls_of c h
-      go [] is = none_there c (no_calls (calls_of c h) (sym (fits.calls c) ∙ actors_of (calls_in end c) ∙ ap (map (λ (call : Submission). call.actor)) (e ∙ is)))
+      go [] is = none_there c (no_calls (calls_of c h) (sym (fits.calls c) ∙ actors_of (calls_in end c)
+          ∙ ap (map (λ (call : Submission). call.actor)) (e ∙ is)))
         where
           actors_of : (xs : List ToldCall) → map (λ (call : ToldCall). call.actor) xs ≡ map (λ (call : Submission). call.actor) (map submission_of_call xs)
           actors_of [] = refl

@@ -1,23 +1,12 @@
 -- Where some events end as the lines tell, some end as the data says.
-use Rattle.act_early.proofs.Common.{◌≡◌, ℕ, ◌≤◌, Bool, true, false, cond, List, [], ◌++◌, map, Option, Some, None, inl, inr, ◌⊎◌}
-use Rattle.act_early.proofs.Common.{refl, sym, ◌∙◌, subst, Event, Step, Release, Answer, ActorSpec, History, opening, history, calls_of, IsOk, All, IsSound}
-use Rattle.act_rules.specs.Rules.{outcomes}
+use Rattle.act_decisions.proofs.Common.{◌≡◌, ℕ, ◌≤◌, Bool, true, false, cond, List, [], ◌++◌, map, Option, Some, None, inl, inr, ◌⊎◌, refl, sym, ◌∙◌, subst}
+use Rattle.act_decisions.proofs.Common.{Event, Step, Release, Answer, ActorSpec, History, opening, history, calls_of, IsOk, All, IsSound, outcomes, Told}
+use Rattle.act_decisions.proofs.Common.{EndsAsTold, told_of, with_calls, with_kept, ToldEnd, calls_in, bound_of, Fits, bound_is, HasCalls, awaits, DoesSteps}
+use Rattle.act_decisions.proofs.Common.{steps_of_caller, AllFitSteps, binding, RunsArePlaced, AllDecided, NoValueIsLost, IsLeftBy, IsOfNumbers}
 use Rattle.act_early.specs.Lists.{DoesStepsBy}
 use Rattle.act_thread_ends.proofs.Plans.{steps_by}
-use Rattle.act_told_ends.specs.Told.{Told, EndsAsTold, told_of}
-use Rattle.act_told_ends.specs.Untold.{with_calls}
-use Rattle.act_told_ends.specs.LeftOpen.{with_kept}
 use Rattle.act_told_ends.proofs.Standing.{may_stand}
 use Rattle.act_told_ends.proofs.LeftOpenAll.{may_be_replies}
-use Rattle.act_walks.specs.declared.told.ToldEnd.{ToldEnd}
-use Rattle.act_walks.specs.Fits.{calls_in, bound_of, Fits}
-use Rattle.act_walks.proofs.Calls.{bound_is}
-use Rattle.act_decisions.specs.Play.{HasCalls, awaits, DoesSteps}
-use Rattle.act_console.specs.Plans.{steps_of_caller}
-use Rattle.act_decisions.specs.Fits.{AllFitSteps, binding}
-use Rattle.act_decisions.specs.Placed.{RunsArePlaced, AllDecided, NoValueIsLost}
-use Rattle.act_decisions.specs.LeftBy.{IsLeftBy}
-use Rattle.act_decisions.specs.Within.{IsOfNumbers}
 use Rattle.act_decisions.proofs.SaidCalls.{data_calls, calls_may_stand}
 use Rattle.act_decisions.proofs.SaidAnswers.{data_kept, kept_may_stand}
 use Rattle.act_decisions.proofs.SaidFits.{fits_told}
@@ -29,7 +18,8 @@ binds c steps own e = go (awaits c steps) refl e
     go false is e = cc
     go true is e = (is, cc)
 
-module _ (end : ToldEnd) (steps : List (ℕ × Step × ℕ)) (casts : List ActorSpec) (events : List Event) (lines : AllFitSteps end steps) (within : IsOfNumbers end) where
+module _ (end : ToldEnd) (steps : List (ℕ × Step × ℕ)) (casts : List ActorSpec) (events : List Event) (lines : AllFitSteps end steps)
+    (within : IsOfNumbers end) where
   abbrev pub left_here : History
   left_here = history casts events
 
@@ -55,7 +45,8 @@ module _ (end : ToldEnd) (steps : List (ℕ × Step × ℕ)) (casts : List Actor
           )
 
   -- the calls and the answers that the data says, in place of those that the events left
-  module _ (fits : IsLeftBy end left_here) (placed : RunsArePlaced end) (decided : AllDecided casts end) (numbered : (c : ℕ) → (1 ≤ c) × (c ≤ 16) ⊎ (calls_of c left_here ≡ []))
+  module _ (fits : IsLeftBy end left_here) (placed : RunsArePlaced end) (decided : AllDecided casts end) (numbered : (c : ℕ) → (1 ≤ c) × (c ≤ 16)
+      ⊎ (calls_of c left_here ≡ []))
       (has : (c : ℕ) → 1 ≤ c → c ≤ 16 → HasCalls c steps left_here) (sound : IsSound left_here) (same : left_here.casts ≡ casts) where
     abbrev pub kept_said : ℕ → List (Option Answer)
     kept_said = data_kept end steps casts left_here fits lines placed decided numbered has sound same
@@ -63,9 +54,11 @@ module _ (end : ToldEnd) (steps : List (ℕ × Step × ℕ)) (casts : List Actor
     abbrev pub said : Told
     said = with_kept kept_said (with_calls (data_calls end) (told_of left_here))
 
-    pub some_end : NoValueIsLost casts end → EndsAsTold casts (bound_of end) (told_of left_here) events → ((others : List Event) × EndsAsTold casts (bound_of end) said others) × Fits end said
+    pub some_end : NoValueIsLost casts end → EndsAsTold casts (bound_of end) (told_of left_here) events
+        → ((others : List Event) × EndsAsTold casts (bound_of end) said others) × Fits end said
     some_end lost ends =
-        let one = may_stand casts (bound_of end) (told_of left_here) (data_calls end) events ends (calls_may_stand end steps left_here fits lines placed decided numbered has) in
+        let one = may_stand casts (bound_of end) (told_of left_here) (data_calls end) events ends
+        (calls_may_stand end steps left_here fits lines placed decided numbered has) in
         let two = may_be_replies casts (bound_of end) (with_calls (data_calls end) (told_of left_here)) kept_said one.0 one.1
         (kept_may_stand end steps casts left_here fits lines placed decided numbered has sound same lost) in
         ((two.0, two.1), fits_told end steps casts left_here fits lines placed decided numbered has sound same)

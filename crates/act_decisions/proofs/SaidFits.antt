@@ -1,28 +1,14 @@
 -- What the data says fits what is told once answers were chosen for those left open.
-use Rattle.act_early.proofs.Common.{◌≡◌, ◌≢◌, ℕ, ◌≤◌, ◌&&◌, Bool, true, false, cond, List, [], Option, Some, None, ◌⊎◌}
-use Rattle.act_early.proofs.Common.{refl, ap, sym, ◌∙◌, subst, slice_get, is_some, not, RunItem, Submission, Step, Answer, Err, Ok, ActorDied, kept_at}
-use Rattle.act_early.proofs.Common.{ActorSpec, History, calls_of, runs_of, kept_of, opening_of, is_reply, option_map, option_and_then, KindState, answer_at, IsSound}
-use Rattle.act_rules.proofs.Kept.{kept_at_is, kept_by}
+use Rattle.act_decisions.proofs.Common.{◌≡◌, ◌≢◌, ℕ, ◌≤◌, ◌&&◌, Bool, true, false, cond, List, [], Option, Some, None, ◌⊎◌, refl, ap, sym, ◌∙◌, subst}
+use Rattle.act_decisions.proofs.Common.{slice_get, is_some, not, RunItem, Submission, Step, Answer, Err, Ok, ActorDied, kept_at, ActorSpec, History, calls_of}
+use Rattle.act_decisions.proofs.Common.{runs_of, kept_of, opening_of, is_reply, option_map, option_and_then, answer_at, IsSound, kept_at_is, kept_by}
+use Rattle.act_decisions.proofs.Common.{answers_are, answer_of, reply_alive, reply_some, slice_get-map, option_map_or, told_of, with_calls, with_kept, Left}
+use Rattle.act_decisions.proofs.Common.{ToldCall, ToldCaller, ToldEnd, caller_in, calls_in, FitsLeft, left_of, Fits, HasCalls, AllFitSteps, IsCallIn}
+use Rattle.act_decisions.proofs.Common.{IsPlacedAt, RunsArePlaced, StandsThere, IsDecided, AllDecided, GaveValue, TookFailure, IsLeftBy}
+use Rattle.act_early.proofs.Common.{KindState}
 use Rattle.act_rules.proofs.KindFaults.{answer_alive}
-use Rattle.act_rules.proofs.Sound.{answers_are}
-use Rattle.act_rules.specs.History.{answer_of}
-use Rattle.act_early.proofs.Replies.{reply_alive, reply_some}
-use Rattle.std.proofs.lemmas.Option.{slice_get-map}
-use Rattle.std.specs.Option.{option_map_or}
-use Rattle.act_told_ends.specs.Told.{told_of}
-use Rattle.act_told_ends.specs.Untold.{with_calls}
-use Rattle.act_told_ends.specs.LeftOpen.{with_kept}
 use Rattle.act_told_ends.proofs.Posted.{is_alive}
-use Rattle.act_walks.specs.declared.told.Left.{Left}
 use Rattle.act_walks.specs.declared.told.Left.TheVariants as left
-use Rattle.act_walks.specs.declared.told.ToldCall.{ToldCall}
-use Rattle.act_walks.specs.declared.told.ToldCaller.{ToldCaller}
-use Rattle.act_walks.specs.declared.told.ToldEnd.{ToldEnd}
-use Rattle.act_walks.specs.Fits.{caller_in, calls_in, FitsLeft, left_of, Fits}
-use Rattle.act_decisions.specs.Play.{HasCalls}
-use Rattle.act_decisions.specs.Fits.{AllFitSteps}
-use Rattle.act_decisions.specs.Placed.{IsCallIn, IsPlacedAt, RunsArePlaced, StandsThere, IsDecided, AllDecided, GaveValue, TookFailure}
-use Rattle.act_decisions.specs.LeftBy.{IsLeftBy}
 use Rattle.act_decisions.proofs.SaidCalls.{data_calls, ran_item}
 use Rattle.act_decisions.proofs.SaidRuns.{said_of_item, said_runs}
 use Rattle.act_decisions.proofs.Chosen.{wants_reply, is_death, reply_there, chosen_at, chosen_past}
@@ -140,7 +126,8 @@ module _ (end : ToldEnd) (steps : List (ℕ × Step × ℕ)) (casts : List Actor
               let answer = gave end steps casts h fits lines placed decided numbered has sound same a p ran.0 ran.1 (fits.cast a p stands.0 stands.1) in
               ap is_reply (kept_is ∙ ap (reply_there h (kept_at (kept_of c h) k)) there ∙ answer.1) ∙ is_alive answer.0 (alive (opening_of a h) answer.1)
             where
-              alive : (o : Option KindState) → {answer : Answer} → option_and_then (λ (state : KindState). answer_at state (runs_of a h) p) o ≡ Some answer → answer ≢ Err ActorDied
+              alive : (o : Option KindState) → {answer : Answer} → option_and_then (λ (state : KindState). answer_at state (runs_of a h) p) o ≡ Some answer
+                  → answer ≢ Err ActorDied
               alive None e = cc
               alive (Some state) {answer} e = answer_alive state (runs_of a h) p answer e
 
@@ -181,6 +168,8 @@ module _ (end : ToldEnd) (steps : List (ℕ × Step × ℕ)) (casts : List Actor
   }
     where
       go : (c k : ℕ) (o : Option ToldCall) → slice_get (calls_in end c) k ≡ o → FitsLeft (left_of end c k) (kept_at (kept_here c) k)
-      go c k None none = subst (λ (l : Left). FitsLeft l (kept_at (kept_here c) k)) (sym (ap (λ (o : Option ToldCall). option_map_or (λ (x : ToldCall). x.left) o left.Open) none))
+      go c k None none = subst (λ (l : Left). FitsLeft l (kept_at (kept_here c) k))
+          (sym (ap (λ (o : Option ToldCall). option_map_or (λ (x : ToldCall). x.left) o left.Open) none))
           (chosen_past h (calls_in end c) (kept_of c h) k none ∙ past c k none)
-      go c k (Some call) at = subst (λ (l : Left). FitsLeft l (kept_at (kept_here c) k)) (sym (ap (λ (o : Option ToldCall). option_map_or (λ (x : ToldCall). x.left) o left.Open) at)) (fits_left c k call at)
+      go c k (Some call) at = subst (λ (l : Left). FitsLeft l (kept_at (kept_here c) k))
+          (sym (ap (λ (o : Option ToldCall). option_map_or (λ (x : ToldCall). x.left) o left.Open) at)) (fits_left c k call at)

@@ -1,14 +1,9 @@
 -- The calls that are told to have run, beside the items of a history.
-use Rattle.act_early.proofs.Common.{◌≡◌, ℕ, zero, suc, List, [], ◌∷◌, map, Option, Some, None, refl, ap, sym, ◌∙◌, subst, slice_get, RunItem, KindState, answer_at, History, runs_of, opening_of, ActorSpec, opening, option_and_then}
-use Rattle.std.specs.List.{AllZip}
-use Rattle.act_rules.specs.RunList.{Answer, after_item, answers_from}
-use Rattle.act_types.specs.declared.call.Method.{Method}
-use Rattle.act_types.specs.declared.call.Settled.{Settled}
-use Rattle.act_walks.specs.declared.told.ToldEnd.{ToldEnd}
-use Rattle.act_walks.specs.declared.told.ToldRun.{ToldRun}
-use Rattle.act_walks.specs.Fits.{rans_in, runs_in, call_of_run, call_of_item}
-use Rattle.act_decisions.specs.LeftBy.{IsSameRun, IsLeftBy}
-use Rattle.act_decisions.specs.Placed.{IsRunIn, item_told, answer_told}
+use Rattle.act_decisions.proofs.Common.{◌≡◌, ℕ, zero, suc, List, [], ◌∷◌, map, Option, Some, None, refl, ap, sym, ◌∙◌, subst, slice_get, RunItem, answer_at}
+use Rattle.act_decisions.proofs.Common.{History, runs_of, opening_of, ActorSpec, opening, option_and_then, AllZip, Answer, after_item, answers_from, Method}
+use Rattle.act_decisions.proofs.Common.{Settled, ToldEnd, ToldRun, rans_in, runs_in, call_of_run, call_of_item, IsSameRun, IsLeftBy, IsRunIn, item_told}
+use Rattle.act_decisions.proofs.Common.{answer_told}
+use Rattle.act_early.proofs.Common.{KindState}
 
 -- what is told to have run and an item that is the same call have one caller and one future
 pub same_call : (run : ToldRun) (item : RunItem) → IsSameRun run item → call_of_run run ≡ call_of_item item
@@ -42,10 +37,13 @@ run_at (run ∷ runs) (one ∷ items) (suc p) item all e = run_at runs items p i
 -- what an item answers is decided by its method and its arguments
 same_after : (state : KindState) (run : ToldRun) (item : RunItem) → IsSameRun run item → after_item state (item_told run) ≡ after_item state item
 same_after state run item same =
-    ap (λ (args : List Settled). after_item state (record { caller = run.caller; number = 0; future = run.future; method = run.method; args = args })) (sym same.args)
-    ∙ ap (λ (method : Method). after_item state (record { caller = run.caller; number = 0; future = run.future; method = method; args = item.args })) (sym same.method)
+    ap (λ (args : List Settled). after_item state (record { caller = run.caller; number = 0; future = run.future; method = run.method; args = args }))
+    (sym same.args)
+    ∙ ap (λ (method : Method). after_item state (record { caller = run.caller; number = 0; future = run.future; method = method; args = item.args }))
+    (sym same.method)
 
-same_answers : (state : KindState) (runs : List ToldRun) (items : List RunItem) → AllZip IsSameRun runs items → answers_from state (map item_told runs) ≡ answers_from state items
+same_answers : (state : KindState) (runs : List ToldRun) (items : List RunItem) → AllZip IsSameRun runs items
+    → answers_from state (map item_told runs) ≡ answers_from state items
 same_answers state [] [] all = refl
 same_answers state [] (item ∷ items) all = absurd all
 same_answers state (run ∷ runs) [] all = absurd all

@@ -1,7 +1,6 @@
 -- A caller's steps among those of a script, one after the other.
-use Rattle.act_decisions.proofs.Common.{◌≡◌, ℕ, ◌+◌, ◌<◌, ◌==◌, Bool, true, false, List, [], ◌∷◌, ◌++◌, length, take, map, filter, get_or}
-use Rattle.act_decisions.proofs.Common.{refl, sym, ap, ◌∙◌, if◌then◌else◌, take_more, map-append, filter-append}
-use Rattle.act_decisions.proofs.Common.{Step, steps_of_caller, own_step, StartsWith}
+use Rattle.act_decisions.proofs.Common.{◌≡◌, ℕ, ◌+◌, ◌<◌, ◌==◌, Bool, true, false, List, [], ◌∷◌, ◌++◌, length, take, map, filter, get_or, refl, sym, ap, ◌∙◌}
+use Rattle.act_decisions.proofs.Common.{if◌then◌else◌, take_more, map-append, filter-append, Step, steps_of_caller, own_step, StartsWith}
 
 -- one step of a script
 pub of_one : (c : ℕ) (s : ℕ × Step × ℕ) → steps_of_caller c (s ∷ []) ≡ own_step c s

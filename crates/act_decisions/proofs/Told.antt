@@ -1,6 +1,6 @@
 -- The lines that are told, one after the other.
-use Rattle.act_decisions.proofs.Common.{◌≡◌, ℕ, List, [], ◌∷◌, ◌++◌, Bor, refl, sym, ap, ◌∙◌, flat_map, flat_map-append}
-use Rattle.act_decisions.proofs.Common.{append-nil, map-append, All-append, All-cons, All-nil, told_line, IsToldAs, Make}
+use Rattle.act_decisions.proofs.Common.{◌≡◌, ℕ, List, [], ◌∷◌, ◌++◌, Bor, refl, sym, ap, ◌∙◌, flat_map, flat_map-append, append-nil, map-append, All-append}
+use Rattle.act_decisions.proofs.Common.{All-cons, All-nil, told_line, IsToldAs, Make}
 use Rattle.act_scripts.proofs.Each.{texts}
 
 -- the line of a pair, as it is told
@@ -12,7 +12,8 @@ pub none : Make [] []
 none = record { pairs = []; given = refl; told = All-nil (λ (pair : List ℕ × List ℕ). IsToldAs pair.0 pair.1); whole = refl }
 
 -- one line more
-pub one_more : (lines : List (Bor (List ℕ))) (line : Bor (List ℕ)) (told old new : List ℕ) → IsToldAs line.now told → new ≡ old ++ told_line told → Make (texts lines) old → Make (texts (lines ++ line ∷ [])) new
+pub one_more : (lines : List (Bor (List ℕ))) (line : Bor (List ℕ)) (told old new : List ℕ) → IsToldAs line.now told → new ≡ old ++ told_line told
+    → Make (texts lines) old → Make (texts (lines ++ line ∷ [])) new
 one_more lines line told old new as_told is so_far =
     let pair : List ℕ × List ℕ = (line.now, told) in
     record {
@@ -21,7 +22,8 @@ one_more lines line told old new as_told is so_far =
           map-append (λ (pair : List ℕ × List ℕ). pair.0) so_far.pairs (pair ∷ [])
           ∙ ap (λ (front : List (List ℕ)). front ++ line.now ∷ []) so_far.given
           ∙ sym (map-append (λ (line : Bor (List ℕ)). line.now) lines (line ∷ []));
-      told = All-append (λ (pair : List ℕ × List ℕ). IsToldAs pair.0 pair.1) so_far.pairs (pair ∷ []) so_far.told (All-cons (λ (pair : List ℕ × List ℕ). IsToldAs pair.0 pair.1) pair [] as_told (All-nil (λ (pair : List ℕ × List ℕ). IsToldAs pair.0 pair.1)));
+      told = All-append (λ (pair : List ℕ × List ℕ). IsToldAs pair.0 pair.1) so_far.pairs (pair ∷ []) so_far.told
+          (All-cons (λ (pair : List ℕ × List ℕ). IsToldAs pair.0 pair.1) pair [] as_told (All-nil (λ (pair : List ℕ × List ℕ). IsToldAs pair.0 pair.1)));
       whole =
           is
           ∙ ap (λ (front : List ℕ). front ++ told_line told) so_far.whole

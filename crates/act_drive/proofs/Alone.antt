@@ -6,33 +6,11 @@ use Rattle.act_drive.proofs.Common.{HasRunCall, All-push, all_pairs_push, MailVi
 use Rattle.act_drive.proofs.Common.{new_putter, new_taker, Asked, Letter, Endpoint, CallerPasses, IsFreshEndpoint, IsKillEndpoint, AreKillEndpoints}
 use Rattle.act_drive.proofs.Common.{IsUnusedCaller}
 
-one_endpoint : (mail : MailView) (c : ℕ) (post : PutterView Letter Unit) → post ≡ new_putter mail.line c → IsFreshEndpoint (mail ∷ []) c (record { place = 0; pass = post })
-one_endpoint mail c post is = record {
-  below = omega arith;
-  line = λ d. sym (ap (λ (p : PutterView Letter Unit). p.line) is);
-  number = ap (λ (p : PutterView Letter Unit). p.number) is;
-  put = ap (λ (p : PutterView Letter Unit). p.put) is;
-  stamps = ap (λ (p : PutterView Letter Unit). p.stamps) is;
-}
-
 one_kill : (control : ControlView) (c : ℕ) (pass : PutterView Asked ℕ) → pass ≡ new_putter control.line c → AreKillEndpoints (control ∷ []) (record { place = 0; pass = pass } ∷ [])
 one_kill control c pass is = (
   All-push (IsKillEndpoint (control ∷ [])) [] (record { place = 0; pass = pass }) (λ k d below. absurd (omega arith)) (record { below = omega arith; line = λ d. sym (ap (λ (p : PutterView Asked ℕ). p.line) is) }),
   λ i j d lt below. absurd (omega arith),
 )
-
-pub unused_alone : (passes : CallerPasses) (a c : ℕ) (mail : MailView) (control : ControlView) (replies : RepliesView) (post : PutterView Letter Unit) (ask : PutterView Asked ℕ)
-    → post ≡ new_putter mail.line c → ask ≡ new_putter control.line c → passes.letters.items ≡ record { place = 0; pass = post } ∷ [] → passes.kills.items ≡ record { place = 0; pass = ask } ∷ [] → passes.collects ≡ new_taker replies.line (a ∷ []) → IsUnusedCaller (mail ∷ []) (control ∷ []) replies c passes
-unused_alone passes a c mail control replies post ask posted asked letters kills collects = record {
-  collects = ap (λ (t : _). t.line) collects;
-  taken = ap (λ (t : _). t.taken) collects;
-  stamps = ap (λ (t : _). t.stamps) collects;
-  distinct = rw letters (λ i j d lt below. absurd (omega (arith, lt, below)));
-  letters = rw letters (All-push (IsFreshEndpoint (mail ∷ []) c) [] (record { place = 0; pass = post }) (λ k d below. absurd (omega arith)) (one_endpoint mail c post posted));
-  kills = rw kills (one_kill control c ask asked);
-  asked = rw kills (All-push (λ (s : Endpoint (PutterView Asked ℕ)). s.pass.put ≡ []) [] (record { place = 0; pass = ask }) (λ k d below. absurd (omega arith)) (ap (λ (p : PutterView Asked ℕ). p.put) asked));
-  asked_stamps = rw kills (All-push (λ (s : Endpoint (PutterView Asked ℕ)). s.pass.stamps ≡ []) [] (record { place = 0; pass = ask }) (λ k d below. absurd (omega arith)) (ap (λ (p : PutterView Asked ℕ). p.stamps) asked));
-}
 
 -- ---- the same with two actors
 

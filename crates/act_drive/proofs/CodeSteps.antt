@@ -6,8 +6,7 @@ use Rattle.act_drive.proofs.Common.{Submission, HandleRefusal, SubmitRefusal, Pe
 use Rattle.act_drive.proofs.Common.{kept_at, submit_refusal, limit_refusal, copy_refusal, handle_refusal, done_by, nothing_done, option_or-none, copies_in}
 use Rattle.act_drive.proofs.Common.{with_copy, Handle, copies-with_number, OwnerView, refusal_to_submit, owner_limit, pending, with_submission, with_handles}
 use Rattle.act_drive.proofs.Common.{CallerLines, Driver, CallerPasses, bare_post, bare_ask, Stays, Waits, FollowsBy, KeptOn, SessionView, session_view}
-use Rattle.act_drive.proofs.Common.{call_refusal, use_refusal, IsLater, DoesMore, OnlyHears, Submits, Does}
-use Rattle.std.proofs.lemmas.List.{append_assoc}
+use Rattle.act_drive.proofs.Common.{call_refusal, use_refusal, IsLater, DoesMore, OnlyHears, Submits, Does, append_assoc}
 use Rattle.act_drive.proofs.PlanSteps.{follows_waits, submit_follows, copy_follows, await_follows}
 
 -- ---- answers

@@ -2,19 +2,16 @@
 pub use Rattle.act_actor.specs.Actor.{HasRunCall, item_of, next_call, reply_of_run}
 pub use Rattle.act_actor.specs.StateViews.{live_view}
 pub use Rattle.act_actor.specs.View.{ActorView, LiveView}
-pub use Rattle.act_rules.specs.Actions.{Action, KillAsked, Copied, Noticed, Released, Sent, Submitted}
-pub use Rattle.act_owner.specs.Life.{CallerMayDo, CallerMayDoAll, notice_of, after_actions, Hears, after_action, is_known_at, notices_in}
 pub use Rattle.act_drive.specs.CallerTraces.{IsAskedAfter, IsCallerTrace, IsPostedAfter, caller_clock}
 pub use Rattle.act_drive.specs.Coded.{HasConcluded, HasRunCode}
 pub use Rattle.act_drive.specs.Driven.{AreAnswered, AreAsked, AreDistinct, AreKillEndpoints, AreNoted, AreTwo, FollowsBy, FollowsSteps, HasAsked, HasDone}
 pub use Rattle.act_drive.specs.Driven.{HasDriven, HasEndedAt, HasNamed, HasPosted, IsApart, IsCalling, IsDue, IsElsewhere, IsEndpoint, IsFreshCaller}
-pub use Rattle.act_drive.specs.Driven.{IsFreshEndpoint, IsIdle, IsKeeping, IsKillEndpoint, IsNoted, IsPostedOnce, IsPosting, IsSent, IsThrough}
-pub use Rattle.act_drive.specs.Driven.{IsUnusedCaller, KeptOn, LettersStandAtTheirEndpoints, MayBeSent, OnlyReleases, OwnerGoesOn, Stays, Waits}
-pub use Rattle.act_drive.specs.Driven.{actor_of_letter, bare_ask, bare_post, future_of_letter, futures_in, is_note_letter, last_note, posted_in}
+pub use Rattle.act_drive.specs.Driven.{IsFreshEndpoint, IsIdle, IsKeeping, IsKillEndpoint, IsNoted, IsPostedOnce, IsPosting, IsSent, IsThrough, IsUnusedCaller}
+pub use Rattle.act_drive.specs.Driven.{KeptOn, LettersStandAtTheirEndpoints, MayBeSent, OnlyReleases, OwnerGoesOn, Stays, Waits, actor_of_letter, bare_ask}
+pub use Rattle.act_drive.specs.Driven.{bare_post, future_of_letter, futures_in, is_note_letter, last_note, posted_in}
 pub use Rattle.act_drive.specs.Lent.{Does, HasDrivenCode, IsAtWork}
 pub use Rattle.act_drive.specs.PlanTraces.{DoesPlan, DoesStep, HasDonePlan, IsMeanwhile}
-pub use Rattle.act_drive.specs.Sessions.{DoesMore, IsLater, OnlyHears, SessionView, Submits, call_refusal, first_answered, kills_of, session_view}
-pub use Rattle.act_drive.specs.Sessions.{use_refusal}
+pub use Rattle.act_drive.specs.Sessions.{DoesMore, IsLater, OnlyHears, SessionView, Submits, call_refusal, first_answered, kills_of, session_view, use_refusal}
 pub use Rattle.act_drive.specs.Tracing.{IsTracing, IsTracingClosed, OnlyWaits, Traces, TracesClosing, TracesPlan, TracesStep}
 pub use Rattle.act_drive.specs.declared.caller.Driven.{Driven}
 pub use Rattle.act_drive.specs.declared.driver.CallerLines.{CallerLines}
@@ -38,6 +35,7 @@ pub use Rattle.act_mailbox.specs.declared.thread.Endpoint.{Endpoint}
 pub use Rattle.act_owner.proofs.Life.{after_all-append, packet_stays, step}
 pub use Rattle.act_owner.proofs.Told.{death_sent, hears_opened, hears_step, reply_sent, sent_stays}
 pub use Rattle.act_owner.proofs.Waiting.{find_true}
+pub use Rattle.act_owner.specs.Life.{CallerMayDo, CallerMayDoAll, Hears, after_action, after_actions, is_known_at, notice_of, notices_in}
 pub use Rattle.act_owner.specs.Owner.{OwnerView, after_collect, after_reply_that, call_waits_for, first_ready, is_known_call, is_known_dead, is_of_call}
 pub use Rattle.act_owner.specs.Owner.{is_ready, is_sent, opened_under, owner_limit, packet_at, packet_for, pending, refusal_to_submit, release_note}
 pub use Rattle.act_owner.specs.Owner.{release_told, sending_refusal, with_death, with_handles, with_sent, with_submission}
@@ -45,9 +43,9 @@ pub use Rattle.act_owner.specs.declared.owner.Collected.TheVariants.{First, Late
 pub use Rattle.act_rules.proofs.Ended.{needs-none}
 pub use Rattle.act_rules.proofs.Events.{calls_to-length}
 pub use Rattle.act_rules.proofs.Lists.{All-two, option_or-none}
+pub use Rattle.act_rules.specs.Actions.{Action, Copied, KillAsked, Noticed, Released, Sent, Submitted}
 pub use Rattle.act_rules.specs.Consistent.{IsPrefix}
-pub use Rattle.act_rules.specs.Plans.{Progress, do_step, done_by, first_bad, first_bad_from, holds, is_kill_of, is_refused, kills_to, nothing_done}
-pub use Rattle.act_rules.specs.Plans.{occurrences}
+pub use Rattle.act_rules.specs.Plans.{Progress, do_step, done_by, first_bad, first_bad_from, holds, is_kill_of, is_refused, kills_to, nothing_done, occurrences}
 pub use Rattle.act_rules.specs.RunList.{Answer}
 pub use Rattle.act_rules.specs.Submissions.{calls_to, copies_held, copy_refusal, handle_refusal, kept_at, limit_refusal, needs, send_refusal, submit_refusal}
 pub use Rattle.act_rules.specs.declared.history.RunItem.{RunItem}

@@ -1,15 +1,15 @@
 -- What stays while a caller goes on.
 use Rattle.act_drive.proofs.Common.{◌≡◌, ℕ, zero, suc, ◌+◌, ◌<◌, Bool, true, false, if◌then◌else◌, not, ◌&&◌, List, ◌∷◌, ◌++◌, length, get_or, set, Option}
-use Rattle.act_drive.proofs.Common.{Some, None, is_some, refl, sym, ◌∙◌, ap, subst, arith, All, AllPairs, Contains, append-nil, option_to_list}
-use Rattle.act_drive.proofs.Common.{length-append, slice_get_within, map-set_same, TakerView, map, slice_get, slice_set, unwrap_or, option_map}
-use Rattle.act_drive.proofs.Common.{range_with_len, All-nil, All-cons, All-head, All-tail, All-push, All-set, All-weaker, Contains-append_left}
-use Rattle.act_drive.proofs.Common.{filter_map-append, all_pairs_push, get_or_append_left, length-set, Packet, Reply, Notice, Answered, Death, Submission}
-use Rattle.act_drive.proofs.Common.{RunItem, Answer, calls_to, copies_held, kept_at, copies_in, Handle, First, Late, Stray, OwnerView, packet_at, packet_for}
-use Rattle.act_drive.proofs.Common.{is_sent, is_of_call, after_reply_that, with_death, after_collect, with_sent, is_ready, first_ready, is_known_call}
-use Rattle.act_drive.proofs.Common.{Action, Sent, Noticed, after_action, is_known_at, Hears, step, packet_stays, find_true, sent_stays, hears_step}
-use Rattle.act_drive.proofs.Common.{reply_sent, death_sent, MailView, PutterView, Letter, Call, Note, Endpoint, CallerLines, Driver, CallerPasses}
-use Rattle.act_drive.proofs.Common.{actor_of_letter, future_of_letter, futures_in, AreTwo, IsSent, MayBeSent, IsPosting, IsEndpoint, AreKillEndpoints}
-use Rattle.act_drive.proofs.Common.{IsCalling, Stays, Waits, OwnerGoesOn, bare_post, bare_ask, IsIdle, IsKeeping, is_note_letter, AreNoted, OnlyWaits, []}
+use Rattle.act_drive.proofs.Common.{Some, None, is_some, refl, sym, ◌∙◌, ap, subst, arith, All, AllPairs, Contains, append-nil, option_to_list, length-append}
+use Rattle.act_drive.proofs.Common.{slice_get_within, map-set_same, TakerView, map, slice_get, slice_set, unwrap_or, option_map, range_with_len, All-nil}
+use Rattle.act_drive.proofs.Common.{All-cons, All-head, All-tail, All-push, All-set, All-weaker, Contains-append_left, filter_map-append, all_pairs_push}
+use Rattle.act_drive.proofs.Common.{get_or_append_left, length-set, Packet, Reply, Notice, Answered, Death, Submission, RunItem, Answer, calls_to, copies_held}
+use Rattle.act_drive.proofs.Common.{kept_at, copies_in, Handle, First, Late, Stray, OwnerView, packet_at, packet_for, is_sent, is_of_call, after_reply_that}
+use Rattle.act_drive.proofs.Common.{with_death, after_collect, with_sent, is_ready, first_ready, is_known_call, Action, Sent, Noticed, after_action}
+use Rattle.act_drive.proofs.Common.{is_known_at, Hears, step, packet_stays, find_true, sent_stays, hears_step, reply_sent, death_sent, MailView, PutterView}
+use Rattle.act_drive.proofs.Common.{Letter, Call, Note, Endpoint, CallerLines, Driver, CallerPasses, actor_of_letter, future_of_letter, futures_in, AreTwo}
+use Rattle.act_drive.proofs.Common.{IsSent, MayBeSent, IsPosting, IsEndpoint, AreKillEndpoints, IsCalling, Stays, Waits, OwnerGoesOn, bare_post, bare_ask}
+use Rattle.act_drive.proofs.Common.{IsIdle, IsKeeping, is_note_letter, AreNoted, OnlyWaits, []}
 use Rattle.act_drive.proofs.Keeps.{keeps_on, same_returns, keeps_taken, keeps_dropped, keeps_posted}
 use Rattle.act_drive.proofs.Noted.{noted_on, noted_same, noted_posted}
 

@@ -4,7 +4,7 @@ use Rattle.act_drive.proofs.Common.{subst, arith, rules, All, AllPairs, Contains
 use Rattle.act_drive.proofs.Common.{get_or_default, get_or-set_same, get_or-set_other, length-set, ne_eqb, eqb_tells, leb_tells, All-push, All-set, Notice}
 use Rattle.act_drive.proofs.Common.{Death, kept_at, RunItem, Step, Kill, Progress, holds, nothing_done, kills_to, copies_in, OwnerView, PutterView, ControlView}
 use Rattle.act_drive.proofs.Common.{Asked, Endpoint, CallerLines, Driver, IsCalling, Stays, Waits, bare_post, bare_ask, FollowsBy, HasAsked, AreAsked}
-use Rattle.act_drive.proofs.Common.{AreKillEndpoints, IsKillEndpoint, IsElsewhere, HasNamed}
+use Rattle.act_drive.proofs.Common.{AreKillEndpoints, IsKillEndpoint, HasNamed}
 use Rattle.act_drive.proofs.Noted.{noted_same}
 use Rattle.act_drive.proofs.PlanSteps.{done_more, kills_more, no_kill, follows_waits}
 
@@ -42,10 +42,6 @@ kill_follows lines old between new a waits is collects endpoints actors steps fi
       copies = λ b. ap (λ (o : OwnerView). copies_in b o.handles) is ∙ f.copies b ∙ sym (ap (holds b actors) more);
       kills = rw collects (endpoints steps f.kills);
     }
-
-pub kills_elsewhere : (controls : List ControlView) (taken : List Notice) (endpoints : List (Endpoint (PutterView Asked ℕ))) (a : ℕ) → All (IsElsewhere controls a) endpoints → (steps : List Step) → All (HasAsked controls steps taken) endpoints → All (HasAsked controls (steps ++ Kill a ∷ []) taken) endpoints
-kills_elsewhere controls taken endpoints a apart steps all k s below d =
-    subst (λ (n : ℕ). AreAsked taken (get_or controls (get_or endpoints k s).place d).actor n (length (get_or endpoints k s).pass.put)) (other_kill a _ steps (λ same. apart k s below d (sym same))) (all k s below d)
 
 pub kills_dead : (controls : List ControlView) (taken : List Notice) (endpoints : List (Endpoint (PutterView Asked ℕ))) (a : ℕ) → Contains taken (Death a) → (steps : List Step) → All (HasAsked controls steps taken) endpoints → All (HasAsked controls (steps ++ Kill a ∷ []) taken) endpoints
 kills_dead controls taken endpoints a dead steps all k s below d = asked_dead taken a _ _ steps dead (all k s below d)

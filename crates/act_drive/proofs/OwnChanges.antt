@@ -1,10 +1,10 @@
 -- A caller that changes its owner by itself: what stays, and what a submission, a copy and a release do to its copies and calls.
-use Rattle.act_drive.proofs.Common.{◌≡◌, ◌≢◌, ℕ, ◌-◌, ◌==◌, Bool, false, if◌then◌else◌, List, ◌∷◌, ◌++◌, length, filter, Option, Some, None, is_some, refl}
-use Rattle.act_drive.proofs.Common.{sym, ◌∙◌, ap, subst, arith, All, append-nil, option_to_list, inl, inr, option_map, ne_eqb, eqb_tells, filter-append}
-use Rattle.act_drive.proofs.Common.{Method, Arg, Notice, Submission, calls_to, copies_held, copy_refusal, submit_refusal, option_or-none, needs-none}
-use Rattle.act_drive.proofs.Common.{copies_in, with_copy, with_number, without_copy, copies-with_copy-other, copies-without_copy, copies-without_copy-other}
-use Rattle.act_drive.proofs.Common.{copies-with_number, copy_holds, positive, OwnerView, refusal_to_submit, Action, after_action, notices_in, Hears, step}
-use Rattle.act_drive.proofs.Common.{hears_step, calls_to-length, CallerLines, Driver, IsCalling, OwnerGoesOn, HasNamed, []}
+use Rattle.act_drive.proofs.Common.{◌≡◌, ◌≢◌, ℕ, ◌-◌, ◌==◌, Bool, false, if◌then◌else◌, List, ◌∷◌, ◌++◌, length, filter, Option, Some, None, is_some, refl, sym}
+use Rattle.act_drive.proofs.Common.{◌∙◌, ap, subst, arith, All, append-nil, option_to_list, inl, inr, option_map, ne_eqb, eqb_tells, filter-append, Method, Arg}
+use Rattle.act_drive.proofs.Common.{Notice, Submission, calls_to, copies_held, copy_refusal, submit_refusal, option_or-none, needs-none, copies_in, with_copy}
+use Rattle.act_drive.proofs.Common.{with_number, without_copy, copies-with_copy-other, copies-without_copy, copies-without_copy-other, copies-with_number}
+use Rattle.act_drive.proofs.Common.{copy_holds, positive, OwnerView, refusal_to_submit, Action, after_action, notices_in, Hears, step, hears_step}
+use Rattle.act_drive.proofs.Common.{calls_to-length, CallerLines, Driver, IsCalling, OwnerGoesOn, HasNamed, []}
 use Rattle.act_drive.proofs.Keeps.{Returns, keeps_on}
 use Rattle.act_drive.proofs.Noted.{noted_on}
 use Rattle.act_drive.proofs.Drivers.{change_on, held_on, endpoints_on, driver_same}

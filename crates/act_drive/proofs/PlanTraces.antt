@@ -1,6 +1,6 @@
 -- The steps of a plan in a trace, one after another.
-use Rattle.act_drive.proofs.Common.{◌≡◌, List, ◌∷◌, ◌++◌, refl, sym, ◌∙◌, ap, arith, append_assoc, append-nil, All-push, Step, OwnerView, Action}
-use Rattle.act_drive.proofs.Common.{after_actions, IsMeanwhile, DoesStep, DoesPlan, [], after_all-append}
+use Rattle.act_drive.proofs.Common.{◌≡◌, List, ◌∷◌, ◌++◌, refl, sym, ◌∙◌, ap, arith, append_assoc, append-nil, All-push, Step, OwnerView, Action, after_actions}
+use Rattle.act_drive.proofs.Common.{IsMeanwhile, DoesStep, DoesPlan, [], after_all-append}
 
 -- a step more that is none of the plan's
 pub meanwhile_more : (owner : OwnerView) (plan : List Step) (steps : List Action) (x : Action) → IsMeanwhile x → DoesPlan owner plan steps → DoesPlan owner plan (steps ++ x ∷ [])

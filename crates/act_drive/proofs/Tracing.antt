@@ -1,16 +1,15 @@
 -- What a caller's thread leaves goes on, step by step.
-use Rattle.act_drive.proofs.Common.{◌≡◌, ℕ, suc, ◌-◌, ◌<◌, ◌≤◌, Bool, true, false, not, ◌&&◌, List, ◌∷◌, ◌++◌, length, get_or, set, Option, Some, None}
-use Rattle.act_drive.proofs.Common.{is_some, refl, sym, ◌∙◌, ap, subst, arith, All, append_assoc, append-nil, inl, inr, map, option_map, slice_get, Result}
-use Rattle.act_drive.proofs.Common.{Ok, Err, OnOk, OnErr, AllZip, flat_map, range_with_len, map-append, set-get_or, All-weaker, All-set}
-use Rattle.act_drive.proofs.Common.{Contains-append_left, Contains-push, all_zipped_more, Notice, Packet, ReleaseNote, RunItem, Step, Release, Kill, Await}
-use Rattle.act_drive.proofs.Common.{Submission, NotReady, needs, kept_at, copies_held, handle_refusal, send_refusal, copies_in, without_copy}
-use Rattle.act_drive.proofs.Common.{copies-without_copy, OwnerView, sending_refusal, with_sent, with_handles, after_collect, is_known_call, is_sent}
-use Rattle.act_drive.proofs.Common.{is_ready, first_ready, is_known_dead, Sent, Released, Noticed, after_action, find_true, greatest, steps_in, found_in}
-use Rattle.act_drive.proofs.Common.{AreTakenLater, PutterView, TakerView, ControlView, Asked, Letter, Call, Note, Endpoint, CallerLines, CallerPasses}
-use Rattle.act_drive.proofs.Common.{Driver, Action, KillAsked, notice_of, after_actions, CallerMayDo, CallerMayDoAll, caller_clock, IsPostedAfter}
-use Rattle.act_drive.proofs.Common.{IsAskedAfter, IsCallerTrace, DoesStep, DoesPlan, HasDonePlan, IsTracing, IsTracingClosed, Traces, TracesStep}
-use Rattle.act_drive.proofs.Common.{TracesClosing, IsFreshCaller, IsFreshEndpoint, all_zip_weaker, steps_more, timed_later, timed_push, part_one, part_none}
-use Rattle.act_drive.proofs.Common.{later_one, later_none, [], after_all-append, ◌||◌}
+use Rattle.act_drive.proofs.Common.{◌≡◌, ℕ, suc, ◌-◌, ◌<◌, ◌≤◌, Bool, true, false, not, ◌&&◌, List, ◌∷◌, ◌++◌, length, get_or, set, Option, Some, None, is_some}
+use Rattle.act_drive.proofs.Common.{refl, sym, ◌∙◌, ap, subst, arith, All, append_assoc, append-nil, inl, inr, map, option_map, slice_get, Result, Ok, Err}
+use Rattle.act_drive.proofs.Common.{OnOk, OnErr, AllZip, flat_map, range_with_len, map-append, set-get_or, All-weaker, All-set, Contains-append_left}
+use Rattle.act_drive.proofs.Common.{Contains-push, all_zipped_more, Notice, Packet, ReleaseNote, RunItem, Step, Release, Kill, Await, Submission, NotReady}
+use Rattle.act_drive.proofs.Common.{needs, kept_at, copies_held, handle_refusal, send_refusal, copies_in, without_copy, copies-without_copy, OwnerView}
+use Rattle.act_drive.proofs.Common.{sending_refusal, with_sent, with_handles, after_collect, is_known_call, is_sent, is_ready, first_ready, is_known_dead, Sent}
+use Rattle.act_drive.proofs.Common.{Released, Noticed, after_action, find_true, greatest, steps_in, found_in, AreTakenLater, PutterView, TakerView, ControlView}
+use Rattle.act_drive.proofs.Common.{Asked, Letter, Call, Note, Endpoint, CallerLines, CallerPasses, Driver, Action, KillAsked, notice_of, after_actions}
+use Rattle.act_drive.proofs.Common.{CallerMayDo, CallerMayDoAll, caller_clock, IsPostedAfter, IsAskedAfter, IsCallerTrace, DoesStep, DoesPlan, HasDonePlan}
+use Rattle.act_drive.proofs.Common.{IsTracing, IsTracingClosed, Traces, TracesStep, TracesClosing, IsFreshCaller, IsFreshEndpoint, all_zip_weaker, steps_more}
+use Rattle.act_drive.proofs.Common.{timed_later, timed_push, part_one, part_none, later_one, later_none, [], after_all-append, ◌||◌}
 use Rattle.act_rules.specs.declared.outcome.SendRefusal.TheVariants.{Answered}
 use Rattle.act_drive.proofs.PlanTraces.{meanwhile_more, plan_more}
 use Rattle.act_drive.proofs.Clocks.{greatest_grows, greatest_pushed, greatest_set, clock_grows, clock_taken, timed_none, zip_none}

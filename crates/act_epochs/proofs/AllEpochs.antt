@@ -1,32 +1,19 @@
 -- What holds over all epochs, from what each leaves.
-use Rattle.std.proofs.Common.{◌≡◌, ◌≢◌, ℕ, ◌+◌, ◌≤◌, true, List, [], ◌∷◌, ◌++◌, length, Option, Some, None, refl, ap, sym, ◌∙◌, subst, arith, All, AllPairs, get_or}
-use Rattle.std.specs.Prelude.{map, flat_map, slice_get, option_map, option_and_then}
-use Rattle.std.specs.List.{enumerate_from}
-use Rattle.std.proofs.lemmas.Grind.{flat_map-append}
-use Rattle.std.proofs.lemmas.List.Elements.{All-nil, All-append, All-weaker, All-map}
-use Rattle.act_types.specs.KindState.{KindState, OwnAt}
+use Rattle.act_epochs.proofs.Common.{◌≡◌, ◌≢◌, ℕ, ◌+◌, ◌≤◌, true, List, [], ◌∷◌, ◌++◌, length, Option, Some, None, refl, ap, sym, ◌∙◌, subst, arith, All}
+use Rattle.act_epochs.proofs.Common.{AllPairs, get_or, map, flat_map, slice_get, option_map, option_and_then, enumerate_from, flat_map-append, All-nil}
+use Rattle.act_epochs.proofs.Common.{All-append, All-weaker, All-map, KindState, OwnAt, RunItem, Submission, Answer, items_of, state_after, answer_at, calls_to}
+use Rattle.act_epochs.proofs.Common.{IsPrefix, IsAnswerOfRun, ActorSpec, opening, opening_of, whole_front, EndView, SessionView, cast_at, end_of, log_of_end}
+use Rattle.act_epochs.proofs.Common.{calls_in, log_in, killed_in, place_behind, Epoch, IsEpoch, casts_left, AreEpochs, casts_after, runs, submitted_in, ran_in}
+use Rattle.act_epochs.proofs.Common.{IsInState, IsAnswerOfAllRuns, IsOver, AreConsistent, CastKeeps}
 use Rattle.act_types.specs.Own.{Ask, StepOf, behaves}
-use Rattle.act_rules.specs.declared.history.RunItem.{RunItem}
-use Rattle.act_rules.specs.declared.history.Submission.{Submission}
-use Rattle.act_rules.specs.RunList.{Answer, items_of, state_after, answer_at}
 use Rattle.act_rules.specs.OwnRuns.{IsKept, Left}
-use Rattle.act_rules.specs.Submissions.{calls_to}
-use Rattle.act_rules.specs.Consistent.{IsPrefix, IsAnswerOfRun}
-use Rattle.act_rules.specs.History.{ActorSpec, opening, opening_of}
-use Rattle.act_rules.proofs.Lists.{whole_front}
 use Rattle.act_rules.proofs.OwnRuns.{holds_in_each_run}
-use Rattle.act_serve.specs.Served.{EndView}
-use Rattle.act_drive.specs.Sessions.{SessionView}
-use Rattle.act_plans.specs.Runs.{cast_at}
-use Rattle.act_executor.specs.Joined.{end_of, log_of_end, calls_in, log_in, killed_in}
 use Rattle.act_executor.proofs.Lists.Cuts.{pairs_append}
 use Rattle.act_executor.proofs.PlaysOfPlans.Heard.{front_after}
-use Rattle.act_rules.proofs.Places.{place_behind}
 use Rattle.act_own.specs.Kept.{OpensAt}
-use Rattle.act_epochs.specs.Epochs.{Epoch, IsEpoch, casts_left, AreEpochs, casts_after}
-use Rattle.act_epochs.specs.OverEpochs.{runs, submitted_in, ran_in, IsInState, IsAnswerOfAllRuns, IsOver, AreConsistent, CastKeeps}
 use Rattle.act_epochs.proofs.Lists.{front_before, state_after-append, answer_between}
-use Rattle.act_epochs.proofs.OneEpoch.{submitted_as, ran_as, no_end, no_calls, left_is, none_left, killed_leaves_none, other_is_left, ran_front, ran_whole, left_state, calls_differ}
+use Rattle.act_epochs.proofs.OneEpoch.{submitted_as, ran_as, no_end, no_calls, left_is, none_left, killed_leaves_none, other_is_left, ran_front, ran_whole}
+use Rattle.act_epochs.proofs.OneEpoch.{left_state, calls_differ}
 use Rattle.act_lists.proofs.Lists.{slice_get_more}
 
 -- the calls of a later epoch have a later number
@@ -37,7 +24,8 @@ numbered_from {C} a c n (epoch ∷ epochs) =
     let At : ℕ × ℕ → Type 0 = λ p. n ≤ p.0 in
     All-append At (map (submitted_as n) calls) (flat_map (submitted_in a c) (enumerate_from (n + 1) epochs))
     (All-map At (submitted_as n) calls (λ k d below. omega arith))
-    (All-weaker (λ (p : ℕ × ℕ). n + 1 ≤ p.0) At (λ p more. omega (arith, more)) (flat_map (submitted_in a c) (enumerate_from (n + 1) epochs)) (numbered_from a c (n + 1) epochs))
+    (All-weaker (λ (p : ℕ × ℕ). n + 1 ≤ p.0) At (λ p more. omega (arith, more)) (flat_map (submitted_in a c) (enumerate_from (n + 1) epochs))
+    (numbered_from a c (n + 1) epochs))
 
 -- no call stands twice
 pub once_from : {C : Type 0} (a c n : ℕ) (epochs : List (Epoch C)) → AllPairs (λ one other. one ≢ other) (flat_map (submitted_in a c) (enumerate_from n epochs))
@@ -49,10 +37,12 @@ once_from {C} a c n (epoch ∷ epochs) =
     (calls_differ n a (calls_in epoch.owners c))
     (once_from a c (n + 1) epochs)
     (All-map (λ (one : ℕ × ℕ). All (λ other. one ≢ other) later) (submitted_as n) calls (λ i x inside.
-    All-weaker (λ (p : ℕ × ℕ). n + 1 ≤ p.0) (λ (p : ℕ × ℕ). submitted_as n (get_or calls i x) ≢ p) (λ p more same. let number : n ≡ p.0 = ap (λ (q : ℕ × ℕ). q.0) same in omega (arith, more)) later (numbered_from a c (n + 1) epochs)))
+    All-weaker (λ (p : ℕ × ℕ). n + 1 ≤ p.0) (λ (p : ℕ × ℕ). submitted_as n (get_or calls i x) ≢ p)
+    (λ p more same. let number : n ≡ p.0 = ap (λ (q : ℕ × ℕ). q.0) same in omega (arith, more)) later (numbered_from a c (n + 1) epochs)))
 
 -- a cast in the state after some runs, and then after more
-next_state : (first next left : ActorSpec) (log more : List RunItem) → next ≡ record first { opening = state_after first.opening log } → left ≡ record next { opening = state_after next.opening more } → left ≡ record first { opening = state_after first.opening (log ++ more) }
+next_state : (first next left : ActorSpec) (log more : List RunItem) → next ≡ record first { opening = state_after first.opening log }
+    → left ≡ record next { opening = state_after next.opening more } → left ≡ record first { opening = state_after first.opening (log ++ more) }
 next_state first next left log more one two =
     two
     ∙ ap (λ (cast : ActorSpec). record cast { opening = state_after cast.opening more }) one
@@ -66,10 +56,12 @@ module _ {C : Type 0} (tells : C → SessionView → SessionView → Type 0) whe
     pub asked_none : (c n : ℕ) → flat_map (submitted_in a c) (enumerate_from n epochs) ≡ []
     pub cast_none : cast_at a (casts_after casts epochs) ≡ None
 
-  gone_here : (casts : List ActorSpec) (epoch : Epoch C) → epoch.casts ≡ casts → (is : IsEpoch tells epoch) (a : ℕ) → cast_at a casts ≡ None → end_of a epoch.ends ≡ None
+  gone_here : (casts : List ActorSpec) (epoch : Epoch C) → epoch.casts ≡ casts → (is : IsEpoch tells epoch) (a : ℕ) → cast_at a casts ≡ None
+      → end_of a epoch.ends ≡ None
   gone_here casts epoch same is a none = no_end is.joined.joined a (ap (cast_at a) same ∙ none)
 
-  unasked_here : (casts : List ActorSpec) (epoch : Epoch C) → epoch.casts ≡ casts → (is : IsEpoch tells epoch) (a c : ℕ) → cast_at a casts ≡ None → calls_to a (calls_in epoch.owners c) ≡ []
+  unasked_here : (casts : List ActorSpec) (epoch : Epoch C) → epoch.casts ≡ casts → (is : IsEpoch tells epoch) (a c : ℕ) → cast_at a casts ≡ None
+      → calls_to a (calls_in epoch.owners c) ≡ []
   unasked_here casts epoch same is a c none = no_calls is.joined.joined a c (ap (cast_at a) same ∙ none)
 
   gone_next : (epoch : Epoch C) (is : IsEpoch tells epoch) (a : ℕ) → end_of a epoch.ends ≡ None → cast_at a (casts_left epoch) ≡ None
@@ -83,12 +75,14 @@ module _ {C : Type 0} (tells : C → SessionView → SessionView → Type 0) whe
       record {
         runs_none = ap (λ (o : Option EndView). log_of_end o ++ runs a epochs) end ∙ rest.runs_none;
         asked_none = λ c n.
-            ap (λ (calls : List (ℕ × Submission)). map (submitted_as n) calls ++ flat_map (submitted_in a c) (enumerate_from (n + 1) epochs)) (unasked_here casts epoch are.0 are.1 a c none)
+            ap (λ (calls : List (ℕ × Submission)). map (submitted_as n) calls ++ flat_map (submitted_in a c) (enumerate_from (n + 1) epochs))
+            (unasked_here casts epoch are.0 are.1 a c none)
             ∙ rest.asked_none c (n + 1);
         cast_none = rest.cast_none;
       }
 
-  gone_ran : (casts : List ActorSpec) (epochs : List (Epoch C)) → AreEpochs tells casts epochs → (a c n : ℕ) → cast_at a casts ≡ None → flat_map (ran_in a c) (enumerate_from n epochs) ≡ []
+  gone_ran : (casts : List ActorSpec) (epochs : List (Epoch C)) → AreEpochs tells casts epochs → (a c n : ℕ) → cast_at a casts ≡ None
+      → flat_map (ran_in a c) (enumerate_from n epochs) ≡ []
   gone_ran casts [] are a c n none = refl
   gone_ran casts (epoch ∷ epochs) are a c n none =
       let end = gone_here casts epoch are.0 are.1 a none in
@@ -97,12 +91,15 @@ module _ {C : Type 0} (tells : C → SessionView → SessionView → Type 0) whe
 
   -- ---- calls in order
 
-  in_order_from : (casts : List ActorSpec) (epochs : List (Epoch C)) → AreEpochs tells casts epochs → (a c n : ℕ) → IsPrefix (flat_map (ran_in a c) (enumerate_from n epochs)) (flat_map (submitted_in a c) (enumerate_from n epochs))
+  in_order_from : (casts : List ActorSpec) (epochs : List (Epoch C)) → AreEpochs tells casts epochs → (a c n : ℕ)
+      → IsPrefix (flat_map (ran_in a c) (enumerate_from n epochs)) (flat_map (submitted_in a c) (enumerate_from n epochs))
   in_order_from casts [] are a c n = whole_front []
   in_order_from casts (epoch ∷ epochs) are a c n = go (cast_at a (casts_left epoch)) refl (in_order_from (casts_left epoch) epochs are.2 a c (n + 1))
     where
-      go : (o : Option ActorSpec) → cast_at a (casts_left epoch) ≡ o → IsPrefix (flat_map (ran_in a c) (enumerate_from (n + 1) epochs)) (flat_map (submitted_in a c) (enumerate_from (n + 1) epochs))
-          → IsPrefix (map (ran_as n) (items_of c (log_in epoch.ends a)) ++ flat_map (ran_in a c) (enumerate_from (n + 1) epochs)) (map (submitted_as n) (calls_to a (calls_in epoch.owners c)) ++ flat_map (submitted_in a c) (enumerate_from (n + 1) epochs))
+      go : (o : Option ActorSpec) → cast_at a (casts_left epoch) ≡ o
+          → IsPrefix (flat_map (ran_in a c) (enumerate_from (n + 1) epochs)) (flat_map (submitted_in a c) (enumerate_from (n + 1) epochs))
+          → IsPrefix (map (ran_as n) (items_of c (log_in epoch.ends a)) ++ flat_map (ran_in a c) (enumerate_from (n + 1) epochs))
+          (map (submitted_as n) (calls_to a (calls_in epoch.owners c)) ++ flat_map (submitted_in a c) (enumerate_from (n + 1) epochs))
       go None none more =
           let ran_here = map (ran_as n) (items_of c (log_in epoch.ends a)) in
           let sent_here = map (submitted_as n) (calls_to a (calls_in epoch.owners c)) in
@@ -118,25 +115,29 @@ module _ {C : Type 0} (tells : C → SessionView → SessionView → Type 0) whe
           (front_after sent_here ran_later later more)
 
   -- an actor that has a cast left had one after each epoch
-  still : (casts : List ActorSpec) (epochs : List (Epoch C)) → AreEpochs tells casts epochs → (a : ℕ) (left : ActorSpec) → cast_at a (casts_after casts epochs) ≡ Some left → (cast : ActorSpec) × (cast_at a casts ≡ Some cast)
+  still : (casts : List ActorSpec) (epochs : List (Epoch C)) → AreEpochs tells casts epochs → (a : ℕ) (left : ActorSpec)
+      → cast_at a (casts_after casts epochs) ≡ Some left → (cast : ActorSpec) × (cast_at a casts ≡ Some cast)
   still casts epochs are a left e = go (cast_at a casts) refl
     where
       go : (o : Option ActorSpec) → cast_at a casts ≡ o → (cast : ActorSpec) × (cast_at a casts ≡ Some cast)
       go None none = let bad : None ≡ Some left = sym (gone casts epochs are a none).cast_none ∙ e in cc
       go (Some cast) some = (cast, some)
 
-  whole_from : (casts : List ActorSpec) (epochs : List (Epoch C)) → AreEpochs tells casts epochs → (a c n : ℕ) (left : ActorSpec) → cast_at a (casts_after casts epochs) ≡ Some left
+  whole_from : (casts : List ActorSpec) (epochs : List (Epoch C)) → AreEpochs tells casts epochs → (a c n : ℕ) (left : ActorSpec)
+      → cast_at a (casts_after casts epochs) ≡ Some left
       → flat_map (ran_in a c) (enumerate_from n epochs) ≡ flat_map (submitted_in a c) (enumerate_from n epochs)
   whole_from casts [] are a c n left e = refl
   whole_from casts (epoch ∷ epochs) are a c n left e =
       let one = still (casts_left epoch) epochs are.2 a left e in
       let is = left_is are.1.joined.joined a one.0 one.1 in
       ap (λ (l : List (ℕ × ℕ)). l ++ flat_map (ran_in a c) (enumerate_from (n + 1) epochs)) (ran_whole are.1.joined.joined n a c one.0 is)
-      ∙ ap (λ (l : List (ℕ × ℕ)). map (submitted_as n) (calls_to a (calls_in epoch.owners c)) ++ l) (whole_from (casts_left epoch) epochs are.2 a c (n + 1) left e)
+      ∙ ap (λ (l : List (ℕ × ℕ)). map (submitted_as n) (calls_to a (calls_in epoch.owners c)) ++ l)
+      (whole_from (casts_left epoch) epochs are.2 a c (n + 1) left e)
 
   -- ---- states
 
-  pub in_state : (casts : List ActorSpec) (epochs : List (Epoch C)) → AreEpochs tells casts epochs → (a : ℕ) (left : ActorSpec) → cast_at a (casts_after casts epochs) ≡ Some left → IsInState casts epochs a left
+  pub in_state : (casts : List ActorSpec) (epochs : List (Epoch C)) → AreEpochs tells casts epochs → (a : ℕ) (left : ActorSpec)
+      → cast_at a (casts_after casts epochs) ≡ Some left → IsInState casts epochs a left
   in_state casts [] are a left e = record { first = left; at = e; is = refl }
   in_state casts (epoch ∷ epochs) are a left e =
       let rest = in_state (casts_left epoch) epochs are.2 a left e in
@@ -156,13 +157,15 @@ module _ {C : Type 0} (tells : C → SessionView → SessionView → Type 0) whe
     pub rest : AreEpochs tells (casts_left epoch) after
     pub whole : casts_after casts (before ++ epoch ∷ after) ≡ casts_after (casts_left epoch) after
 
-  is_one : (casts : List ActorSpec) (before after : List (Epoch C)) (epoch : Epoch C) → AreEpochs tells casts (before ++ epoch ∷ after) → IsOne casts before after epoch
+  is_one : (casts : List ActorSpec) (before after : List (Epoch C)) (epoch : Epoch C) → AreEpochs tells casts (before ++ epoch ∷ after)
+      → IsOne casts before after epoch
   is_one casts [] after epoch are = record { first = tt; here = are.0; is = are.1; rest = are.2; whole = refl }
   is_one casts (one ∷ before) after epoch are =
       let rest = is_one (casts_left one) before after epoch are.2 in
       record { first = (are.0, are.1, rest.first); here = rest.here; is = rest.is; rest = rest.rest; whole = rest.whole }
 
-  ended_in : (casts : List ActorSpec) (before after : List (Epoch C)) (epoch : Epoch C) → IsOne casts before after epoch → (a : ℕ) → killed_in epoch.ends a ≡ true → IsOver a after (casts_after casts (before ++ epoch ∷ after))
+  ended_in : (casts : List ActorSpec) (before after : List (Epoch C)) (epoch : Epoch C) → IsOne casts before after epoch → (a : ℕ)
+      → killed_in epoch.ends a ≡ true → IsOver a after (casts_after casts (before ++ epoch ∷ after))
   ended_in casts before after epoch one a killed =
       let none = killed_leaves_none one.is.joined.joined a killed in
       let is = gone (casts_left epoch) after one.rest a none in
@@ -171,7 +174,9 @@ module _ {C : Type 0} (tells : C → SessionView → SessionView → Type 0) whe
   -- ---- answers
 
   -- the state in which an epoch opens an actor is that after all its runs before
-  opens : (casts : List ActorSpec) (before : List (Epoch C)) → AreEpochs tells casts before → (a : ℕ) → (cast : ActorSpec) → cast_at a (casts_after casts before) ≡ Some cast → (first : KindState) × (opening_of a (opening casts) ≡ Some first) × (cast.opening ≡ state_after first (runs a before))
+  opens : (casts : List ActorSpec) (before : List (Epoch C)) → AreEpochs tells casts before → (a : ℕ) → (cast : ActorSpec)
+      → cast_at a (casts_after casts before) ≡ Some cast → (first : KindState) × (opening_of a (opening casts) ≡ Some first)
+      × (cast.opening ≡ state_after first (runs a before))
   opens casts before are a cast at =
       let is = in_state casts before are a cast at in
       (is.first.opening, ap (option_map (λ (one : ActorSpec). one.opening)) is.at, ap (λ (one : ActorSpec). one.opening) is.is)
@@ -180,20 +185,23 @@ module _ {C : Type 0} (tells : C → SessionView → SessionView → Type 0) whe
       → IsAnswerOfRun (λ a. opening_of a (opening epoch.casts)) (log_in epoch.ends) c k answer → IsAnswerOfAllRuns casts before epoch after c k answer
   answer_in casts before after epoch one c k answer of = go (cast_at of.actor epoch.casts) refl of.answered
     where
-      go : (o : Option ActorSpec) → cast_at of.actor epoch.casts ≡ o → option_and_then (λ state. answer_at state (log_in epoch.ends of.actor) of.place) (option_map (λ (cast : ActorSpec). cast.opening) o) ≡ Some answer → IsAnswerOfAllRuns casts before epoch after c k answer
+      go : (o : Option ActorSpec) → cast_at of.actor epoch.casts ≡ o → option_and_then (λ state. answer_at state (log_in epoch.ends of.actor) of.place)
+          (option_map (λ (cast : ActorSpec). cast.opening) o) ≡ Some answer → IsAnswerOfAllRuns casts before epoch after c k answer
       go None none e = cc
       go (Some cast) some e =
           let past = runs of.actor before in
           let log = log_in epoch.ends of.actor in
           let later = runs of.actor after in
           let start = opens casts before one.first of.actor cast (sym (ap (cast_at of.actor) one.here) ∙ some) in
-          let same : runs of.actor (before ++ epoch ∷ after) ≡ past ++ (log ++ later) = flat_map-append (λ (e : Epoch C). log_in e.ends of.actor) before (epoch ∷ after) in
+          let same : runs of.actor (before ++ epoch ∷ after) ≡ past ++ (log ++ later) =
+          flat_map-append (λ (e : Epoch C). log_in e.ends of.actor) before (epoch ∷ after) in
           record {
             actor = of.actor;
             place = of.place;
             item = of.item;
             here = of.at;
-            at = ap (λ (l : List RunItem). slice_get l (length past + of.place)) same ∙ place_behind past (log ++ later) of.place ∙ slice_get_more log later of.place of.item of.at;
+            at = ap (λ (l : List RunItem). slice_get l (length past + of.place)) same ∙ place_behind past (log ++ later) of.place
+                ∙ slice_get_more log later of.place of.item of.at;
             caller = of.caller;
             future = of.future;
             answered =
@@ -230,18 +238,21 @@ module _ {C : Type 0} (tells : C → SessionView → SessionView → Type 0) whe
 
   -- ---- a kind of one's own
 
-  pub over_epochs_keeps : {S : Type 0} (step : StepOf S) (written : S → List ℕ) (holds : List (Ask × Answer) → S → Type 0) → IsKept step holds → (casts : List ActorSpec) (epochs : List (Epoch C)) → AreEpochs tells casts epochs
+  pub over_epochs_keeps : {S : Type 0} (step : StepOf S) (written : S → List ℕ) (holds : List (Ask × Answer) → S → Type 0) → IsKept step holds
+      → (casts : List ActorSpec) (epochs : List (Epoch C)) → AreEpochs tells casts epochs
       → (a : ℕ) (start : S) → OpensAt step written casts a start → holds [] start
       → CastKeeps step written holds (OwnAt (behaves step written start)) (runs a epochs) (cast_at a (casts_after casts epochs))
   over_epochs_keeps {S} step written holds kept casts epochs are a start opens_at at_first = go (cast_at a (casts_after casts epochs)) refl
     where
-      go : (o : Option ActorSpec) → cast_at a (casts_after casts epochs) ≡ o → CastKeeps step written holds (OwnAt (behaves step written start)) (runs a epochs) o
+      go : (o : Option ActorSpec) → cast_at a (casts_after casts epochs) ≡ o
+          → CastKeeps step written holds (OwnAt (behaves step written start)) (runs a epochs) o
       go None e = holds_in_each_run step written holds kept start at_first (runs a epochs)
       go (Some left) e =
           let is = opens casts epochs are a left e in
           let some : Some is.0 ≡ Some (OwnAt (behaves step written start)) = sym is.1 ∙ opens_at in
           let same : is.0 ≡ OwnAt (behaves step written start) = cc in
-          let one : Left step written holds (OwnAt (behaves step written start)) (runs a epochs) = holds_in_each_run step written holds kept start at_first (runs a epochs) in
+          let one : Left step written holds (OwnAt (behaves step written start)) (runs a epochs) =
+          holds_in_each_run step written holds kept start at_first (runs a epochs) in
           record {
             state = one.state;
             is = is.2 ∙ ap (λ (state : KindState). state_after state (runs a epochs)) same ∙ one.left;

@@ -1,12 +1,6 @@
 -- One epoch more.
-use Rattle.std.proofs.Common.{◌≡◌, ℕ, List, [], ◌∷◌, ◌++◌, refl, ap, ◌∙◌, append-nil}
-use Rattle.std.proofs.lemmas.Grind.{flat_map-append}
-use Rattle.act_rules.specs.declared.history.RunItem.{RunItem}
-use Rattle.act_rules.specs.History.{ActorSpec}
-use Rattle.act_drive.specs.Sessions.{SessionView}
-use Rattle.act_executor.specs.Joined.{log_in}
-use Rattle.act_epochs.specs.Epochs.{Epoch, IsEpoch, casts_left, AreEpochs, casts_after}
-use Rattle.act_epochs.specs.OverEpochs.{runs, GoesOn}
+use Rattle.act_epochs.proofs.Common.{◌≡◌, ℕ, List, [], ◌∷◌, ◌++◌, refl, ap, ◌∙◌, append-nil, flat_map-append, RunItem, ActorSpec, SessionView, log_in, Epoch}
+use Rattle.act_epochs.proofs.Common.{IsEpoch, casts_left, AreEpochs, casts_after, runs, GoesOn}
 
 -- an epoch that opens with the casts that are left joins them
 pub are_more : {C : Type 0} (tells : C → SessionView → SessionView → Type 0) (casts : List ActorSpec) (epochs : List (Epoch C)) (epoch : Epoch C)

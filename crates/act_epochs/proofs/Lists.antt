@@ -1,16 +1,8 @@
 -- Laws of lists: prefixes of joined lists, lists in which no element stands twice, and runs one after another.
-use Rattle.std.proofs.Common.{◌≡◌, ◌≢◌, ℕ, zero, suc, ◌+◌, ◌≤◌, List, [], ◌∷◌, ◌++◌, length, Option, Some, None, refl, ap, sym, ◌∙◌, arith, append_assoc, append-nil, All, AllPairs}
-use Rattle.std.specs.Prelude.{filter_map, slice_get}
-use Rattle.std.specs.List.{enumerate_from, cons_option}
-use Rattle.std.proofs.lemmas.List.Elements.{All-nil, All-cons, All-weaker}
-use Rattle.std.proofs.lemmas.List.Kept.{AllPairs-cons}
-use Rattle.act_types.specs.KindState.{KindState}
-use Rattle.act_rules.specs.declared.history.RunItem.{RunItem}
-use Rattle.act_rules.specs.RunList.{Answer, after_item, answers_from, answer_at, state_after}
-use Rattle.act_rules.specs.Consistent.{IsPrefix}
+use Rattle.act_epochs.proofs.Common.{◌≡◌, ◌≢◌, ℕ, zero, suc, ◌+◌, ◌≤◌, List, [], ◌∷◌, ◌++◌, length, Option, Some, None, refl, ap, sym, ◌∙◌, arith, append_assoc}
+use Rattle.act_epochs.proofs.Common.{append-nil, All, AllPairs, filter_map, slice_get, enumerate_from, cons_option, All-nil, All-cons, All-weaker}
+use Rattle.act_epochs.proofs.Common.{AllPairs-cons, KindState, RunItem, Answer, after_item, answers_from, answer_at, state_after, IsPrefix, IsIn, place_behind}
 use Rattle.act_rules.proofs.Kept.{answers_from-append, length-answers_from, answer_at-front}
-use Rattle.act_rules.proofs.Elements.{IsIn}
-use Rattle.act_rules.proofs.Places.{place_behind}
 
 -- ---- prefixes
 
@@ -35,7 +27,8 @@ came_from {A} {B} f (x ∷ xs) k y e = go (f x) refl k (λ (m : ℕ). came_from 
     later : CameFrom f xs y → CameFrom f (x ∷ xs) y
     later r = record { one = r.one; inside = record { place = suc r.inside.place; at = r.inside.at }; gives = r.gives }
 
-    go : (o : Option B) → f x ≡ o → (k : ℕ) → ((m : ℕ) → slice_get (filter_map f xs) m ≡ Some y → CameFrom f xs y) → slice_get (cons_option o (filter_map f xs)) k ≡ Some y → CameFrom f (x ∷ xs) y
+    go : (o : Option B) → f x ≡ o → (k : ℕ) → ((m : ℕ) → slice_get (filter_map f xs) m ≡ Some y → CameFrom f xs y)
+        → slice_get (cons_option o (filter_map f xs)) k ≡ Some y → CameFrom f (x ∷ xs) y
     go None is k rest e = later (rest k e)
     go (Some z) is zero rest e = record { one = x; inside = record { place = 0; at = refl }; gives = is ∙ e }
     go (Some z) is (suc m) rest e = later (rest m e)
@@ -54,7 +47,8 @@ pub places_apart : {A : Type 0} (n : ℕ) (xs : List A) → AllPairs (λ (one ot
 places_apart n [] = λ i j d lt below. absurd (omega arith)
 places_apart {A} n (x ∷ xs) =
     AllPairs-cons (λ (one other : ℕ × A). one.0 ≢ other.0) (n, x) (enumerate_from (n + 1) xs)
-    (All-weaker (λ (p : ℕ × A). n + 1 ≤ p.0) (λ (p : ℕ × A). n ≢ p.0) (λ p more same. omega (arith, more, same)) (enumerate_from (n + 1) xs) (from_number (n + 1) xs))
+    (All-weaker (λ (p : ℕ × A). n + 1 ≤ p.0) (λ (p : ℕ × A). n ≢ p.0) (λ p more same. omega (arith, more, same)) (enumerate_from (n + 1) xs)
+    (from_number (n + 1) xs))
     (places_apart (n + 1) xs)
 
 -- ---- runs, one after another

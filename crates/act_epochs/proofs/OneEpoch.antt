@@ -1,36 +1,24 @@
 -- What one epoch leaves of its actors: their casts, and what they ran.
-use Rattle.std.proofs.Common.{◌≡◌, ◌≢◌, ℕ, true, false, List, [], Option, Some, None, refl, ap, sym, ◌∙◌, subst, AllPairs}
-use Rattle.std.specs.Prelude.{◌==◌, map, filter, filter_map, slice_get, option_map}
-use Rattle.std.specs.List.{list_any, enumerate_from}
+use Rattle.act_epochs.proofs.Common.{◌≡◌, ◌≢◌, ℕ, true, false, List, [], Option, Some, None, refl, ap, sym, ◌∙◌, subst, AllPairs, ◌==◌, map, filter, filter_map}
+use Rattle.act_epochs.proofs.Common.{slice_get, option_map, list_any, enumerate_from, AllPairs-filter, KindState, RunItem, Submission, items_of, state_after}
+use Rattle.act_epochs.proofs.Common.{calls_to, IsPrefix, ActorSpec, contains, actors_naming, IsPrefix-map, AllPairs-map, EndView, Retired, end_id, IfRetired}
+use Rattle.act_epochs.proofs.Common.{cast_at, plan_of, IsJoined, RanAll, is_killed, is_killed_end, is_starved, end_of, log_of_end, calls_in, log_in, killed_in}
+use Rattle.act_epochs.proofs.Common.{IsIn, all_in, found_is, finds, any_is, empty_by_places, enumerated, cast_of_end}
 use Rattle.std.proofs.lemmas.Bool.{eq-eqb, eqb-true}
 use Rattle.std.proofs.lemmas.Simd.{map-map}
-use Rattle.std.proofs.lemmas.List.Kept.{AllPairs-filter}
 use Rattle.std.proofs.lemmas.Option.{slice_get-map}
 use Rattle.act_types.specs.declared.limits.TheConstants.{MAX_ACTORS}
-use Rattle.act_types.specs.KindState.{KindState}
-use Rattle.act_rules.specs.declared.history.RunItem.{RunItem}
-use Rattle.act_rules.specs.declared.history.Submission.{Submission}
 use Rattle.act_rules.specs.declared.script.Step.{Step}
-use Rattle.act_rules.specs.RunList.{items_of, state_after}
-use Rattle.act_rules.specs.Submissions.{calls_to}
-use Rattle.act_rules.specs.Consistent.{IsPrefix}
-use Rattle.act_rules.specs.History.{ActorSpec, contains, actors_naming}
 use Rattle.act_rules.specs.Report.{one_to}
 use Rattle.act_rules.proofs.AsSubmitted.{filter-slice_get, calls_to-at}
-use Rattle.act_rules.proofs.Lists.{IsPrefix-map, AllPairs-map}
 use Rattle.act_rules.proofs.Order.{numbered}
 use Rattle.act_rules.proofs.Unique.{map-slice_get}
 use Rattle.act_owner.specs.Owner.{OwnerView}
 use Rattle.act_actor.specs.View.{RetiredView}
-use Rattle.act_serve.specs.Served.{EndView, Retired, end_id, IfRetired}
-use Rattle.act_plans.specs.Runs.{cast_at, plan_of}
 use Rattle.act_plans.proofs.Keys.{pairs_of_map}
 use Rattle.act_plans.proofs.Matching.{numbers_differ}
-use Rattle.act_executor.specs.Joined.{IsJoined, RanAll, is_killed, is_killed_end, is_starved, end_of, log_of_end, calls_in, log_in, killed_in}
-use Rattle.act_rules.proofs.Elements.{IsIn, all_in, found_is, finds, any_is, empty_by_places, enumerated}
 use Rattle.act_executor.proofs.EndsOfRuns.Found.{one_of, planned_known}
 use Rattle.act_executor.proofs.Lists.Stamped.{mapped_at}
-use Rattle.act_epochs.specs.Epochs.{cast_of_end}
 use Rattle.act_epochs.proofs.Lists.{came_from, places_apart}
 
 -- the actor retired, and this cast is left of it
@@ -52,7 +40,8 @@ record IsOf (casts : List ActorSpec) (end : EndView) (left : ActorSpec) : Type 0
 is_of : (casts : List ActorSpec) (end : EndView) (left : ActorSpec) → cast_of_end casts end ≡ Some left → IsOf casts end left
 is_of casts (Retired retired) left e = go (cast_at retired.id casts) refl e
   where
-    go : (o : Option ActorSpec) → cast_at retired.id casts ≡ o → option_map (λ (cast : ActorSpec). record cast { opening = retired.state }) o ≡ Some left → IsOf casts (Retired retired) left
+    go : (o : Option ActorSpec) → cast_at retired.id casts ≡ o → option_map (λ (cast : ActorSpec). record cast { opening = retired.state }) o ≡ Some left
+        → IsOf casts (Retired retired) left
     go None at e = cc
     go (Some cast) at e =
         let same : record cast { opening = retired.state } ≡ left = cc in
@@ -77,13 +66,15 @@ ran_as n item = (n, item.future)
 abbrev pub submitted_as : ℕ → ℕ × Submission → ℕ × ℕ
 submitted_as n call = (n, call.0)
 
-module _ {casts : List ActorSpec} {steps : List (ℕ × List Step)} {owners : List OwnerView} {ends : List EndView} (joined : IsJoined casts steps owners ends) where
+module _ {casts : List ActorSpec} {steps : List (ℕ × List Step)} {owners : List OwnerView} {ends : List EndView}
+    (joined : IsJoined casts steps owners ends) where
   -- ---- ends
 
   ends_differ : AllPairs (λ one other. end_id one ≢ end_id other) ends
   ends_differ = pairs_of_map end_id ends
       (subst (AllPairs (λ one other. one ≢ other)) (sym joined.actors)
-      (AllPairs-filter (λ (one other : ℕ). one ≢ other) (λ a. list_any (λ (cast : ActorSpec). cast.actor == a) casts) (one_to MAX_ACTORS) (numbers_differ MAX_ACTORS)))
+      (AllPairs-filter (λ (one other : ℕ). one ≢ other) (λ a. list_any (λ (cast : ActorSpec). cast.actor == a) casts) (one_to MAX_ACTORS)
+      (numbers_differ MAX_ACTORS)))
 
   end_found : (end : EndView) → IsIn ends end → end_of (end_id end) ends ≡ Some end
   end_found end i =
@@ -97,8 +88,10 @@ module _ {casts : List ActorSpec} {steps : List (ℕ × List Step)} {owners : Li
   ended_has_cast a end at =
       let is = found_is (λ (e : EndView). end_id e == a) ends end at in
       let id : end_id end ≡ a = eqb-true (end_id end) a is.passes in
-      let there : slice_get (map end_id ends) is.inside.place ≡ Some a = slice_get-map end_id ends is.inside.place ∙ ap (option_map end_id) is.inside.at ∙ ap (λ (n : ℕ). Some n) id in
-      let kept = filter-slice_get (λ (n : ℕ). list_any (λ (cast : ActorSpec). cast.actor == n) casts) (one_to MAX_ACTORS) is.inside.place a (subst (λ (ns : List ℕ). slice_get ns is.inside.place ≡ Some a) joined.actors there) in
+      let there : slice_get (map end_id ends) is.inside.place ≡ Some a = slice_get-map end_id ends is.inside.place ∙ ap (option_map end_id) is.inside.at
+      ∙ ap (λ (n : ℕ). Some n) id in
+      let kept = filter-slice_get (λ (n : ℕ). list_any (λ (cast : ActorSpec). cast.actor == n) casts) (one_to MAX_ACTORS) is.inside.place a
+      (subst (λ (ns : List ℕ). slice_get ns is.inside.place ≡ Some a) joined.actors there) in
       let any = any_is (λ (cast : ActorSpec). cast.actor == a) casts kept.passes in
       let found = finds (λ (cast : ActorSpec). cast.actor == a) casts any.1.inside.place any.0 any.1.inside.at any.1.passes in
       (found.one, found.is)
@@ -113,7 +106,8 @@ module _ {casts : List ActorSpec} {steps : List (ℕ × List Step)} {owners : Li
 
   -- a caller calls actors alone whose casts name it
   called : (c k : ℕ) (call : Submission) → slice_get (calls_in owners c) k ≡ Some call → IsIn (actors_naming c casts) call.actor
-  called c k call at = planned_known (actors_naming c casts) (plan_of c steps) k call (ap (λ (l : List Submission). slice_get l k) (sym (joined.submitted c)) ∙ at)
+  called c k call at = planned_known (actors_naming c casts) (plan_of c steps) k call (ap (λ (l : List Submission). slice_get l k) (sym (joined.submitted c))
+      ∙ at)
 
   -- so nobody calls an actor without a cast
   pub no_calls : (a c : ℕ) → cast_at a casts ≡ None → calls_to a (calls_in owners c) ≡ []
@@ -163,16 +157,21 @@ module _ {casts : List ActorSpec} {steps : List (ℕ × List Step)} {owners : Li
       go (Some left) is = let one = left_is a left is in let bad : false ≡ true = sym (ap is_killed_end one.found) ∙ killed in absurd (cc)
 
   -- of any other that ended a cast is left
-  pub other_is_left : (a : ℕ) (end : EndView) → end_of a ends ≡ Some end → killed_in ends a ≡ false → (left : ActorSpec) × (cast_at a (filter_map (cast_of_end casts) ends) ≡ Some left)
-  other_is_left a end at alive = go end (all_in (λ (e : EndView). is_starved e ≡ false) ends end joined.fed (found_is (λ (e : EndView). end_id e == a) ends end at).inside) (sym (ap is_killed_end at) ∙ alive) at
+  pub other_is_left : (a : ℕ) (end : EndView) → end_of a ends ≡ Some end → killed_in ends a ≡ false → (left : ActorSpec)
+      × (cast_at a (filter_map (cast_of_end casts) ends) ≡ Some left)
+  other_is_left a end at alive = go end (all_in (λ (e : EndView). is_starved e ≡ false) ends end joined.fed
+      (found_is (λ (e : EndView). end_id e == a) ends end at).inside) (sym (ap is_killed_end at) ∙ alive) at
     where
-      go : (end : EndView) → is_starved end ≡ false → is_killed end ≡ false → end_of a ends ≡ Some end → (left : ActorSpec) × (cast_at a (filter_map (cast_of_end casts) ends) ≡ Some left)
+      go : (end : EndView) → is_starved end ≡ false → is_killed end ≡ false → end_of a ends ≡ Some end → (left : ActorSpec)
+          × (cast_at a (filter_map (cast_of_end casts) ends) ≡ Some left)
       go (Retired retired) fed alive at =
           let found = found_is (λ (e : EndView). end_id e == a) ends (Retired retired) at in
           let id : retired.id ≡ a = eqb-true retired.id a found.passes in
-          let ran : RanAll casts owners retired = all_in (λ (e : EndView). IfRetired e (RanAll casts owners)) ends (Retired retired) joined.retired found.inside in
+          let ran : RanAll casts owners retired = all_in (λ (e : EndView). IfRetired e (RanAll casts owners)) ends
+          (Retired retired) joined.retired found.inside in
           let left : ActorSpec = record ran.cast { opening = retired.state } in
-          let gives : cast_of_end casts (Retired retired) ≡ Some left = ap (option_map (λ (cast : ActorSpec). record cast { opening = retired.state })) ran.at in
+          let gives : cast_of_end casts (Retired retired) ≡ Some left =
+          ap (option_map (λ (cast : ActorSpec). record cast { opening = retired.state })) ran.at in
           let there = mapped_at (cast_of_end casts) ends found.inside.place (Retired retired) left found.inside.at gives in
           let names : (left.actor == a) ≡ true = eq-eqb left.actor a (cast_names retired.id casts ran.cast ran.at ∙ id) in
           let one = finds (λ (cast : ActorSpec). cast.actor == a) (filter_map (cast_of_end casts) ends) there.place left there.at names in
@@ -191,16 +190,19 @@ module _ {casts : List ActorSpec} {steps : List (ℕ × List Step)} {owners : Li
       let futures : List ℕ = map (λ (call : ℕ × Submission). call.0) calls in
       let pair : ℕ → ℕ × ℕ = λ k. (n, k) in
       let right : map name (enumerate_from 0 futures) ≡ map (submitted_as n) calls =
-      sym (map-map pair (λ (p : ℕ × ℕ). p.1) (enumerate_from 0 futures)) ∙ ap (map pair) (enumerated 0 futures) ∙ map-map pair (λ (call : ℕ × Submission). call.0) calls in
+      sym (map-map pair (λ (p : ℕ × ℕ). p.1) (enumerate_from 0 futures)) ∙ ap (map pair) (enumerated 0 futures)
+      ∙ map-map pair (λ (call : ℕ × Submission). call.0) calls in
       let At : List (ℕ × ℕ) × List (ℕ × ℕ) → Type 0 = λ p. IsPrefix p.0 p.1 in
       subst At (λ i. (left i, right i)) (IsPrefix-map name (map numbered items) (enumerate_from 0 futures) (joined.consistent.in_order a c))
 
   -- an actor of which a cast is left ran them all
-  pub ran_whole : (n a c : ℕ) (left : ActorSpec) → IsLeft casts owners ends a left → map (ran_as n) (items_of c (log_in ends a)) ≡ map (submitted_as n) (calls_to a (calls_in owners c))
+  pub ran_whole : (n a c : ℕ) (left : ActorSpec) → IsLeft casts owners ends a left
+      → map (ran_as n) (items_of c (log_in ends a)) ≡ map (submitted_as n) (calls_to a (calls_in owners c))
   ran_whole n a c left is =
       let log : log_in ends a ≡ is.retired.log = ap log_of_end is.found in
       let here : map (λ (item : RunItem). item.future) (items_of c (log_in ends a)) ≡ map (λ (call : ℕ × Submission). call.0) (calls_to a (calls_in owners c)) =
-      ap (λ (l : List RunItem). map (λ (item : RunItem). item.future) (items_of c l)) log ∙ is.ran.calls c ∙ ap (λ (b : ℕ). map (λ (call : ℕ × Submission). call.0) (calls_to b (calls_in owners c))) is.id in
+      ap (λ (l : List RunItem). map (λ (item : RunItem). item.future) (items_of c l)) log ∙ is.ran.calls c
+      ∙ ap (λ (b : ℕ). map (λ (call : ℕ × Submission). call.0) (calls_to b (calls_in owners c))) is.id in
       let pair : ℕ → ℕ × ℕ = λ k. (n, k) in
       sym (map-map pair (λ (item : RunItem). item.future) (items_of c (log_in ends a)))
       ∙ ap (map pair) here
@@ -209,15 +211,18 @@ module _ {casts : List ActorSpec} {steps : List (ℕ × List Step)} {owners : Li
   -- ---- states
 
   -- the cast that is left is the one before, in the state after the log
-  pub left_state : (a : ℕ) (left : ActorSpec) → IsLeft casts owners ends a left → (cast : ActorSpec) × (cast_at a casts ≡ Some cast) × (left ≡ record cast { opening = state_after cast.opening (log_in ends a) })
+  pub left_state : (a : ℕ) (left : ActorSpec) → IsLeft casts owners ends a left → (cast : ActorSpec) × (cast_at a casts ≡ Some cast)
+      × (left ≡ record cast { opening = state_after cast.opening (log_in ends a) })
   left_state a left is = (
     is.ran.cast,
     subst (λ (n : ℕ). cast_at n casts ≡ Some is.ran.cast) is.id is.ran.at,
-    is.is ∙ ap (λ (state : KindState). record is.ran.cast { opening = state }) (is.ran.state ∙ ap (state_after is.ran.cast.opening) (sym (ap log_of_end is.found))),
+    is.is ∙ ap (λ (state : KindState). record is.ran.cast { opening = state }) (is.ran.state
+        ∙ ap (state_after is.ran.cast.opening) (sym (ap log_of_end is.found))),
   )
 
 -- no call of a caller to an actor stands twice
 pub calls_differ : (n a : ℕ) (calls : List Submission) → AllPairs (λ one other. one ≢ other) (map (submitted_as n) (calls_to a calls))
 calls_differ n a calls =
     AllPairs-map (λ (one other : ℕ × ℕ). one ≢ other) (submitted_as n) (calls_to a calls)
-    (λ i j d lt below same. AllPairs-filter (λ (one other : ℕ × Submission). one.0 ≢ other.0) (λ (call : ℕ × Submission). call.1.actor == a) (enumerate_from 0 calls) (places_apart 0 calls) i j d lt below (ap (λ (p : ℕ × ℕ). p.1) same))
+    (λ i j d lt below same. AllPairs-filter (λ (one other : ℕ × Submission). one.0 ≢ other.0) (λ (call : ℕ × Submission). call.1.actor == a)
+    (enumerate_from 0 calls) (places_apart 0 calls) i j d lt below (ap (λ (p : ℕ × ℕ). p.1) same))

@@ -37,7 +37,8 @@ module _ (casts : List ActorSpec) (plans : ℕ → List Step) (Passed : List Eve
         },
       )
 
-  next_of : (at : At) (choice : Choice) → (here : Contains seen at) → IsKnown left ((looked at here).path ++ choice ∷ []) → (next : At) × Contains seen next × HasChosen choice at.history next.history
+  next_of : (at : At) (choice : Choice) → (here : Contains seen at) → IsKnown left ((looked at here).path ++ choice ∷ []) → (next : At) × Contains seen next
+      × HasChosen choice at.history next.history
   next_of at choice here known =
       let is = looked at here in
       let next = maker (is.path ++ choice ∷ []) known in
@@ -66,5 +67,6 @@ module _ (casts : List ActorSpec) (plans : ℕ → List Step) (Passed : List Eve
   pub searched_all : HasSearchedAll casts plans Passed seen
   searched_all = record {
     whole = whole;
-    passed = All-weaker (IsLookedAt casts plans Passed left) (λ at. IsDone plans at → HasPassed casts Passed at.history) (λ at is. is.passed) seen searched.looked;
+    passed = All-weaker (IsLookedAt casts plans Passed left) (λ at. IsDone plans at → HasPassed casts Passed at.history)
+        (λ at is. is.passed) seen searched.looked;
   }

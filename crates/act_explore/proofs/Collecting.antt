@@ -3,7 +3,12 @@ use Rattle.act_explore.proofs.Common.{◌≡◌, List, [], ◌∷◌, ◌++◌, 
 use Rattle.act_explore.proofs.Common.{ActorSpec, History, history, Found, HasPassed, IsFoundBy, IsFound}
 
 pub found_last : (old new : List Found) (found : Found) → new ≡ old ++ found ∷ [] → IsFoundBy new found.events.items
-found_last old new found is = record { found = found; listed = subst (λ (l : List Found). Contains l found) (sym is) (Contains-push old found); events_are = refl }
+found_last old new found is = record {
+  found = found;
+  listed = subst (λ (l : List Found). Contains l found) (sym is) (Contains-push old found);
+  events_are =
+      refl;
+}
 
 pub found_before : (old new : List Found) (found : Found) (events : List Event) → new ≡ old ++ found ∷ [] → IsFoundBy old events → IsFoundBy new events
 found_before old new found events is before = record {

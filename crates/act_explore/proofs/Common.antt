@@ -2,7 +2,7 @@
 pub use Rattle.act_actor.specs.Casts.{actor_spec}
 pub use Rattle.act_actor.specs.declared.cast.Cast.{Cast}
 pub use Rattle.act_early.proofs.Ending.{enough}
-pub use Rattle.act_early.proofs.Listed.{named_caller}
+pub use Rattle.act_rules.proofs.Callers.{named_among}
 pub use Rattle.act_early.proofs.Worlds.{world}
 pub use Rattle.act_early.specs.Early.{EndsAlike, HasRunMore, IsQuiescent, IsWholeSearch, is_heard}
 pub use Rattle.act_early.specs.Plays.{At, IsPlay}

@@ -5,7 +5,8 @@ use Rattle.act_explore.proofs.Common.{callers_of_casts, PlansFit, setups_view, p
 use Rattle.act_explore.proofs.Common.{contains_from_in, all_in, in_filter, any_is, contains_is, AreOfARun, is_named, no_plan, AreSuited}
 
 -- a caller that a cast names is one of the callers
-named_caller : (casts : List ActorSpec) (plans : List (ℕ × List Step)) → AreOfARun casts plans → (c : ℕ) → is_named casts c ≡ true → IsIn (callers_of_casts casts) c
+named_caller : (casts : List ActorSpec) (plans : List (ℕ × List Step)) → AreOfARun casts plans → (c : ℕ) → is_named casts c ≡ true
+    → IsIn (callers_of_casts casts) c
 named_caller casts plans of c named =
     let cast = any_is (λ (x : ActorSpec). contains c x.callers) casts named in
     let listed = all_in (λ (x : ActorSpec). All (λ d. Contains (one_to MAX_CALLERS) d) x.callers) casts cast.0 of.callers cast.1.inside in
@@ -18,12 +19,14 @@ pub holding : {K : Type 0} (state : K → KindState) (casts : List (Cast K)) (pl
 holding state casts plans setups is of = record {
   parts = λ k d lt. record { plan = sym (plans_are state casts plans setups is k d lt); actors = actors_are state casts plans setups is k d lt };
   named = λ c named. contains_from_in (map (λ (setup : CallerSetup). setup.caller) setups) c
-      (subst (λ (l : List ℕ). IsIn l c) (sym (setups_view state casts plans setups is)) (named_caller (map (actor_spec state) casts) (map plan_view plans) of c named));
+      (subst (λ (l : List ℕ). IsIn l c) (sym (setups_view state casts plans setups is))
+      (named_caller (map (actor_spec state) casts) (map plan_view plans) of c named));
   others = λ c none. no_plan (map (actor_spec state) casts) c (map plan_view plans) of.named none;
 }
 
 -- plans that fit casts suit them, and the other way round
-pub suited : {K : Type 0} (state : K → KindState) (casts : List (Cast K)) (plans : List (ℕ × Vec Step)) → PlansFit casts plans → AreSuited (map (actor_spec state) casts) plans
+pub suited : {K : Type 0} (state : K → KindState) (casts : List (Cast K)) (plans : List (ℕ × Vec Step)) → PlansFit casts plans
+    → AreSuited (map (actor_spec state) casts) plans
 suited {K = K} state casts plans fit = record {
   differ = fit.differ;
   named = All-weaker (λ (plan : ℕ × Vec Step). list_any (λ (cast : Cast K). contains plan.0 cast.callers) casts ≡ true)
@@ -32,7 +35,8 @@ suited {K = K} state casts plans fit = record {
   short = fit.short;
 }
 
-pub fits : {K : Type 0} (state : K → KindState) (casts : List (Cast K)) (plans : List (ℕ × Vec Step)) → AreSuited (map (actor_spec state) casts) plans → PlansFit casts plans
+pub fits : {K : Type 0} (state : K → KindState) (casts : List (Cast K)) (plans : List (ℕ × Vec Step)) → AreSuited (map (actor_spec state) casts) plans
+    → PlansFit casts plans
 fits {K = K} state casts plans suit = record {
   differ = suit.differ;
   named = All-weaker (λ (plan : ℕ × Vec Step). list_any (λ (cast : ActorSpec). contains plan.0 cast.callers) (map (actor_spec state) casts) ≡ true)

@@ -6,18 +6,17 @@ use Rattle.act_explore.proofs.Common.{IsOpened, Grows, HasAdded, IsPlayAt, IsLoo
 use Rattle.act_rules.specs.declared.event.Event.TheVariants as event
 
 -- at first nothing was looked at
-pub opened : (casts : List ActorSpec) (plans : ℕ → List Step) (Passed : List Event → Type 0) (left : Left) → IsOpened left → HasSearched casts plans Passed left []
+pub opened : (casts : List ActorSpec) (plans : ℕ → List Step) (Passed : List Event → Type 0) (left : Left) → IsOpened left
+    → HasSearched casts plans Passed left []
 opened casts plans Passed left is = record {
   looked = All-nil (IsLookedAt casts plans Passed left);
   all = λ key known. inr (is.waits key known);
   first = is.first;
 }
 
-pub still_known : (old new : Left) (path : List Choice) → Grows old new → IsKnown old path → IsKnown new path
-still_known old new path grows is = record { numbers = is.numbers; known = grows.known (key_of path) is.known }
-
 -- of more states it was found that they passed
-module _ (casts : List ActorSpec) (plans : ℕ → List Step) (Passed Later : List Event → Type 0) (later : (events : List Event) → Passed events → Later events) where
+module _ (casts : List ActorSpec) (plans : ℕ → List Step) (Passed Later : List Event → Type 0) (later : (events : List Event) → Passed events
+    → Later events) where
   passed_on : (at : At) → HasPassed casts Passed at.history → HasPassed casts Later at.history
   passed_on at has = record { events = has.events; history_is = has.history_is; passed = later has.events has.passed }
 
@@ -33,8 +32,10 @@ module _ (casts : List ActorSpec) (plans : ℕ → List Step) (Passed Later : Li
       numbers = is.numbers;
       stands = is.stands;
       next = record {
-        runs = λ a c may some. let known = is.next.runs a c may some in record { numbers = known.numbers; known = added.grows.known (key_of (is.path ++ Run a c ∷ [])) known.known };
-        takes = λ a may. let known = is.next.takes a may in record { numbers = known.numbers; known = added.grows.known (key_of (is.path ++ Take a ∷ [])) known.known };
+        runs = λ a c may some. let known = is.next.runs a c may some in
+            record { numbers = known.numbers; known = added.grows.known (key_of (is.path ++ Run a c ∷ [])) known.known };
+        takes = λ a may. let known = is.next.takes a may in
+            record { numbers = known.numbers; known = added.grows.known (key_of (is.path ++ Take a ∷ [])) known.known };
       };
       passed = λ done. passed_on one (is.passed done);
     }
@@ -91,7 +92,8 @@ module _ (casts : List ActorSpec) (plans : ℕ → List Step) (Passed Later : Li
 
     pub looked_more : HasSearched casts plans Later new (at ∷ seen)
     looked_more = record {
-      looked = All-cons (IsLookedAt casts plans Later new) at seen here (All-weaker (IsLookedAt casts plans Passed (with_path path popped)) (IsLookedAt casts plans Later new) still seen searched.looked);
+      looked = All-cons (IsLookedAt casts plans Later new) at seen here
+          (All-weaker (IsLookedAt casts plans Passed (with_path path popped)) (IsLookedAt casts plans Later new) still seen searched.looked);
       all = all;
       first = added.grows.known (key_of []) searched.first;
     }

@@ -95,5 +95,7 @@ pub runs_step : (a : ℕ) (path : List Choice) (i : ℕ) (choice : Choice) → i
 runs_step a path i choice within is =
     ap (runs_in a) (take_more path i choice within ∙ ap (λ x. take i path ++ x ∷ []) (sym is)) ∙ runs_more a (take i path) choice
 
-pub letters_more : (old runs : List ℕ) (o : Option ℕ) → (old ++ map letter_of runs) ++ map letter_of (option_to_list o) ≡ old ++ map letter_of (runs ++ option_to_list o)
-letters_more old runs o = append_assoc old (map letter_of runs) (map letter_of (option_to_list o)) ∙ ap (λ l. old ++ l) (sym (map-append letter_of runs (option_to_list o)))
+pub letters_more : (old runs : List ℕ) (o : Option ℕ) → (old ++ map letter_of runs) ++ map letter_of (option_to_list o) ≡ old ++ map letter_of
+    (runs ++ option_to_list o)
+letters_more old runs o = append_assoc old (map letter_of runs) (map letter_of (option_to_list o))
+    ∙ ap (λ l. old ++ l) (sym (map-append letter_of runs (option_to_list o)))

@@ -33,17 +33,6 @@ module _ (path : List Choice) (old new : Left) (numbers : All HasNumber path) (w
     };
   }
 
--- a path whose key is known
-pub put_known : (path : List Choice) (old new : Left) → All HasNumber path → new.waiting ≡ old.waiting → ((key : List ℕ) → new.known key ≡ old.known key) → old.known (key_of path) ≡ true → HasPut path old new
-put_known path old new numbers waiting known was = record {
-  grows = record {
-    known = λ key is. known key ∙ is;
-    waiting = λ one is. subst (λ l. Contains l one) (sym waiting) is;
-    fresh = λ key is. inl (sym (known key) ∙ is);
-  };
-  put = record { numbers = numbers; known = known (key_of path) ∙ was };
-}
-
 -- the first path
 pub put_first : (old new : Left) → HasPut [] old new → ((key : List ℕ) → old.known key ≡ false) → IsOpened new
 put_first old new put none = record {

@@ -1,5 +1,5 @@
 -- A box that was lent, and came back.
-use Rattle.std.proofs.Common.{◌≡◌, ◌∙◌, Result, Ok, Err, OnErr}
+use Rattle.act_kinds.proofs.Common.{◌≡◌, ◌∙◌, Result, Ok, Err, OnErr}
 use Rattle.std.specs.declared.dyn_box.DynBox.{DynBox}
 
 -- where the value behind the vtable came back as it was, the box is as it was

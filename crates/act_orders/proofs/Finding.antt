@@ -110,14 +110,6 @@ has_run told places n i at lt e =
     let there = placed_at told.runs n i (place_of places n) (at.place n lt) e in
     stands_in (calls_run told) i n (call_at told i _ there.1)
 
-pub has_not_run : (told : Told) (places : List (Option ℕ)) (n : ℕ) → HasPlaces told told.runs places → n < length told.calls →
-    place_of places n ≡ None → Happened told (Ran n) → ⊥
-has_not_run told places n at lt e = not_at (place_of places n) (at.place n lt) e
-  where
-    not_at : (o : Option ℕ) → IsPlace told.runs n o → o ≡ None → Happened told (Ran n) → ⊥
-    not_at None is same = is
-    not_at (Some i) is same = absurd (cc)
-
 pub is_some_place : (o : Option ℕ) → is_some o ≡ true → (i : ℕ) × (o ≡ Some i)
 is_some_place None e = absurd (cc)
 is_some_place (Some i) e = (i, refl)

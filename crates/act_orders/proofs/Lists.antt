@@ -25,9 +25,6 @@ get_dropped zero xs i = let e : i ≡ 0 + i = omega arith in ap (λ k. slice_get
 get_dropped (suc n) [] i = refl
 get_dropped (suc n) (x ∷ xs) i = let e : suc (n + i) ≡ suc n + i = omega arith in get_dropped n xs i ∙ ap (λ k. slice_get (x ∷ xs) k) e
 
-pub each_after_none : {A : Type 0} (P : List A → A → Type 0) → EachAfter P []
-each_after_none P i v e = absurd (cc)
-
 pub each_after_pushed : {A : Type 0} (P : List A → A → Type 0) (xs : List A) (y : A) →
     EachAfter P xs → P xs y → EachAfter P (xs ++ y ∷ [])
 each_after_pushed {A} P xs y before here i v e =

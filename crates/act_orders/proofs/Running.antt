@@ -88,12 +88,6 @@ ran_at told places i n j has lt e =
 
 -- ---- one run more
 
-pub places_none : (told : Told) (n : ℕ) → n ≡ length told.calls → HasPlaces told [] (replicate n None)
-places_none told n e = record {
-  each = simp length-replicate e;
-  place = λ k lt. subst (λ o. IsPlace [] k o) (sym (get_or-replicate n k None None (omega (arith, lt, e)))) (λ has. omega (arith, has.1));
-}
-
 -- a call that the next run isn't of keeps its place
 kept_place : (told : Told) (i k : ℕ) (o : Option ℕ) → i < length told.runs → k ≢ (run_of told i).call →
     IsPlace (take i told.runs) k o → IsPlace (take (i + 1) told.runs) k o

@@ -29,11 +29,11 @@ stays g apart marks v w m lt more had = elim (marked g apart marks v w m lt) [
   | inr h ↦ omega (arith, h.1, had)
 ]
 
-pub enter_step : {A : Type 0} (g : Graph A) (apart : Apart g) (done : ℕ) (marks : List ℕ) (path order : List A) (v u : A) →
+pub enter_step : {A : Type 0} {g : Graph A} {done : ℕ} {marks : List ℕ} {path order : List A} {v u : A} → Apart g →
     Standing g done marks path order → 1 < done → g.IsNode u → mark g marks u ≡ 0 →
     slice_get path (length path - 1) ≡ Some v → Needs g v u →
     Steps g done marks (set marks (g.number u) 1) (path ++ u ∷ []) order order
-enter_step g apart done marks path order v u s big node white last needs =
+enter_step {g = g} {done = done} {marks = marks} {path = path} {order = order} {v = v} {u = u} apart s big node white last needs =
     let lt : g.number u < length marks = s.room u node in
     record {
       standing = entered g apart done marks path order u s big node white (λ i w at e.
@@ -44,11 +44,11 @@ enter_step g apart done marks path order v u s big node white last needs =
       less = lower done marks (g.number u) 1 lt (omega (arith, white)) (omega (arith, big));
     }
 
-pub pass_step : {A : Type 0} (g : Graph A) (apart : Apart g) (done : ℕ) (marks : List ℕ) (path order : List A) (v : A) (m : ℕ) →
+pub pass_step : {A : Type 0} {g : Graph A} {done : ℕ} {marks : List ℕ} {path order : List A} {v : A} → Apart g → (m : ℕ) →
     Standing g done marks path order → slice_get path (length path - 1) ≡ Some v → mark g marks v ≡ m → m + 1 < done →
     ((u : A) → slice_get (g.slots v) (m - 1) ≡ Some (Some u) → g.IsNode u → Contains order u) →
     Steps g done marks (set marks (g.number v) (m + 1)) path order order
-pass_step g apart done marks path order v m s last at big here =
+pass_step {g = g} {done = done} {marks = marks} {path = path} {order = order} {v = v} apart m s last at big here =
     let on : Contains path v = stands_in path (length path - 1) v last in
     let node = s.begun v on in
     let lt : g.number v < length marks = s.room v node.0 in
@@ -61,11 +61,11 @@ pass_step g apart done marks path order v m s last at big here =
       less = lower done marks (g.number v) (m + 1) lt (omega (arith, at)) (omega (arith, big));
     }
 
-pub finish_step : {A : Type 0} (g : Graph A) (apart : Apart g) (done : ℕ) (marks : List ℕ) (path order : List A) (v : A) (m : ℕ) →
+pub finish_step : {A : Type 0} {g : Graph A} {done : ℕ} {marks : List ℕ} {path order : List A} {v : A} → Apart g → (m : ℕ) →
     Standing g done marks path order → slice_get path (length path - 1) ≡ Some v → mark g marks v ≡ m →
     length (g.slots v) ≤ m - 1 →
     Steps g done marks (set marks (g.number v) done) (take (length path - 1) path) order (order ++ v ∷ [])
-finish_step g apart done marks path order v m s last at far =
+finish_step {g = g} {done = done} {marks = marks} {path = path} {order = order} {v = v} apart m s last at far =
     let on : Contains path v = stands_in path (length path - 1) v last in
     let node = s.begun v on in
     let lt : g.number v < length marks = s.room v node.0 in
@@ -80,14 +80,6 @@ finish_step g apart done marks path order v m s last at far =
       };
       less = lower done marks (g.number v) done lt node.2 (omega arith);
     }
-
-pub goes_nowhere : {A : Type 0} (g : Graph A) (marks : List ℕ) (order : List A) → GoesOn g marks marks order order
-goes_nowhere g marks order = record { grows = λ v has. has; begun = λ v had. had }
-
-pub goes_further : {A : Type 0} (g : Graph A) (a b c : List ℕ) (one two three : List A) → GoesOn g a b one two →
-    GoesOn g b c two three → GoesOn g a c one three
-goes_further g a b c one two three p q =
-    record { grows = λ v has. q.grows v (p.grows v has); begun = λ v had. q.begun v (p.begun v had) }
 
 -- at rest what was begun stands in the order
 pub at_rest : {A : Type 0} (g : Graph A) (done : ℕ) (marks : List ℕ) (order : List A) (v : A) → Standing g done marks [] order →
@@ -105,9 +97,9 @@ pub record Last {A : Type 0} (g : Graph A) (done : ℕ) (marks : List ℕ) (path
   pub low : 0 < mark g marks v
   pub high : mark g marks v < done
 
-pub last_of : {A : Type 0} (g : Graph A) (done : ℕ) (marks : List ℕ) (path order : List A) (v : A) →
+pub last_of : {A : Type 0} {g : Graph A} {done : ℕ} {marks : List ℕ} {path order : List A} {v : A} →
     Standing g done marks path order → slice_get path (length path - 1) ≡ Some v → Last g done marks path v
-last_of g done marks path order v s at =
+last_of {path = path} {v = v} s at =
     let on : Contains path v = stands_in path (length path - 1) v at in let b = s.begun v on in
     record { node = b.0; on = on; room = s.room v b.0; low = b.1; high = b.2 }
 
@@ -128,12 +120,6 @@ enter_root g apart done marks path order u rest big node white =
       goes_on = record { grows = λ w has. has; begun = λ w had. stays g apart marks u w 1 lt (omega arith) had };
       begun = elim (marked g apart marks u u 1 lt) [ inl h ↦ omega (arith, h.1) | inr h ↦ absurd (h.0 refl) ];
     }
-
--- at rest what is marked stands in the order
-pub marked_at_rest : {A : Type 0} (g : Graph A) (done : ℕ) (marks : List ℕ) (path order : List A) (v : A) →
-    AtRest g done marks path order → g.IsNode v → 0 < mark g marks v → Contains order v
-marked_at_rest g done marks path order v rest node more =
-    at_rest g done marks order v (subst (λ ps. Standing g done marks ps order) rest.1 rest.0) node more
 
 pub orders : {A : Type 0} (g : Graph A) (done : ℕ) (marks : List ℕ) (path order : List A) → AtRest g done marks path order →
     ((v : A) → g.IsNode v → Contains order v) → OrdersNodes g order

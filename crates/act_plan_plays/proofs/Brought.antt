@@ -4,9 +4,8 @@ use Rattle.act_plan_plays.proofs.Common.{◌∙◌, subst, ◌||◌, not, slice_
 use Rattle.act_plan_plays.proofs.Common.{WorldRefusal, ActorEnded, NoCaller, Sending, needs, calls_to, copies_held, send_refusal, History, is_letter}
 use Rattle.act_plan_plays.proofs.Common.{has_letter, is_ended, is_caller, calls_of, copies_of, kept_of, runs_of, refusal_of, did, add_event, after_by, after}
 use Rattle.act_plan_plays.proofs.Common.{and_also, letter_actor, deliver_refusal, call_letter, was_sent, is_last, slice_get_last, added_grows, ended_stays}
-use Rattle.act_plan_plays.proofs.Common.{letter_is, has_front, has_last, IsBrought, after_mail, after_post, or_cases}
+use Rattle.act_plan_plays.proofs.Common.{letter_is, has_front, has_last, IsBrought, after_mail, after_post, or_cases, NoteLetter}
 use Rattle.act_rules.specs.declared.event.Event.TheVariants as event
-use Rattle.act_rules.specs.declared.history.Letter.TheVariants.{Note as NoteLetter}
 
 -- who lives after an event lived before
 pub lived : (a : ℕ) (h : History) (other : Event) → refusal_of h other ≡ None → is_ended a (add_event h other) ≡ false → is_ended a h ≡ false
@@ -32,7 +31,8 @@ one_letter false e = cc
 
 -- a letter of the longer mail was there before, or is the new one
 older_or_new : (letter new : Letter) (mail : List Letter) → has_letter letter (mail ++ new ∷ []) ≡ true → (has_letter letter mail ≡ true) ⊎ (letter ≡ new)
-older_or_new letter new mail e = go (or_cases (has_letter letter mail) (has_letter letter (new ∷ [])) (sym (list_any-append (is_letter letter) mail (new ∷ [])) ∙ e))
+older_or_new letter new mail e = go (or_cases (has_letter letter mail) (has_letter letter (new ∷ [])) (sym (list_any-append (is_letter letter) mail (new ∷ []))
+    ∙ e))
   where
     go : (has_letter letter mail ≡ true) ⊎ (has_letter letter (new ∷ []) ≡ true) → (has_letter letter mail ≡ true) ⊎ (letter ≡ new)
     go (inl there) = inl there
@@ -108,7 +108,9 @@ brought_send h c k accepted brought = go (slice_get (calls_of c h) k) refl
     none false sent e = cc
 
     go : (o : Option Submission) → slice_get (calls_of c h) k ≡ o → IsBrought (after_post (event.Send c k) h)
-    go None e = absurd (none (is_caller c h) false (subst (λ (o : Option Submission). needs (is_caller c h) NoCaller (option_map Sending (send_refusal (kept_of c h) k (was_sent c k o h) o)) ≡ None) e accepted))
+    go None e = absurd (none (is_caller c h) false
+        (subst (λ (o : Option Submission). needs (is_caller c h) NoCaller (option_map Sending (send_refusal (kept_of c h) k (was_sent c k o h) o)) ≡ None) e
+        accepted))
     go (Some call) e =
         let mail : g.mail ≡ h.mail ++ call_letter c k call h ∷ [] =
         ap (λ (o : Option Submission). and_also h.mail (option_map (λ (call : Submission). call_letter c k call h) o)) e in

@@ -5,10 +5,10 @@ pub use Rattle.act_actor.specs.declared.cast.Cast.{Cast}
 pub use Rattle.act_early.proofs.Choices.{choices_same, heard_quiet}
 pub use Rattle.act_early.proofs.Choosing.{cast_known, run_more}
 pub use Rattle.act_early.proofs.Counting.{occurrences-push}
-pub use Rattle.act_early.proofs.Listed.{named_caller}
+pub use Rattle.act_rules.proofs.Callers.{named_among}
 pub use Rattle.act_early.proofs.Notes.{notes_sent}
 pub use Rattle.act_early.proofs.Quiesces.{Quiesces, death_quiesces, quiesces_same, quiesces_trans, quiet_quiesces, skip_quiesces, step_quiesces}
-pub use Rattle.act_early.proofs.Worlds.{IsWorld, contains_push, either_of, not_dead, not_so, or_second, take_needs, world}
+pub use Rattle.act_early.proofs.Worlds.{IsWorld, contains_push, either_of, not_dead, not_so, or_second, take_needs, world, world as world_of}
 pub use Rattle.act_early.specs.Early.{HasRunMore, HasTakenMore, IsQuiescent, is_heard}
 pub use Rattle.act_early.specs.Fronts.{HaveSameChoices}
 pub use Rattle.act_early.specs.Plays.{At, Closes, Happens, IsPlay, MayTake, Opens, next_step, opened, skipped, steps_of, taken, with_event}
@@ -34,8 +34,8 @@ pub use Rattle.act_rules.proofs.Lists.{front_trans, list_any-map, option_map-non
 pub use Rattle.act_rules.proofs.RanAll.{Retires, copies_named, named_call, world_retires}
 pub use Rattle.act_rules.proofs.Steps.{after_all-append, outcomes-append}
 pub use Rattle.act_rules.specs.Consistent.{IsPrefix}
-pub use Rattle.act_rules.specs.History.{ActorSpec, History, actors_naming, calls_of, cast_of, contains, copies_of, has_letter, is_caller, is_dead}
-pub use Rattle.act_rules.specs.History.{is_ended, is_letter, is_retired, kept_of, names, next_item, opening, runs_of}
+pub use Rattle.act_rules.specs.History.{ActorSpec, History, actors_naming, calls_of, cast_of, contains, copies_of, has_letter, is_caller, is_dead, is_ended}
+pub use Rattle.act_rules.specs.History.{is_letter, is_retired, kept_of, names, next_item, opening, runs_of}
 pub use Rattle.act_rules.specs.Laws.{history}
 pub use Rattle.act_rules.specs.Plans.{occurrences}
 pub use Rattle.act_rules.specs.Report.{one_to}
@@ -46,6 +46,7 @@ pub use Rattle.act_rules.specs.Submissions.{calls_to, copies_held, copy_refusal,
 pub use Rattle.act_rules.specs.declared.event.Event.{Event}
 pub use Rattle.act_rules.specs.declared.event.Event.TheVariants.{Deliver, Retire, Tell}
 pub use Rattle.act_rules.specs.declared.history.Letter.{Letter}
+pub use Rattle.act_rules.specs.declared.history.Letter.TheVariants.{Note as NoteLetter}
 pub use Rattle.act_rules.specs.declared.history.RunItem.{RunItem}
 pub use Rattle.act_rules.specs.declared.history.Submission.{Submission}
 pub use Rattle.act_rules.specs.declared.outcome.Did.{Did}
@@ -53,7 +54,7 @@ pub use Rattle.act_rules.specs.declared.outcome.Did.TheVariants.{Copies, Mail}
 pub use Rattle.act_rules.specs.declared.outcome.HandleRefusal.TheVariants.{NoActor, NoHandle, TooManyCopies}
 pub use Rattle.act_rules.specs.declared.outcome.SubmitRefusal.{SubmitRefusal}
 pub use Rattle.act_rules.specs.declared.outcome.WorldRefusal.{WorldRefusal}
-pub use Rattle.act_rules.specs.declared.outcome.WorldRefusal.TheVariants.{ActorEnded, NoCaller, Sending}
+pub use Rattle.act_rules.specs.declared.outcome.WorldRefusal.TheVariants.{ActorEnded, Handle, NoCaller, Sending, Submit as SubmitRefused}
 pub use Rattle.act_rules.specs.declared.script.Step.{Step}
 pub use Rattle.act_rules.specs.declared.script.Step.TheVariants.{Await, Copy, Kill, Release, Submit}
 pub use Rattle.act_types.specs.KindState.{KindState}

@@ -1,17 +1,18 @@
 -- Nothing is left of a caller that is no choice.
 use Rattle.act_plan_plays.proofs.Common.{◌≡◌, ℕ, zero, suc, Bool, true, false, cond, List, [], ◌∷◌, length, Option, Some, None, refl, ap, sym, ◌∙◌, subst}
-use Rattle.act_plan_plays.proofs.Common.{arith, ◌==◌, ◌&&◌, ◌||◌, not, nat_lt, map, filter, find, slice_get, is_some, list_all}
-use Rattle.act_plan_plays.proofs.Common.{range_with_len, nat_tests, slice_get_within, Step, Kill, Submission, Answer, copies_held}
-use Rattle.act_plan_plays.proofs.Common.{kept_at, is_known, ActorSpec, History, contains, names, cast_of, actors_naming, copies_of, has_letter, call_letter}
-use Rattle.act_plan_plays.proofs.Common.{was_sent, copies_in, OwnerView, is_known_call, is_sent, is_ready, first_ready, is_known_dead, Refines, death_listed}
-use Rattle.act_plan_plays.proofs.Common.{IsHere, At, next_step, world, Parts, Stands, held, may_take, shows_dead, is_left_out, HasNoStep, IsDone, cast_known}
+use Rattle.act_plan_plays.proofs.Common.{arith, ◌==◌, ◌&&◌, ◌||◌, not, nat_lt, map, filter, find, slice_get, is_some, list_all, range_with_len, nat_tests}
+use Rattle.act_plan_plays.proofs.Common.{slice_get_within, Step, Kill, Submission, Answer, copies_held, kept_at, is_known, ActorSpec, History, contains, names}
+use Rattle.act_plan_plays.proofs.Common.{cast_of, actors_naming, copies_of, has_letter, call_letter, was_sent, copies_in, OwnerView, is_known_call, is_sent}
+use Rattle.act_plan_plays.proofs.Common.{is_ready, first_ready, is_known_dead, Refines, death_listed, IsHere, At, next_step, world, Parts, Stands, held}
+use Rattle.act_plan_plays.proofs.Common.{may_take, shows_dead, is_left_out, HasNoStep, IsDone, cast_known}
 use Rattle.act_plan_plays.proofs.Loops.{none_passes, in_range}
 use Rattle.act_plan_plays.proofs.Seen.{live_shown, refuses}
 
 -- ---- who is listed
 
 -- an actor whose cast names the caller stands among those that do
-pub named_listed : (c a : ℕ) (casts : List ActorSpec) → names c (find (λ (cast : ActorSpec). cast.actor == a) casts) ≡ true → contains a (actors_naming c casts) ≡ true
+pub named_listed : (c a : ℕ) (casts : List ActorSpec) → names c (find (λ (cast : ActorSpec). cast.actor == a) casts) ≡ true
+    → contains a (actors_naming c casts) ≡ true
 named_listed c a [] e = cc
 named_listed c a (cast ∷ casts) e = go (cast.actor == a) refl (contains c cast.callers) refl (named_listed c a casts) e
   where
@@ -19,9 +20,11 @@ named_listed c a (cast ∷ casts) e = go (cast.actor == a) refl (contains c cast
     Rest = names c (find (λ (cast : ActorSpec). cast.actor == a) casts) ≡ true → contains a (actors_naming c casts) ≡ true
 
     listed : Bool → List ℕ
-    listed b = map (λ (one : ActorSpec). one.actor) (cond b (cast ∷ filter (λ (one : ActorSpec). contains c one.callers) casts) (filter (λ (one : ActorSpec). contains c one.callers) casts))
+    listed b = map (λ (one : ActorSpec). one.actor)
+        (cond b (cast ∷ filter (λ (one : ActorSpec). contains c one.callers) casts) (filter (λ (one : ActorSpec). contains c one.callers) casts))
 
-    go : (x : Bool) → (cast.actor == a) ≡ x → (b : Bool) → contains c cast.callers ≡ b → Rest → names c (cond x (Some cast) (find (λ (cast : ActorSpec). cast.actor == a) casts)) ≡ true
+    go : (x : Bool) → (cast.actor == a) ≡ x → (b : Bool) → contains c cast.callers ≡ b → Rest
+        → names c (cond x (Some cast) (find (λ (cast : ActorSpec). cast.actor == a) casts)) ≡ true
         → contains a (listed (contains c cast.callers)) ≡ true
     go true is b named rest e =
         ap (λ (x : Bool). contains a (listed x)) e ∙ ap (λ (x : Bool). x || contains a (actors_naming c casts)) is
@@ -61,8 +64,10 @@ true_or_false : (b : Bool) (P : Type 0) → (b ≡ true → P) → (b ≡ false 
 true_or_false true P one other = one refl
 true_or_false false P one other = other refl
 
-pub done_of : (casts : List ActorSpec) (plans : ℕ → List Step) (at : At) (parts : Parts) (c : ℕ) (owner : OwnerView) (actors : List ℕ) (next : Option Step) → Stands casts plans at parts
-    → Refines at.history parts.world → IsHere at.history c owner → next_step plans c at ≡ next → actors ≡ actors_naming c casts → HasNoStep parts.world owner actors next → first_ready owner ≡ None
+pub done_of : (casts : List ActorSpec) (plans : ℕ → List Step) (at : At) (parts : Parts) (c : ℕ) (owner : OwnerView) (actors : List ℕ) (next : Option Step)
+    → Stands casts plans at parts
+    → Refines at.history parts.world → IsHere at.history c owner → next_step plans c at ≡ next → actors ≡ actors_naming c casts
+    → HasNoStep parts.world owner actors next → first_ready owner ≡ None
     → find (λ (a : ℕ). shows_dead parts.world a && not (is_known_dead owner a)) actors ≡ None → IsDone plans c at
 done_of casts plans at parts c owner actors next stands refines here next_is actors_is idle unready told = record {
   waits = λ step is may. refuses h c owner step here (idle_step step (sym next_is ∙ is)).0 may;
@@ -79,9 +84,11 @@ done_of casts plans at parts c owner actors next stands refines here next_is act
       let passed = none_passes (is_ready owner) (range_with_len 0 (length owner.calls)) k unready (in_range (length owner.calls) k within) in
       let all : is_known_call owner (slice_get owner.calls k) ≡ true =
       ap (is_known_call owner) there ∙ ap (λ (kept : List (Option Answer)). list_all (is_known kept) call.args) here.is.kept ∙ known in
-      let unanswered : is_some (kept_at owner.kept k) ≡ false = ap (λ (kept : List (Option Answer)). is_some (kept_at kept k)) here.is.kept ∙ ap (λ (o : Option Answer). is_some o) none in
+      let unanswered : is_some (kept_at owner.kept k) ≡ false = ap (λ (kept : List (Option Answer)). is_some (kept_at kept k)) here.is.kept
+      ∙ ap (λ (o : Option Answer). is_some o) none in
       let marked = not_ready (is_known_call owner (slice_get owner.calls k)) (is_sent owner k) (is_some (kept_at owner.kept k)) passed all unanswered in
-      let mailed : has_letter (call_letter c k call h) h.mail ≡ true = ap (λ (o : Option Submission). was_sent c k o h) (sym is) ∙ sym (here.is.sent k) ∙ marked in
+      let mailed : has_letter (call_letter c k call h) h.mail ≡ true = ap (λ (o : Option Submission). was_sent c k o h) (sym is) ∙ sym (here.is.sent k)
+      ∙ marked in
       stands.brought (call_letter c k call h) mailed live;
   told = λ a dead named.
       let tells = none_passes (λ (a : ℕ). shows_dead parts.world a && not (is_known_dead owner a)) actors a told (listed a named) in
@@ -97,7 +104,8 @@ done_of casts plans at parts c owner actors next stands refines here next_is act
     same_casts = (world casts plans at stands.play).casts
 
     listed : (a : ℕ) → names c (cast_of a h) ≡ true → contains a actors ≡ true
-    listed a named = ap (contains a) actors_is ∙ named_listed c a casts (ap (λ (l : List ActorSpec). names c (find (λ (cast : ActorSpec). cast.actor == a) l)) (sym same_casts) ∙ named)
+    listed a named = ap (contains a) actors_is
+        ∙ named_listed c a casts (ap (λ (l : List ActorSpec). names c (find (λ (cast : ActorSpec). cast.actor == a) l)) (sym same_casts) ∙ named)
 
     idle_step : (step : Step) → next ≡ Some step → (may_take owner step ≡ false) × (is_left_out parts.world owner step ≡ false)
     idle_step step is = subst (λ (o : Option Step). HasNoStep parts.world owner actors o) is idle

@@ -1,9 +1,8 @@
 -- Whether each caller is through.
 use Rattle.act_plan_plays.proofs.Common.{◌≡◌, ℕ, zero, suc, ◌<◌, Bool, true, false, List, [], ◌∷◌, length, Option, Some, None, All, refl, ap, sym, ◌∙◌, subst}
-use Rattle.act_plan_plays.proofs.Common.{arith, slice_get, is_some, list_all, list_any, slice_get_within}
-use Rattle.act_plan_plays.proofs.Common.{Event, Step, Answer, kept_at, ActorSpec, History, contains, is_caller, calls_of, kept_of, element}
-use Rattle.act_plan_plays.proofs.Common.{Retires, world_retires, OwnerView, CallerSetup, WorldView, IsHere, At, steps_of, world, named_call, named_caller}
-use Rattle.act_plan_plays.proofs.Common.{Parts, IsBehind, Stands, HoldPlans, HasAnswers, IsThrough, AllThrough}
+use Rattle.act_plan_plays.proofs.Common.{arith, slice_get, is_some, list_all, list_any, slice_get_within, Event, Step, Answer, kept_at, ActorSpec, History}
+use Rattle.act_plan_plays.proofs.Common.{contains, is_caller, calls_of, kept_of, element, Retires, world_retires, OwnerView, CallerSetup, WorldView, IsHere, At}
+use Rattle.act_plan_plays.proofs.Common.{steps_of, world, named_call, named_among, Parts, IsBehind, Stands, HoldPlans, HasAnswers, IsThrough, AllThrough}
 use Rattle.act_plan_plays.proofs.Quiet.{part_of}
 use Rattle.act_plan_plays.proofs.Moving.{next_is}
 use Rattle.act_world.proofs.Pending.{kept_long}
@@ -21,7 +20,8 @@ kept_all [] all = refl
 kept_all (None ∷ xs) all = let none : false ≡ true = all 0 (omega arith) in cc
 kept_all (Some x ∷ xs) all = kept_all xs (λ k below. all (suc k) (omega arith))
 
-pub answers_tell : (h : History) (c : ℕ) (owner : OwnerView) → IsHere h c owner → (list_all (λ (o : Option Answer). is_some o) owner.kept ≡ true → HasAnswers c h)
+pub answers_tell : (h : History) (c : ℕ) (owner : OwnerView) → IsHere h c owner
+    → (list_all (λ (o : Option Answer). is_some o) owner.kept ≡ true → HasAnswers c h)
     × (HasAnswers c h → list_all (λ (o : Option Answer). is_some o) owner.kept ≡ true)
 answers_tell h c owner here = (
   (λ e k call at.
@@ -33,15 +33,17 @@ answers_tell h c owner here = (
 )
 
 -- a stranger has no calls
-pub stranger : (casts : List ActorSpec) (h : History) (c : ℕ) (world : WorldView) (events : List Event) → IsBehind casts h world events → is_caller c h ≡ false → HasAnswers c h
+pub stranger : (casts : List ActorSpec) (h : History) (c : ℕ) (world : WorldView) (events : List Event) → IsBehind casts h world events → is_caller c h ≡ false
+    → HasAnswers c h
 stranger casts h c world events behind none k call at =
     let retires : Retires h = subst Retires (sym behind.is) (world_retires casts events) in
-    let bad : true ≡ false = sym (named_caller c call.actor h.casts (named_call h c k call retires.named at)) ∙ none in
+    let bad : true ≡ false = sym (named_among c call.actor h.casts (named_call h c k call retires.named at)) ∙ none in
     cc
 
 -- ---- all callers
 
-pub through_all : (casts : List ActorSpec) (plans : ℕ → List Step) (at : At) (parts : Parts) (setups : List CallerSetup) → Stands casts plans at parts → HoldPlans casts plans setups
+pub through_all : (casts : List ActorSpec) (plans : ℕ → List Step) (at : At) (parts : Parts) (setups : List CallerSetup) → Stands casts plans at parts
+    → HoldPlans casts plans setups
     → All (λ (setup : CallerSetup). IsThrough plans setup.caller at) setups → AllThrough plans at
 through_all casts plans at parts setups stands hold all c = go (list_any (λ (cast : ActorSpec). contains c cast.callers) casts) refl
   where
@@ -54,7 +56,8 @@ through_all casts plans at parts setups stands hold all c = go (list_any (λ (ca
     )
 
 -- a caller with a step left isn't
-pub not_through : (plans : ℕ → List Step) (c n : ℕ) (at : At) (plan : List Step) → plans c ≡ plan → n ≡ steps_of c at → n < length plan → IsThrough plans c at → ⊥
+pub not_through : (plans : ℕ → List Step) (c n : ℕ) (at : At) (plan : List Step) → plans c ≡ plan → n ≡ steps_of c at → n < length plan → IsThrough plans c at
+    → ⊥
 not_through plans c n at plan holds count left through =
     let step = element plan n left in
     let bad : Some step.0 ≡ None = sym (next_is plans c n at plan (Some step.0) holds count step.1) ∙ through.0 in

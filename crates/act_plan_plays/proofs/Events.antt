@@ -8,7 +8,8 @@ use Rattle.act_rules.specs.declared.outcome.Did.TheVariants as did_so
 -- ---- what is told of an event
 
 -- an event that did something was not refused
-pub done_of : (h : History) (event : Event) (told : Did) → Ok told ≡ outcome_of h event → (refusal_of h event ≡ None) × (told ≡ did h event) × (after h event ≡ add_event h event)
+pub done_of : (h : History) (event : Event) (told : Did) → Ok told ≡ outcome_of h event → (refusal_of h event ≡ None) × (told ≡ did h event)
+    × (after h event ≡ add_event h event)
 done_of h event told e = go (refusal_of h event) refl e
   where
     go : (o : Option WorldRefusal) → refusal_of h event ≡ o → Ok told ≡ outcome_by h event o
@@ -28,10 +29,12 @@ refused_of h event refusal e = go (refusal_of h event) refl e
 one_ok : (outcome : Outcome) (events : List Outcome) → is_ok outcome ≡ true → All IsOk events → All IsOk (events ++ outcome ∷ [])
 one_ok (Ok told) events e all =
     let one : IsOk {T = Did} {E = WorldRefusal} (Ok told) = refl in
-    All-append (IsOk {T = Did} {E = WorldRefusal}) events (Ok told ∷ []) all (All-cons (IsOk {T = Did} {E = WorldRefusal}) (Ok told) [] one (All-nil (IsOk {T = Did} {E = WorldRefusal})))
+    All-append (IsOk {T = Did} {E = WorldRefusal}) events (Ok told ∷ []) all
+    (All-cons (IsOk {T = Did} {E = WorldRefusal}) (Ok told) [] one (All-nil (IsOk {T = Did} {E = WorldRefusal})))
 one_ok (Err refusal) events e all = cc
 
-pub behind_more : (casts : List ActorSpec) (h : History) (event : Event) (old new : WorldView) (events : List Event) (outcome : Outcome) → IsBehind casts h old events
+pub behind_more : (casts : List ActorSpec) (h : History) (event : Event) (old new : WorldView) (events : List Event) (outcome : Outcome)
+    → IsBehind casts h old events
     → outcome ≡ outcome_of (history casts events) event → IsReachedBy casts (events ++ event ∷ []) new → is_ok outcome ≡ true
     → IsBehind casts (after h event) new (events ++ event ∷ [])
 behind_more casts h event old new events outcome behind told reached ok = record {
@@ -41,7 +44,8 @@ behind_more casts h event old new events outcome behind told reached ok = record
       (one_ok outcome (outcomes (opening casts) events) ok behind.accepted);
 }
 
-pub behind_same : (casts : List ActorSpec) (h : History) (event : Event) (old new : WorldView) (events : List Event) (outcome : Outcome) → IsBehind casts h old events
+pub behind_same : (casts : List ActorSpec) (h : History) (event : Event) (old new : WorldView) (events : List Event) (outcome : Outcome)
+    → IsBehind casts h old events
     → outcome ≡ outcome_of (history casts events) event → IsReachedBy casts (events ++ event ∷ []) new → is_ok outcome ≡ false
     → IsBehind casts (after h event) new events
 behind_same casts h event old new events (Ok told) behind said reached ok = cc
@@ -56,7 +60,8 @@ behind_same casts h event old new events (Err refusal) behind said reached ok =
 -- ---- a letter that is told
 
 -- a world that stands after an event and the delivery of the letter it tells stands after the event with its letter
-pub post_mail : (casts : List ActorSpec) (h : History) (event : Event) (told : Did) (i : ℕ) (world : WorldView) (events : List Event) → told ≡ did h event → told ≡ did_so.Mail i
+pub post_mail : (casts : List ActorSpec) (h : History) (event : Event) (told : Did) (i : ℕ) (world : WorldView) (events : List Event) → told ≡ did h event
+    → told ≡ did_so.Mail i
     → IsBehind casts (after (add_event h event) (Deliver i)) world events → IsBehind casts (after_post event h) world events
 post_mail casts h event told i world events is mail behind =
     subst (λ (d : Did). IsBehind casts (after_mail d (add_event h event)) world events) (sym mail ∙ is) behind
@@ -65,7 +70,8 @@ post_mail casts h event told i world events is mail behind =
 pub post_none : (casts : List ActorSpec) (h : History) (event : Event) (told : Did) (world : WorldView) (events : List Event) → told ≡ did h event
     → ((i : ℕ) → told ≡ did_so.Mail i → ⊥) → IsBehind casts (add_event h event) world events → IsBehind casts (after_post event h) world events
 post_none casts h event told world events is none behind =
-    subst (λ (g : History). IsBehind casts g world events) (ap (λ (d : Did). after_mail d (add_event h event)) is) (subst (λ (g : History). IsBehind casts g world events) (sym (same told none)) behind)
+    subst (λ (g : History). IsBehind casts g world events) (ap (λ (d : Did). after_mail d (add_event h event)) is)
+    (subst (λ (g : History). IsBehind casts g world events) (sym (same told none)) behind)
   where
     same : (d : Did) → ((i : ℕ) → d ≡ did_so.Mail i → ⊥) → after_mail d (add_event h event) ≡ add_event h event
     same (did_so.Mail i) none = absurd (none i refl)

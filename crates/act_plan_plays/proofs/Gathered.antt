@@ -11,7 +11,8 @@ further : (xs : List ℕ) (i a b : ℕ) → i < length xs → a ≡ get_or xs i 
 further xs i a b within is = ap (contains b) (take_more xs i a within ∙ ap (λ (x : ℕ). take i xs ++ x ∷ []) (sym is)) ∙ contains_push b a (take i xs)
 
 -- where one was made of each number so far that passes, and one of the next, that holds up to the next
-pub made_more : {X : Type 0} (test : ℕ → Bool) (make : ℕ → X) (xs : List ℕ) (i a : ℕ) (made more : List X) → i < length xs → a ≡ get_or xs i a → more ≡ made ++ make a ∷ []
+pub made_more : {X : Type 0} (test : ℕ → Bool) (make : ℕ → X) (xs : List ℕ) (i a : ℕ) (made more : List X) → i < length xs → a ≡ get_or xs i a
+    → more ≡ made ++ make a ∷ []
     → HasMade test make (take i xs) made → HasMade test make (take (i + 1) xs) more
 made_more {X = X} test make xs i a made more within is pushed so_far b there passes =
     subst (λ (l : List X). Contains l (make b)) (sym pushed)
@@ -20,7 +21,8 @@ made_more {X = X} test make xs i a made more within is pushed so_far b there pas
     (λ same. Contains-append_right made (make a ∷ []) (make b) (0, omega arith, ap make (eqb-true a b same))))
 
 -- where one was made of each number so far that passes, and the next fails, that holds up to the next
-pub made_same : {X : Type 0} (test : ℕ → Bool) (make : ℕ → X) (xs : List ℕ) (i a : ℕ) (made more : List X) → i < length xs → a ≡ get_or xs i a → more ≡ made → test a ≡ false
+pub made_same : {X : Type 0} (test : ℕ → Bool) (make : ℕ → X) (xs : List ℕ) (i a : ℕ) (made more : List X) → i < length xs → a ≡ get_or xs i a → more ≡ made
+    → test a ≡ false
     → HasMade test make (take i xs) made → HasMade test make (take (i + 1) xs) more
 made_same {X = X} test make xs i a made more within is same fails so_far b there passes =
     subst (λ (l : List X). Contains l (make b)) (sym same)
@@ -29,7 +31,8 @@ made_same {X = X} test make xs i a made more within is same fails so_far b there
     (λ one. let bad : true ≡ false = sym passes ∙ ap test (sym (eqb-true a b one)) ∙ fails in cc))
 
 -- where one was made of each number so far that passes, and none is left, that holds of the whole list
-pub made_whole : {X : Type 0} (test : ℕ → Bool) (make : ℕ → X) (xs : List ℕ) (n : ℕ) (made : List X) → length xs ≤ n → HasMade test make (take n xs) made → HasMade test make xs made
+pub made_whole : {X : Type 0} (test : ℕ → Bool) (make : ℕ → X) (xs : List ℕ) (n : ℕ) (made : List X) → length xs ≤ n → HasMade test make (take n xs) made
+    → HasMade test make xs made
 made_whole {X = X} test make xs n made whole so_far = subst (λ (l : List ℕ). HasMade test make l made) (take_all n xs whole) so_far
 
 -- a prefix of a list is one of the list with one more item behind it

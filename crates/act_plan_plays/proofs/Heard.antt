@@ -2,10 +2,9 @@
 use Rattle.act_plan_plays.proofs.Common.{◌≡◌, ℕ, true, List, length, Option, Some, None, refl, sym, ◌∙◌, subst, Event, RunItem, Step, ActorSpec, History}
 use Rattle.act_plan_plays.proofs.Common.{next_item, refusal_of, did, did_run, add_event, after_run, WorldView, added_grows, At, with_event, Happens, HasRunMore}
 use Rattle.act_plan_plays.proofs.Common.{HasTakenMore, HaveSameChoices, heard_quiet, choices_same, run_more, Choice, Run, Take, Parts, IsBehind, Stands}
-use Rattle.act_plan_plays.proofs.Common.{HasChosen}
+use Rattle.act_plan_plays.proofs.Common.{HasChosen, world_of, contains_push}
 use Rattle.act_rules.specs.declared.event.Event.TheVariants as event
 use Rattle.act_rules.specs.declared.outcome.Did.TheVariants as did_so
-use Rattle.act_early.proofs.Worlds.{world as world_of, contains_push}
 use Rattle.act_plan_plays.proofs.Brought.{brought_kept}
 use Rattle.act_plan_plays.proofs.Moving.{asked_same}
 
@@ -23,14 +22,17 @@ left_run h a c = go (next_item a c h)
     go (Some item) = record { mail = refl; asked = refl; retired = refl }
 
 -- what is told of a run
-told_run : (h : History) (a c place j : ℕ) → did_so.Ran place j ≡ did h (event.Run a c) → (item : RunItem) × (next_item a c h ≡ Some item) × (j ≡ length h.posts)
+told_run : (h : History) (a c place j : ℕ) → did_so.Ran place j ≡ did h (event.Run a c) → (item : RunItem) × (next_item a c h ≡ Some item)
+    × (j ≡ length h.posts)
 told_run h a c place j e = go (next_item a c h) refl e
   where
-    go : (o : Option RunItem) → next_item a c h ≡ o → did_so.Ran place j ≡ did_run a h o → (item : RunItem) × (next_item a c h ≡ Some item) × (j ≡ length h.posts)
+    go : (o : Option RunItem) → next_item a c h ≡ o → did_so.Ran place j ≡ did_run a h o → (item : RunItem) × (next_item a c h ≡ Some item)
+        × (j ≡ length h.posts)
     go None is e = cc
     go (Some item) is e = (item, is, cc)
 
-pub run_comes : (casts : List ActorSpec) (plans : ℕ → List Step) (a c place j : ℕ) (at : At) (old : Parts) (world : WorldView) (events : List Event) → Stands casts plans at old
+pub run_comes : (casts : List ActorSpec) (plans : ℕ → List Step) (a c place j : ℕ) (at : At) (old : Parts) (world : WorldView) (events : List Event)
+    → Stands casts plans at old
     → refusal_of at.history (event.Run a c) ≡ None → did_so.Ran place j ≡ did at.history (event.Run a c)
     → refusal_of (add_event at.history (event.Run a c)) (event.Collect j) ≡ None
     → IsBehind casts (add_event (add_event at.history (event.Run a c)) (event.Collect j)) world events
@@ -50,10 +52,12 @@ run_comes casts plans a c place j at old world events stands may told collects b
         asked = asked_same h next.history old.asked left.asked stands.asked;
         brought = brought_kept q.history (event.Collect j) collects refl (brought_kept h (event.Run a c) may left.mail stands.brought);
       },
-      subst (λ (i : ℕ). HasRunMore a c true h (with_event (event.Collect i) q).history) (sym told.2) (run_more casts plans a c at told.0 stands.play may told.1),
+      subst (λ (i : ℕ). HasRunMore a c true h (with_event (event.Collect i) q).history) (sym told.2)
+          (run_more casts plans a c at told.0 stands.play may told.1),
     )
 
-pub kill_comes : (casts : List ActorSpec) (plans : ℕ → List Step) (a : ℕ) (at : At) (old : Parts) (world : WorldView) (events : List Event) → Stands casts plans at old
+pub kill_comes : (casts : List ActorSpec) (plans : ℕ → List Step) (a : ℕ) (at : At) (old : Parts) (world : WorldView) (events : List Event)
+    → Stands casts plans at old
     → refusal_of at.history (event.TakeKill a) ≡ None → IsBehind casts (add_event at.history (event.TakeKill a)) world events
     → (next : At) × Stands casts plans next (record old { world = world; events = events }) × HasTakenMore a at.history next.history
 kill_comes casts plans a at old world events stands may behind =
@@ -70,7 +74,8 @@ kill_comes casts plans a at old world events stands may behind =
         brought = brought_kept h (event.TakeKill a) may refl stands.brought;
       },
       (
-        (λ b. choices_same h next.history b refl (λ place item there. heard_quiet h next.history b place item (added_grows h (event.TakeKill a)) sound refl there)),
+        (λ b. choices_same h next.history b refl (λ place item there. heard_quiet h next.history b place item
+            (added_grows h (event.TakeKill a)) sound refl there)),
         λ b. contains_push b a h.killed,
       ),
     )

@@ -5,7 +5,8 @@ use Rattle.act_plan_plays.proofs.Common.{eq-eqb, cases_lt, take_more, take_all, 
 use Rattle.act_plan_plays.proofs.Common.{contains_more, contains_push, or_second}
 
 -- none so far is found
-pub none_more : {X : Type 0} (p : X → Bool) (xs : List X) (i : ℕ) (x : X) → i < length xs → x ≡ get_or xs i x → p x ≡ false → find p (take i xs) ≡ None → find p (take (i + 1) xs) ≡ None
+pub none_more : {X : Type 0} (p : X → Bool) (xs : List X) (i : ℕ) (x : X) → i < length xs → x ≡ get_or xs i x → p x ≡ false → find p (take i xs) ≡ None
+    → find p (take (i + 1) xs) ≡ None
 none_more {X = X} p xs i x within is fails none =
     ap (find p) (take_more xs i x within ∙ ap (λ (y : X). take i xs ++ y ∷ []) (sym is)) ∙ find-append p (take i xs) (x ∷ [])
     ∙ ap (λ (o : Option X). option_or o (find p (x ∷ []))) none ∙ last (p x) fails
@@ -40,7 +41,8 @@ in_range (suc n) k below = ap (contains k) (range_push 0 n) ∙ go (cases_lt k n
         contains_push k (0 + n) (range_with_len 0 n) ∙ or_second (contains k (range_with_len 0 n)) ((0 + n) == k) (eq-eqb (0 + n) k same)
 
 -- each so far
-pub each_more : {X : Type 0} (P : X → Type 0) (xs : List X) (i : ℕ) (x : X) → i < length xs → x ≡ get_or xs i x → P x → All P (take i xs) → All P (take (i + 1) xs)
+pub each_more : {X : Type 0} (P : X → Type 0) (xs : List X) (i : ℕ) (x : X) → i < length xs → x ≡ get_or xs i x → P x → All P (take i xs)
+    → All P (take (i + 1) xs)
 each_more {X = X} P xs i x within is holds front =
     subst (All P) (sym (take_more xs i x within)) (All-push P (take i xs) (get_or xs i x) front (subst P is holds))
 

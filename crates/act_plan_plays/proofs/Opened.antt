@@ -9,11 +9,15 @@ zeros zero c below = absurd (omega arith)
 zeros (suc n) zero below = refl
 zeros (suc n) (suc c) below = zeros n c (omega arith)
 
-pub opens : (casts : List ActorSpec) (plans : ℕ → List Step) (world : WorldView) (events : List Event) (asked : List ℕ) → IsReachedBy casts [] world → events ≡ [] → asked ≡ []
-    → (at : At) × Stands casts plans at (record { world = world; events = events; done = replicate 17 0; asked = asked }) × ((a : ℕ) → runs_of a at.history ≡ []) × (at.history.killed ≡ [])
+pub opens : (casts : List ActorSpec) (plans : ℕ → List Step) (world : WorldView) (events : List Event) (asked : List ℕ) → IsReachedBy casts [] world
+    → events ≡ [] → asked ≡ []
+    → (at : At) × Stands casts plans at (record { world = world; events = events; done = replicate 17 0; asked = asked })
+    × ((a : ℕ) → runs_of a at.history ≡ []) × (at.history.killed ≡ [])
 opens casts plans world events asked reached none nobody =
-    subst (λ (l : List Event). (at : At) × Stands casts plans at (record { world = world; events = l; done = replicate 17 0; asked = asked }) × ((a : ℕ) → runs_of a at.history ≡ []) × (at.history.killed ≡ [])) (sym none)
-    (subst (λ (l : List ℕ). (at : At) × Stands casts plans at (record { world = world; events = []; done = replicate 17 0; asked = l }) × ((a : ℕ) → runs_of a at.history ≡ []) × (at.history.killed ≡ [])) (sym nobody) (
+    subst (λ (l : List Event). (at : At) × Stands casts plans at (record { world = world; events = l; done = replicate 17 0; asked = asked })
+    × ((a : ℕ) → runs_of a at.history ≡ []) × (at.history.killed ≡ [])) (sym none)
+    (subst (λ (l : List ℕ). (at : At) × Stands casts plans at (record { world = world; events = []; done = replicate 17 0; asked = l })
+    × ((a : ℕ) → runs_of a at.history ≡ []) × (at.history.killed ≡ [])) (sym nobody) (
       opened casts,
       record {
         play = Opens;
@@ -33,7 +37,8 @@ abbrev pub parts_in : PlanPlayView → Parts
 parts_in seen = record { world = seen.world; events = seen.events; done = seen.done; asked = seen.asked }
 
 -- where a play stands, so do its parts
-pub stands_in : (casts : List ActorSpec) (plans : ℕ → List Step) (at : At) (seen : PlanPlayView) → StandsAt casts plans at seen → Stands casts plans at (parts_in seen)
+pub stands_in : (casts : List ActorSpec) (plans : ℕ → List Step) (at : At) (seen : PlanPlayView) → StandsAt casts plans at seen
+    → Stands casts plans at (parts_in seen)
 stands_in casts plans at seen s = record {
   play = s.play;
   live = s.live;
@@ -44,7 +49,8 @@ stands_in casts plans at seen s = record {
 }
 
 -- a play stands where its parts stand and its setups hold the plans
-pub stands_at : (casts : List ActorSpec) (plans : ℕ → List Step) (at : At) (seen : PlanPlayView) → Stands casts plans at (parts_in seen) → HoldPlans casts plans seen.setups → StandsAt casts plans at seen
+pub stands_at : (casts : List ActorSpec) (plans : ℕ → List Step) (at : At) (seen : PlanPlayView) → Stands casts plans at (parts_in seen)
+    → HoldPlans casts plans seen.setups → StandsAt casts plans at seen
 stands_at casts plans at seen s hold = record {
   play = s.play;
   live = s.live;

@@ -14,7 +14,8 @@ among P (x ∷ xs) c all there = go (x == c) refl (among P xs c (λ k d below. a
     go true same rest there = subst P (eqb-true x c same) (all 0 0 (omega arith))
     go false other rest there = rest there
 
-numbered : {K : Type 0} (c : ℕ) (casts : List (Cast K)) → All HasNumbers casts → list_any (λ (cast : Cast K). contains c cast.callers) casts ≡ true → Contains (one_to 16) c
+numbered : {K : Type 0} (c : ℕ) (casts : List (Cast K)) → All HasNumbers casts → list_any (λ (cast : Cast K). contains c cast.callers) casts ≡ true
+    → Contains (one_to 16) c
 numbered c [] all named = cc
 numbered {K = K} c (cast ∷ casts) all named = go (contains c cast.callers) refl (numbered c casts (λ k d below. all (suc k) d (omega arith))) named
   where
@@ -38,7 +39,8 @@ kept p (x ∷ xs) c (suc i, below, is) passes = further (p x) (kept p xs c (i, o
 
 -- ---- whoever is no caller has no plan
 
-no_plan : {K : Type 0} (c : ℕ) (casts : List (Cast K)) (plans : List (ℕ × Vec Step)) → All (λ (plan : ℕ × Vec Step). list_any (λ (cast : Cast K). contains plan.0 cast.callers) casts ≡ true) plans
+no_plan : {K : Type 0} (c : ℕ) (casts : List (Cast K)) (plans : List (ℕ × Vec Step))
+    → All (λ (plan : ℕ × Vec Step). list_any (λ (cast : Cast K). contains plan.0 cast.callers) casts ≡ true) plans
     → list_any (λ (cast : Cast K). contains c cast.callers) casts ≡ false → plan_in c plans ≡ []
 no_plan c casts [] all none = refl
 no_plan {K = K} c casts (plan ∷ plans) all none = go (plan.0 == c) refl (no_plan c casts plans (λ k d below. all (suc k) d (omega arith)) none)
@@ -47,19 +49,23 @@ no_plan {K = K} c casts (plan ∷ plans) all none = go (plan.0 == c) refl (no_pl
     go false other rest = rest
     go true same rest =
         let named : list_any (λ (cast : Cast K). contains plan.0 cast.callers) casts ≡ true = all 0 plan (omega arith) in
-        let bad : true ≡ false = sym (subst (λ (x : ℕ). list_any (λ (cast : Cast K). contains x cast.callers) casts ≡ true) (eqb-true plan.0 c same) named) ∙ none in
+        let bad : true ≡ false = sym (subst (λ (x : ℕ). list_any (λ (cast : Cast K). contains x cast.callers) casts ≡ true) (eqb-true plan.0 c same) named)
+        ∙ none in
         cc
 
 -- ---- all of it
 
-pub prepared_hold : {K : Type 0} (state : K → KindState) (casts : List (Cast K)) (plans : List (ℕ × Vec Step)) (setups : List CallerSetup) → PlansFit casts plans → All HasNumbers casts
+pub prepared_hold : {K : Type 0} (state : K → KindState) (casts : List (Cast K)) (plans : List (ℕ × Vec Step)) (setups : List CallerSetup)
+    → PlansFit casts plans → All HasNumbers casts
     → map setup_view setups ≡ map (setup_of casts plans) (callers_named_by casts) → HoldPlans (map (actor_spec state) casts) (plans_given plans) setups
 prepared_hold {K = K} state casts plans setups fit numbers is = record {
   parts = λ k d below. record { plan = sym (plans_are state casts plans setups is k d below); actors = actors_are state casts plans setups is k d below };
   named = λ c named. subst (λ (l : List ℕ). Contains l c) (sym (setups_view state casts plans setups is))
-      (kept (λ c. list_any (λ (cast : ActorSpec). contains c cast.callers) (map (actor_spec state) casts)) (one_to 16) c (numbered c casts numbers (sym (same c) ∙ named)) named);
+      (kept (λ c. list_any (λ (cast : ActorSpec). contains c cast.callers) (map (actor_spec state) casts)) (one_to 16) c
+      (numbered c casts numbers (sym (same c) ∙ named)) named);
   others = λ c none. plan_of_view c plans ∙ no_plan c casts plans fit.named (sym (same c) ∙ none);
 }
   where
-    same : (c : ℕ) → list_any (λ (cast : ActorSpec). contains c cast.callers) (map (actor_spec state) casts) ≡ list_any (λ (cast : Cast K). contains c cast.callers) casts
+    same : (c : ℕ) → list_any (λ (cast : ActorSpec). contains c cast.callers) (map (actor_spec state) casts) ≡ list_any
+        (λ (cast : Cast K). contains c cast.callers) casts
     same c = list_any-map (λ (cast : ActorSpec). contains c cast.callers) (actor_spec state) casts

@@ -5,7 +5,8 @@ use Rattle.act_plan_plays.proofs.Common.{contains, cast_of, runs_of, is_dead, is
 use Rattle.act_plan_plays.proofs.Common.{Ended, Vacant, WorldView, stage_of_slot, is_live_slot, Refines, IsStage, At, with_event, Happens, contains_push}
 use Rattle.act_plan_plays.proofs.Common.{or_second, Parts, IsBehind, Stands, shows_live, AllOver, GoesOnRetired, IsRetiredFrom, or_left}
 
-pub begins : (casts : List ActorSpec) (plans : ℕ → List Step) (at : At) (parts : Parts) → Stands casts plans at parts → IsRetiredFrom casts plans at at parts.world parts.events
+pub begins : (casts : List ActorSpec) (plans : ℕ → List Step) (at : At) (parts : Parts) → Stands casts plans at parts
+    → IsRetiredFrom casts plans at at parts.world parts.events
 begins casts plans at parts s = record {
   play = s.play;
   same = refl;
@@ -15,17 +16,20 @@ begins casts plans at parts s = record {
   accepted = s.behind.accepted;
 }
 
-pub behind_of : (casts : List ActorSpec) (plans : ℕ → List Step) (at end : At) (world : WorldView) (events : List Event) → IsRetiredFrom casts plans at end world events
+pub behind_of : (casts : List ActorSpec) (plans : ℕ → List Step) (at end : At) (world : WorldView) (events : List Event)
+    → IsRetiredFrom casts plans at end world events
     → IsBehind casts end.history world events
 behind_of casts plans at end world events r = record { is = r.history; reached = r.reached; accepted = r.accepted }
 
-cast_same : (casts : List ActorSpec) (plans : ℕ → List Step) (at end : At) (world : WorldView) (events : List Event) (a : ℕ) → IsRetiredFrom casts plans at end world events
+cast_same : (casts : List ActorSpec) (plans : ℕ → List Step) (at end : At) (world : WorldView) (events : List Event) (a : ℕ)
+    → IsRetiredFrom casts plans at end world events
     → cast_of a end.history ≡ cast_of a at.history
 cast_same casts plans at end world events a r = ap (cast_of a) r.same
 
 -- ---- one actor
 
-pub retired_more : (casts : List ActorSpec) (plans : ℕ → List Step) (at end : At) (a n : ℕ) (old new : WorldView) (events more : List Event) → IsRetiredFrom casts plans at end old events → a ≡ n
+pub retired_more : (casts : List ActorSpec) (plans : ℕ → List Step) (at end : At) (a n : ℕ) (old new : WorldView) (events more : List Event)
+    → IsRetiredFrom casts plans at end old events → a ≡ n
     → refusal_of end.history (Retire a) ≡ None → IsBehind casts (add_event end.history (Retire a)) new more → GoesOnRetired casts plans at end n new more
 retired_more casts plans at end a n old new events more r same may behind = subst (λ (m : ℕ). GoesOnRetired casts plans at end m new more) same (record {
   next = with_event (Retire a) end;
@@ -42,21 +46,24 @@ retired_more casts plans at end a n old new events more r same may behind = subs
   stays = λ b ended. (ended_stays b (runs_of b end.history) end.history (Retire a) (record { ended = ended; same = refl }) may).ended;
 })
 
-over_slot : (h : History) (a : ℕ) (o : Option SlotView) → IsStage h a o → is_some (cast_of a h) ≡ true → option_map_or is_live_slot (stage_of_slot o) false ≡ false → is_ended a h ≡ true
+over_slot : (h : History) (a : ℕ) (o : Option SlotView) → IsStage h a o → is_some (cast_of a h) ≡ true
+    → option_map_or is_live_slot (stage_of_slot o) false ≡ false → is_ended a h ≡ true
 over_slot h a None is some e = let bad : true ≡ false = sym some ∙ ap (λ (o : Option ActorSpec). is_some o) is in cc
 over_slot h a (Some Vacant) is some e = let bad : true ≡ false = sym some ∙ ap (λ (o : Option ActorSpec). is_some o) is in cc
 over_slot h a (Some (Runs one)) is some e = cc
 over_slot h a (Some (Died dead)) is some e = or_left (is_dead a h) (is_retired a h) is.died
 over_slot h a (Some (Ended retired)) is some e = or_second (is_dead a h) (is_retired a h) is.ended
 
-pub retired_before : (casts : List ActorSpec) (plans : ℕ → List Step) (at end : At) (a n : ℕ) (world : WorldView) (events : List Event) → IsRetiredFrom casts plans at end world events → a ≡ n
+pub retired_before : (casts : List ActorSpec) (plans : ℕ → List Step) (at end : At) (a n : ℕ) (world : WorldView) (events : List Event)
+    → IsRetiredFrom casts plans at end world events → a ≡ n
     → shows_live world a ≡ false → GoesOnRetired casts plans at end n world events
 retired_before casts plans at end a n world events r same shown = subst (λ (m : ℕ). GoesOnRetired casts plans at end m world events) same (record {
   next = end;
   is = r;
   over = λ some.
       let refines : Refines end.history world = subst (λ (h : History). Refines h world) (sym r.history) r.reached in
-      over_slot end.history a (slice_get world.slots a) (refines.actors a) (ap (λ (o : Option ActorSpec). is_some o) (cast_same casts plans at end world events a r) ∙ some) shown;
+      over_slot end.history a (slice_get world.slots a) (refines.actors a)
+      (ap (λ (o : Option ActorSpec). is_some o) (cast_same casts plans at end world events a r) ∙ some) shown;
   stays = λ b ended. ended;
 })
 
@@ -66,7 +73,8 @@ retired_before casts plans at end a n world events r same shown = subst (λ (m :
 abbrev pub AreOver : History → History → ℕ → Type 0
 AreOver h g n = (a : ℕ) → 1 ≤ a → a ≤ n → is_some (cast_of a h) ≡ true → is_ended a g ≡ true
 
-pub over_more : (casts : List ActorSpec) (plans : ℕ → List Step) (at end : At) (n : ℕ) (world : WorldView) (events : List Event) → AreOver at.history end.history n
+pub over_more : (casts : List ActorSpec) (plans : ℕ → List Step) (at end : At) (n : ℕ) (world : WorldView) (events : List Event)
+    → AreOver at.history end.history n
     → (goes : GoesOnRetired casts plans at end (n + 1) world events) → AreOver at.history goes.next.history (n + 1)
 over_more casts plans at end n world events over goes a from upto some = go (leb a n) refl
   where
@@ -77,7 +85,8 @@ over_more casts plans at end n world events over goes a from upto some = go (leb
         let is : n + 1 ≡ a = omega arith in
         subst (λ (m : ℕ). is_some (cast_of m at.history) ≡ true → is_ended m goes.next.history ≡ true) is goes.over some
 
-pub over_all : (casts : List ActorSpec) (plans : ℕ → List Step) (at end : At) (n : ℕ) (world : WorldView) (events : List Event) → IsRetiredFrom casts plans at end world events → 8 ≤ n
+pub over_all : (casts : List ActorSpec) (plans : ℕ → List Step) (at end : At) (n : ℕ) (world : WorldView) (events : List Event)
+    → IsRetiredFrom casts plans at end world events → 8 ≤ n
     → AreOver at.history end.history n → AllOver end.history
 over_all casts plans at end n world events r enough over a from upto some =
     over a from (omega arith) (sym (ap (λ (o : Option ActorSpec). is_some o) (cast_same casts plans at end world events a r)) ∙ some)

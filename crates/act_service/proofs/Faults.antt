@@ -28,11 +28,13 @@ without_plans casts plans (run.NoMemory) none is = tt
 
 module _ {C E : Type 0} (tells : C → SessionView → SessionView → Type 0) (before later : Known C) (here : List ActorSpec) where
   -- memory was refused
-  pub want_of_memory : (left : List ActorSpec) → LeadsOn tells before later here left → (f : EpochFault E) → f ≡ Run (run.NoMemory) → IsFaultAt tells before later here f
+  pub want_of_memory : (left : List ActorSpec) → LeadsOn tells before later here left → (f : EpochFault E) → f ≡ Run (run.NoMemory)
+      → IsFaultAt tells before later here f
   want_of_memory left leads f is = subst (λ (g : EpochFault E). IsFaultAt tells before later here g) (sym is) (tt, (left, leads))
 
   -- a run failed
-  pub of_run : (left : List ActorSpec) → LeadsOn tells before later here left → (e : RunFault) → IsThreadFault e → (f : EpochFault E) → f ≡ Run e → IsFaultAt tells before later here f
+  pub of_run : (left : List ActorSpec) → LeadsOn tells before later here left → (e : RunFault) → IsThreadFault e → (f : EpochFault E) → f ≡ Run e
+      → IsFaultAt tells before later here f
   of_run left leads e thread f is = subst (λ (g : EpochFault E). IsFaultAt tells before later here g) (sym is) (thread, (left, leads))
 
   -- the service failed
@@ -40,17 +42,21 @@ module _ {C E : Type 0} (tells : C → SessionView → SessionView → Type 0) (
   of_service (Service fault) is = tt
   of_service f is = absurd is
 
-module _ {K C E : Type 0} (state : K → KindState) (tells : C → SessionView → SessionView → Type 0) (gave : Given C) (knows : Known C) (casts : List ActorSpec) where
+module _ {K C E : Type 0} (state : K → KindState) (tells : C → SessionView → SessionView → Type 0) (gave : Given C) (knows : Known C)
+    (casts : List ActorSpec) where
   -- a fault of an epoch
-  pub of_epoch : (before : Known C) (here : List ActorSpec) → HaveLed tells before casts here → (f : EpochFault E) → IsFaultAt tells before (IsUnderWay knows gave) here f →
+  pub of_epoch : (before : Known C) (here : List ActorSpec) → HaveLed tells before casts here → (f : EpochFault E)
+      → IsFaultAt tells before (IsUnderWay knows gave) here f →
       IsEpochFault state tells gave knows casts f
   of_epoch before here led (Run fault) is = (is.0, (is.1.0, is.1.1 casts led))
   of_epoch before here led (Service fault) is = tt
   of_epoch before here led (BadCodes) is = absurd is
 
   -- codes that don't fit
-  pub of_codes : (before : Known C) (here : List (Cast K)) → HaveLed tells before casts (map (actor_spec state) here) → (f : EpochFault E) → IsFaultOfCodes state before gave here f →
+  pub of_codes : (before : Known C) (here : List (Cast K)) → HaveLed tells before casts (map (actor_spec state) here) → (f : EpochFault E)
+      → IsFaultOfCodes state before gave here f →
       IsEpochFault state tells gave knows casts f
   of_codes before here led (Run fault) is = absurd is
   of_codes before here led (Service fault) is = tt
-  of_codes before here led (BadCodes) is = record { left = here; codes = is.0; led = carried tells before (gave (Some is.0)) (map (actor_spec state) here) is.1 casts led; unfit = is.2 }
+  of_codes before here led (BadCodes) is = record
+      { left = here; codes = is.0; led = carried tells before (gave (Some is.0)) (map (actor_spec state) here) is.1 casts led; unfit = is.2 }

@@ -32,9 +32,11 @@ module _ (casts : List ActorSpec) where
           let gone : None ≡ Some cast = sym (ap (option_map (λ (one : ActorSpec). record one { opening = retired.state })) none) ∙ is in
           cc
       go (Some one) found =
-          let same : Some (record one { opening = retired.state }) ≡ Some cast = sym (ap (option_map (λ (spec : ActorSpec). record spec { opening = retired.state })) found) ∙ is in
+          let same : Some (record one { opening = retired.state }) ≡ Some cast =
+          sym (ap (option_map (λ (spec : ActorSpec). record spec { opening = retired.state })) found) ∙ is in
           let cast_is : record one { opening = retired.state } ≡ cast = cc in
-          sym (ap (λ (spec : ActorSpec). spec.actor) cast_is) ∙ eqb-true one.actor retired.id (found_passes (λ (spec : ActorSpec). spec.actor == retired.id) casts one found)
+          sym (ap (λ (spec : ActorSpec). spec.actor) cast_is)
+          ∙ eqb-true one.actor retired.id (found_passes (λ (spec : ActorSpec). spec.actor == retired.id) casts one found)
   named end cast is = cc
 
   -- and is as sound as the casts
@@ -46,7 +48,8 @@ module _ (casts : List ActorSpec) where
           let gone : None ≡ Some cast = sym (ap (option_map (λ (one : ActorSpec). record one { opening = retired.state })) none) ∙ is in
           absurd (cc)
       go (Some one) found =
-          let same : Some (record one { opening = retired.state }) ≡ Some cast = sym (ap (option_map (λ (spec : ActorSpec). record spec { opening = retired.state })) found) ∙ is in
+          let same : Some (record one { opening = retired.state }) ≡ Some cast =
+          sym (ap (option_map (λ (spec : ActorSpec). record spec { opening = retired.state })) found) ∙ is in
           let cast_is : record one { opening = retired.state } ≡ cast = cc in
           subst IsSound cast_is (found_all IsSound (λ (spec : ActorSpec). spec.actor == retired.id) casts one all found)
   sound all end cast is = absurd (cc)
@@ -55,13 +58,16 @@ module _ (casts : List ActorSpec) where
   all_sound all [] = All-nil IsSound
   all_sound all (end ∷ ends) = go (cast_of_end casts end) refl (all_sound all ends)
     where
-      go : (o : Option ActorSpec) → cast_of_end casts end ≡ o → All IsSound (filter_map (cast_of_end casts) ends) → All IsSound (cons_option o (filter_map (cast_of_end casts) ends))
+      go : (o : Option ActorSpec) → cast_of_end casts end ≡ o → All IsSound (filter_map (cast_of_end casts) ends)
+          → All IsSound (cons_option o (filter_map (cast_of_end casts) ends))
       go None is rest = rest
       go (Some cast) is rest = All-cons IsSound cast (filter_map (cast_of_end casts) ends) (sound all end cast is) rest
 
-  none_named : (a : ℕ) (ends : List EndView) → All (λ other. a ≢ other) (map end_id ends) → All (λ (cast : ActorSpec). a ≢ cast.actor) (filter_map (cast_of_end casts) ends)
+  none_named : (a : ℕ) (ends : List EndView) → All (λ other. a ≢ other) (map end_id ends)
+      → All (λ (cast : ActorSpec). a ≢ cast.actor) (filter_map (cast_of_end casts) ends)
   none_named a [] apart = All-nil (λ (cast : ActorSpec). a ≢ cast.actor)
-  none_named a (end ∷ ends) apart = go (cast_of_end casts end) refl (none_named a ends (all_there (λ (other : ℕ). a ≢ other) (end_id end) (map end_id ends) apart))
+  none_named a (end ∷ ends) apart = go (cast_of_end casts end) refl
+      (none_named a ends (all_there (λ (other : ℕ). a ≢ other) (end_id end) (map end_id ends) apart))
     where
       go : (o : Option ActorSpec) → cast_of_end casts end ≡ o → All (λ (cast : ActorSpec). a ≢ cast.actor) (filter_map (cast_of_end casts) ends) →
           All (λ (cast : ActorSpec). a ≢ cast.actor) (cons_option o (filter_map (cast_of_end casts) ends))
@@ -69,11 +75,13 @@ module _ (casts : List ActorSpec) where
       go (Some cast) is rest = All-cons (λ (cast : ActorSpec). a ≢ cast.actor) cast (filter_map (cast_of_end casts) ends)
           (λ same. all_here (λ (other : ℕ). a ≢ other) (end_id end) (map end_id ends) apart (same ∙ named end cast is)) rest
 
-  apart_left : (ends : List EndView) → AllPairs (λ one other. one ≢ other) (map end_id ends) → AllPairs (λ (one other : ActorSpec). one.actor ≢ other.actor) (filter_map (cast_of_end casts) ends)
+  apart_left : (ends : List EndView) → AllPairs (λ one other. one ≢ other) (map end_id ends)
+      → AllPairs (λ (one other : ActorSpec). one.actor ≢ other.actor) (filter_map (cast_of_end casts) ends)
   apart_left [] apart = λ i j d before below. absurd (omega arith)
   apart_left (end ∷ ends) apart = go (cast_of_end casts end) refl (apart_left ends (tail_apart (end_id end) (map end_id ends) apart))
     where
-      go : (o : Option ActorSpec) → cast_of_end casts end ≡ o → AllPairs (λ (one other : ActorSpec). one.actor ≢ other.actor) (filter_map (cast_of_end casts) ends) →
+      go : (o : Option ActorSpec) → cast_of_end casts end ≡ o
+          → AllPairs (λ (one other : ActorSpec). one.actor ≢ other.actor) (filter_map (cast_of_end casts) ends) →
           AllPairs (λ (one other : ActorSpec). one.actor ≢ other.actor) (cons_option o (filter_map (cast_of_end casts) ends))
       go None is rest = rest
       go (Some cast) is rest = AllPairs-cons (λ (one other : ActorSpec). one.actor ≢ other.actor) cast (filter_map (cast_of_end casts) ends)
@@ -91,7 +99,8 @@ module _ {K : Type 0} (state : K → KindState) where
   pub sound_casts : (casts : List (Cast K)) → IsFitting casts → All IsSound (map (actor_spec state) casts)
   sound_casts casts fit = All-map IsSound (actor_spec state) casts (λ k d lt. (fit.callers k d lt, fit.limits k d lt))
 
-  pub fitting : (casts : List (Cast K)) → AllPairs (λ (one other : ActorSpec). one.actor ≢ other.actor) (map (actor_spec state) casts) → All IsSound (map (actor_spec state) casts) → IsFitting casts
+  pub fitting : (casts : List (Cast K)) → AllPairs (λ (one other : ActorSpec). one.actor ≢ other.actor) (map (actor_spec state) casts)
+      → All IsSound (map (actor_spec state) casts) → IsFitting casts
   fitting casts apart all =
       let each = all_of_map IsSound (actor_spec state) casts all in record {
         actors = λ i j d before below same. apart i j (actor_spec state d) before (omega (arith, length-map casts (actor_spec state)))
@@ -106,5 +115,6 @@ module _ {K : Type 0} (state : K → KindState) where
   left_fits casts left ends fit are is =
       let specs = map (actor_spec state) casts in
       fitting left
-      (subst (λ (l : List ActorSpec). AllPairs (λ (one other : ActorSpec). one.actor ≢ other.actor) l) (sym is) (apart_left specs ends (rising_apart specs (map end_id ends) are)))
+      (subst (λ (l : List ActorSpec). AllPairs (λ (one other : ActorSpec). one.actor ≢ other.actor) l) (sym is)
+      (apart_left specs ends (rising_apart specs (map end_id ends) are)))
       (subst (λ (l : List ActorSpec). All IsSound l) (sym is) (all_sound specs (sound_casts casts fit) ends))

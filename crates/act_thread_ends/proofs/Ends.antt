@@ -1,41 +1,31 @@
 -- What a run in threads leaves is the end of a play that a whole search saw.
-use Rattle.std.proofs.Common.{◌≡◌, ℕ, ◌<◌, ◌==◌, ◌||◌, ◌++◌, Bool, true, false, List, [], length, map, slice_get, Option, Some, None, refl, ap, sym, ◌∙◌, subst, Contains}
-use Rattle.std.specs.Prelude.{find, is_some}
+use Rattle.act_thread_ends.proofs.Common.{◌≡◌, ℕ, ◌<◌, ◌==◌, ◌||◌, ◌++◌, Bool, true, false, List, [], length, map, slice_get, Option, Some, None, refl, ap, sym}
+use Rattle.act_thread_ends.proofs.Common.{◌∙◌, subst, Contains, find, is_some, All-weaker, Event, Step, Release, kept_at, ActorSpec, History, opening, names}
+use Rattle.act_thread_ends.proofs.Common.{cast_of, calls_of, kept_of, runs_of, is_dead, is_retired, is_ended, held_submission, DoesStepsBy, KeepsToPlans}
+use Rattle.act_thread_ends.proofs.Common.{OwnerView, EndView, Killed, Retired, Starved, end_id, plan_of, IsJoined, calls_of_owner, kept_of_owner, log_of_end}
+use Rattle.act_thread_ends.proofs.Common.{calls_in, kept_in, log_in, DoesPlanIn, IsPlayOfPlans, IsPlayedAsPlanned, all_in, AreOfARun, CanEnd, CanBeEndIn}
+use Rattle.act_thread_ends.proofs.Common.{EndsAsThreads}
 use Rattle.std.proofs.lemmas.Option.{slice_get_within}
-use Rattle.std.proofs.lemmas.List.Elements.{All-weaker}
-use Rattle.act_rules.specs.declared.event.Event.{Event}
 use Rattle.act_rules.specs.declared.history.RunItem.{RunItem}
 use Rattle.act_rules.specs.declared.history.Submission.{Submission}
-use Rattle.act_rules.specs.declared.script.Step.{Step}
-use Rattle.act_rules.specs.declared.script.Step.TheVariants.{Release}
 use Rattle.act_rules.specs.RunList.{Answer}
-use Rattle.act_rules.specs.Submissions.{kept_at}
-use Rattle.act_rules.specs.History.{ActorSpec, History, opening, names, cast_of, calls_of, kept_of, runs_of, is_dead, is_retired, is_ended}
 use Rattle.act_rules.specs.Laws.{history}
 use Rattle.act_rules.proofs.RanAll.{world_retires, named_call}
 use Rattle.act_rules.proofs.Sound.{world_sound}
-use Rattle.act_rules.proofs.Unique.{held_submission}
 use Rattle.act_early.specs.Plays.{At}
 use Rattle.act_early.specs.Early.{is_reply, is_heard, IsWholeSearch, IsOver, LosesOnly, EndsAlike}
-use Rattle.act_early.specs.Lists.{DoesStepsBy, KeepsToPlans}
 use Rattle.act_early.proofs.Found.{found}
-use Rattle.act_early.proofs.Listed.{named_caller}
+use Rattle.act_rules.proofs.Callers.{named_among}
 use Rattle.act_early.proofs.Replies.{reply_died}
 use Rattle.act_early.proofs.Worlds.{world, or_second}
 use Rattle.act_early.proofs.Choosing.{cast_known}
-use Rattle.act_owner.specs.Owner.{OwnerView}
-use Rattle.act_serve.specs.Served.{EndView, Killed, Retired, Starved, end_id}
-use Rattle.act_plans.specs.Runs.{plan_of}
-use Rattle.act_executor.specs.Joined.{IsJoined, calls_of_owner, kept_of_owner, log_of_end, calls_in, kept_in, log_in}
 use Rattle.act_executor.specs.Plays.{IsOwnerIn, HasEndedIn, IsEndIn}
-use Rattle.act_executor.specs.PlanPlays.{DoesPlanIn, IsPlayOfPlans, IsPlayedAsPlanned}
 use Rattle.act_executor.proofs.PlaysOfThreads.AsPlay.{casts_stay}
-use Rattle.act_rules.proofs.Elements.{all_in}
-use Rattle.act_thread_ends.specs.ThreadEnds.{AreOfARun, CanEnd, CanBeEndIn, EndsAsThreads}
 use Rattle.act_thread_ends.proofs.Plans.{steps_by, is_named, strangers, no_plan}
 use Rattle.act_thread_ends.proofs.Left.{owner_left, IsEndLeft, end_left}
 
-module _ (casts : List ActorSpec) (plans : List (ℕ × List Step)) (owners : List OwnerView) (ends : List EndView) (of : AreOfARun casts plans) (joined : IsJoined casts plans owners ends)
+module _ (casts : List ActorSpec) (plans : List (ℕ × List Step)) (owners : List OwnerView) (ends : List EndView) (of : AreOfARun casts plans)
+    (joined : IsJoined casts plans owners ends)
     (events : List Event) (played : IsPlayOfPlans casts plans events owners ends) where
   abbrev h : History
   h = history casts events
@@ -52,18 +42,20 @@ module _ (casts : List ActorSpec) (plans : List (ℕ × List Step)) (owners : Li
 
   answered : (c k : ℕ) (call : Submission) → slice_get (calls_of c h) k ≡ Some call → IsAnswered c k
   answered c k call at =
-      let named = named_caller c call.actor h.casts (named_call h c k call (world_retires casts events).named at) in
+      let named = named_among c call.actor h.casts (named_call h c k call (world_retires casts events).named at) in
       let left = owner_left casts plans owners of joined.callers c (subst (λ (l : List ActorSpec). is_named l c ≡ true) casts_are named) in
       let here = all_in (IsOwnerIn h) owners left.owner played.play.callers left.inside in
       let calls : left.owner.calls ≡ calls_of c h = here.calls ∙ ap (λ (n : ℕ). calls_of n h) left.id in
-      let below : k < length left.owner.calls = slice_get_within left.owner.calls k call (subst (λ (l : List Submission). slice_get l k ≡ Some call) (sym calls) at) in
+      let below : k < length left.owner.calls =
+      slice_get_within left.owner.calls k call (subst (λ (l : List Submission). slice_get l k ≡ Some call) (sym calls) at) in
       let listed : k < length (calls_in owners c) = subst (λ (o : Option OwnerView). k < length (calls_of_owner o)) (sym left.is) below in
       let same : kept_at (kept_in owners c) k ≡ kept_at (kept_of c h) k =
       ap (λ (o : Option OwnerView). kept_at (kept_of_owner o) k) left.is ∙ here.answers k below ∙ ap (λ (n : ℕ). kept_at (kept_of n h) k) left.id in
       record { some = ap is_some (sym same) ∙ joined.answered c k listed; same = same }
 
   end_at : (a : ℕ) → is_some (cast_of a h) ≡ true → IsEndLeft ends a
-  end_at a known = end_left casts plans ends of joined.actors a (subst (λ (l : List ActorSpec). is_some (find (λ (cast : ActorSpec). cast.actor == a) l) ≡ true) casts_are known)
+  end_at a known = end_left casts plans ends of joined.actors a
+      (subst (λ (l : List ActorSpec). is_some (find (λ (cast : ActorSpec). cast.actor == a) l) ≡ true) casts_are known)
 
   ended_so : (end : EndView) → HasEndedIn h end → is_ended (end_id end) h ≡ true
   ended_so (Killed dead) e = ap (λ (b : Bool). b || is_retired dead.id h) e
@@ -95,14 +87,17 @@ module _ (casts : List ActorSpec) (plans : List (ℕ × List Step)) (owners : Li
       mine = answered item.caller item.future call.0 call.1
 
       named : names item.caller (cast_of a h) ≡ true
-      named = subst (λ (n : ℕ). names item.caller (cast_of n h) ≡ true) call.2 (named_call h item.caller item.future call.0 (world_retires casts events).named call.1)
+      named = subst (λ (n : ℕ). names item.caller (cast_of n h) ≡ true) call.2
+          (named_call h item.caller item.future call.0 (world_retires casts events).named call.1)
 
       logged : slice_get (log_in ends a) place ≡ Some item
       logged = subst (λ (l : List RunItem). slice_get l place ≡ Some item) (sym (log_is a (cast_known (cast_of a h) item.caller named))) at
 
-      reply : (answer : Answer) (b : Bool) → is_reply (Some answer) ≡ b → kept_at (kept_of item.caller h) item.future ≡ Some answer → is_reply (Some answer) ≡ true
+      reply : (answer : Answer) (b : Bool) → is_reply (Some answer) ≡ b → kept_at (kept_of item.caller h) item.future ≡ Some answer
+          → is_reply (Some answer) ≡ true
       reply answer true e is = e
-      reply answer false e is = absurd (joined.ran item.caller item.future (mine.same ∙ is ∙ ap (λ (x : Answer). Some x) (reply_died answer e)) a place item logged refl refl)
+      reply answer false e is = absurd (joined.ran item.caller item.future (mine.same ∙ is
+          ∙ ap (λ (x : Answer). Some x) (reply_died answer e)) a place item logged refl refl)
 
       go : (o : Option Answer) → kept_at (kept_of item.caller h) item.future ≡ o → is_some o ≡ true → is_reply o ≡ true
       go None is some = cc
@@ -119,10 +114,15 @@ module _ (casts : List ActorSpec) (plans : List (ℕ × List Step)) (owners : Li
       go : (b : Bool) → is_named casts c ≡ b → (closing : List ℕ) × DoesStepsBy casts c (plan_of c plans ++ map (λ a. Release a) closing) [] events
       go true named =
           let left = owner_left casts plans owners of joined.callers c named in
-          let does = all_in (λ (owner : OwnerView). (closing : List ℕ) × DoesPlanIn casts owner.id (plan_of owner.id plans ++ map (λ a. Release a) closing) [] events) owners left.owner played.does left.inside in
+          let does = all_in (λ (owner : OwnerView). (closing : List ℕ)
+          × DoesPlanIn casts owner.id (plan_of owner.id plans ++ map (λ a. Release a) closing) [] events) owners left.owner played.does left.inside in
           let mine = subst (λ (n : ℕ). (closing : List ℕ) × DoesPlanIn casts n (plan_of n plans ++ map (λ a. Release a) closing) [] events) left.id does in
           (mine.0, steps_by casts c (plan_of c plans ++ map (λ a. Release a) mine.0) [] events mine.1)
-      go false none = ([], subst (λ (l : List Step). DoesStepsBy casts c (l ++ []) [] events) (sym (no_plan casts c plans of.named none)) (strangers casts c (opening casts) events refl none played.play.accepted))
+      go false none = (
+        [],
+        subst (λ (l : List Step). DoesStepsBy casts c (l ++ []) [] events) (sym (no_plan casts c plans of.named none))
+            (strangers casts c (opening casts) events refl none played.play.accepted),
+      )
 
   -- ---- what was found
 
@@ -153,14 +153,16 @@ module _ (casts : List ActorSpec) (plans : List (ℕ × List Step)) (owners : Li
       actors = All-weaker (IsEndIn h) (CanBeEndIn early.history) end_in ends played.play.actors;
     }
 
-  seen_so : (may_lose : ℕ → Bool) (seen : List At) → IsWholeSearch casts (λ c. plan_of c plans) may_lose (Contains seen) → (early : At) × Contains seen early × EndsAsThreads plans early owners ends
+  seen_so : (may_lose : ℕ → Bool) (seen : List At) → IsWholeSearch casts (λ c. plan_of c plans) may_lose (Contains seen) → (early : At) × Contains seen early
+      × EndsAsThreads plans early owners ends
   seen_so may_lose seen search =
       let early = found casts (λ c. plan_of c plans) may_lose seen events search played.play.accepted keeps over (loses_none may_lose) in
       let casts_stay = (world casts (λ c. plan_of c plans) early.0 (search.plays early.0 early.1)).casts in
       (early.0, early.1, ends_so early.0 (casts_stay ∙ sym casts_are) early.2)
 
 -- whatever a run of the plans in threads leaves, a whole search saw a play that ends so
-pub seen_end : (casts : List ActorSpec) (plans : List (ℕ × List Step)) (may_lose : ℕ → Bool) (seen : List At) (owners : List OwnerView) (ends : List EndView) → AreOfARun casts plans
+pub seen_end : (casts : List ActorSpec) (plans : List (ℕ × List Step)) (may_lose : ℕ → Bool) (seen : List At) (owners : List OwnerView) (ends : List EndView)
+    → AreOfARun casts plans
     → IsWholeSearch casts (λ c. plan_of c plans) may_lose (Contains seen) → IsJoined casts plans owners ends → IsPlayedAsPlanned casts plans owners ends
     → (early : At) × Contains seen early × EndsAsThreads plans early owners ends
 seen_end casts plans may_lose seen owners ends of search joined played = seen_so casts plans owners ends of joined played.0 played.1 may_lose seen search

@@ -1,20 +1,9 @@
 -- Each caller and each actor of the casts is left by a joined run.
-use Rattle.std.proofs.Common.{◌≡◌, ℕ, ◌==◌, true, List, map, Option, Some, None, refl, sym, subst, All, Contains}
-use Rattle.std.specs.Prelude.{find, is_some}
-use Rattle.std.specs.List.{list_any}
-use Rattle.std.proofs.lemmas.Bool.{eq-eqb, eqb-true}
+use Rattle.act_thread_ends.proofs.Common.{◌≡◌, ℕ, ◌==◌, true, List, map, Option, Some, None, refl, sym, subst, All, Contains, find, is_some, list_any, eq-eqb}
+use Rattle.act_thread_ends.proofs.Common.{eqb-true, MAX_ACTORS, MAX_CALLERS, Step, ActorSpec, contains, one_to, map-slice_get, OwnerView, EndView, end_id}
+use Rattle.act_thread_ends.proofs.Common.{callers_of_casts, actors_of_casts, owner_of, end_of, IsIn, in_from_contains, all_in, in_filter, found_is, finds}
+use Rattle.act_thread_ends.proofs.Common.{any_is, contains_is, AreOfARun}
 use Rattle.std.proofs.lemmas.Map.Keys.{any_passes_from_place}
-use Rattle.act_types.specs.declared.limits.TheConstants.{MAX_ACTORS, MAX_CALLERS}
-use Rattle.act_rules.specs.declared.script.Step.{Step}
-use Rattle.act_rules.specs.History.{ActorSpec, contains}
-use Rattle.act_rules.specs.Report.{one_to}
-use Rattle.act_rules.proofs.Unique.{map-slice_get}
-use Rattle.act_owner.specs.Owner.{OwnerView}
-use Rattle.act_serve.specs.Served.{EndView, end_id}
-use Rattle.act_plans.specs.Runs.{callers_of_casts, actors_of_casts}
-use Rattle.act_executor.specs.Joined.{owner_of, end_of}
-use Rattle.act_rules.proofs.Elements.{IsIn, in_from_contains, all_in, in_filter, found_is, finds, any_is, contains_is}
-use Rattle.act_thread_ends.specs.ThreadEnds.{AreOfARun}
 use Rattle.act_thread_ends.proofs.Plans.{is_named}
 
 -- the caller stands among those that are left
@@ -55,8 +44,10 @@ end_left casts plans ends of ids a known = go (find (λ (cast : ActorSpec). cast
         let at = found_is (λ (x : ActorSpec). x.actor == a) casts cast e in
         let number = all_in (λ (x : ActorSpec). Contains (one_to MAX_ACTORS) x.actor) casts cast of.actors at.inside in
         let mine : Contains (one_to MAX_ACTORS) a = subst (λ (n : ℕ). Contains (one_to MAX_ACTORS) n) (eqb-true cast.actor a at.passes) number in
-        let any : list_any (λ (x : ActorSpec). x.actor == a) casts ≡ true = any_passes_from_place (λ (x : ActorSpec). x.actor == a) casts at.inside.place cast at.inside.at at.passes in
-        let within : IsIn (actors_of_casts casts) a = in_filter (λ (n : ℕ). list_any (λ (x : ActorSpec). x.actor == n) casts) (one_to MAX_ACTORS) a (in_from_contains (one_to MAX_ACTORS) a mine) any in
+        let any : list_any (λ (x : ActorSpec). x.actor == a) casts ≡ true =
+        any_passes_from_place (λ (x : ActorSpec). x.actor == a) casts at.inside.place cast at.inside.at at.passes in
+        let within : IsIn (actors_of_casts casts) a =
+        in_filter (λ (n : ℕ). list_any (λ (x : ActorSpec). x.actor == n) casts) (one_to MAX_ACTORS) a (in_from_contains (one_to MAX_ACTORS) a mine) any in
         let there : IsIn (map end_id ends) a = subst (λ (ns : List ℕ). IsIn ns a) (sym ids) within in
         let one = map-slice_get end_id ends there.place a there.at in
         let found = finds (λ (end : EndView). end_id end == a) ends there.place one.0 one.1 (eq-eqb (end_id one.0) a one.2) in

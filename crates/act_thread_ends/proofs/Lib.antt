@@ -1,3 +1,4 @@
+pub mod Common
 pub mod Plans
 pub mod Left
 pub mod Ends

@@ -1,27 +1,17 @@
 -- Whoever does its plan in the events keeps to it as the law of lists asks.
-use Rattle.std.proofs.Common.{◌≡◌, ℕ, suc, ◌==◌, Bool, true, false, cond, List, [], ◌∷◌, ◌++◌, Option, Some, None, refl, sym, ◌∙◌, subst, arith, All}
-use Rattle.std.specs.Prelude.{find, IsOk}
+use Rattle.act_thread_ends.proofs.Common.{◌≡◌, ℕ, suc, ◌==◌, Bool, true, false, cond, List, [], ◌∷◌, ◌++◌, Option, Some, None, refl, sym, ◌∙◌, subst, arith}
+use Rattle.act_thread_ends.proofs.Common.{All, find, IsOk, list_any, eqb-true, All-cons, All-weaker, Event, Step, Submit, Copy, Release, Kill, handle_refusal}
+use Rattle.act_thread_ends.proofs.Common.{copy_refusal, ActorSpec, History, contains, is_caller, copies_of, is_step_by, AreOthers, DoesStepBy, DoesStepsBy}
+use Rattle.act_thread_ends.proofs.Common.{steps_of_plan, plan_of, step_of, IsMeanwhile, DoesStepIn, DoesPlanIn, all_in, found_is}
 use Rattle.std.specs.Option.{option_map}
-use Rattle.std.specs.List.{list_any}
-use Rattle.std.proofs.lemmas.Bool.{eqb-true}
-use Rattle.std.proofs.lemmas.List.Elements.{All-cons, All-weaker}
-use Rattle.act_rules.specs.declared.event.Event.{Event}
 use Rattle.act_rules.specs.declared.event.Event.TheVariants as event
 use Rattle.act_rules.specs.declared.outcome.WorldRefusal.TheVariants.{Submit as SubmitRefused, Handle, NoCaller}
-use Rattle.act_rules.specs.declared.script.Step.{Step}
-use Rattle.act_rules.specs.declared.script.Step.TheVariants.{Submit, Copy, Release, Kill}
-use Rattle.act_rules.specs.Submissions.{handle_refusal, copy_refusal}
-use Rattle.act_rules.specs.History.{ActorSpec, History, contains, is_caller, copies_of}
 use Rattle.act_rules.specs.Rules.{refusal_of, submission_refusal, outcome_of, outcomes, after}
 use Rattle.act_rules.proofs.Ended.{needs-none}
 use Rattle.act_rules.proofs.Growth.{added_grows}
 use Rattle.act_rules.proofs.Steps.{after_keeps}
-use Rattle.act_early.specs.Lists.{is_step_by, AreOthers, DoesStepBy, DoesStepsBy}
 use Rattle.act_early.proofs.Shifting.{none_others}
 use Rattle.act_early.proofs.Listing.{accepted_none}
-use Rattle.act_plans.specs.Runs.{steps_of_plan, plan_of}
-use Rattle.act_executor.specs.PlanPlays.{step_of, IsMeanwhile, DoesStepIn, DoesPlanIn}
-use Rattle.act_rules.proofs.Elements.{all_in, found_is}
 
 -- ---- the steps of a plan
 
@@ -84,7 +74,8 @@ strangers casts c h (other ∷ events) same none ok =
     let first : IsOk (outcome_of h other) = ok 0 (outcome_of h other) (omega arith) in
     let rest : All IsOk (outcomes (after h other) events) = λ i d within. ok (suc i) d (omega arith) in
     let stay = after_keeps (λ (g : History). g.casts ≡ casts) h other same (λ _. (added_grows h other).casts ∙ same) in
-    All-cons (λ (x : Event). is_step_by c x ≡ false) other events (go (is_step_by c other) refl (accepted_none h other first)) (strangers casts c (after h other) events stay none rest)
+    All-cons (λ (x : Event). is_step_by c x ≡ false) other events (go (is_step_by c other) refl (accepted_none h other first))
+    (strangers casts c (after h other) events stay none rest)
   where
     go : (b : Bool) → is_step_by c other ≡ b → refusal_of h other ≡ None → is_step_by c other ≡ false
     go false is e = is

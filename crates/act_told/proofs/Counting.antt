@@ -117,7 +117,8 @@ ran_call log calls a p item order at =
     let m = rank c p log in
     let mine : slice_get (items_of c log) m ≡ Some item = slice_get-filter (λ (i : RunItem). i.caller == c) log p item at (eq-eqb item.caller c refl) in
     let pair : slice_get (map numbered (items_of c log)) m ≡ Some (numbered item) = slice_get-map numbered (items_of c log) m ∙ ap (option_map numbered) mine in
-    let all : slice_get (numbers a calls) m ≡ Some (numbered item) = slice_get_front (map numbered (items_of c log)) (numbers a calls) m (numbered item) order pair in
+    let all : slice_get (numbers a calls) m ≡ Some (numbered item) =
+    slice_get_front (map numbered (items_of c log)) (numbers a calls) m (numbered item) order pair in
     let held = enumerate-slice_get (map (λ (call : ℕ × Submission). call.0) (calls_to a calls)) m item.number item.future all in
     let found = map-slice_get (λ (call : ℕ × Submission). call.0) (calls_to a calls) m item.future held in
     let s = stands (goes_to a) (enumerate_from 0 calls) m found.0 found.1 in
@@ -175,11 +176,14 @@ ran_before log calls a p k item call order at lt has to =
     let r = passed (goes_to a) k all in
     let ran = ran_call log calls a p item order at in
     let below : r < passed (goes_to a) item.future all = passed_past (goes_to a) all k item.future (0 + k, call) lt there passes in
-    let mine : slice_get (items_of c log) (rank c p log) ≡ Some item = slice_get-filter (λ (i : RunItem). i.caller == c) log p item at (eq-eqb item.caller c refl) in
-    let within : r < length (items_of c log) = let h = slice_get_within (items_of c log) (rank c p log) item mine in let g = ran.count in omega (arith, h, g, below) in
+    let mine : slice_get (items_of c log) (rank c p log) ≡ Some item =
+    slice_get-filter (λ (i : RunItem). i.caller == c) log p item at (eq-eqb item.caller c refl) in
+    let within : r < length (items_of c log) = let h = slice_get_within (items_of c log) (rank c p log) item mine in let g = ran.count in
+    omega (arith, h, g, below) in
     let one = element (items_of c log) r within in
     let told : slice_get (numbers a calls) r ≡ Some (numbered one.0) =
-    slice_get_front (map numbered (items_of c log)) (numbers a calls) r (numbered one.0) order (slice_get-map numbered (items_of c log) r ∙ ap (option_map numbered) one.1) in
+    slice_get_front (map numbered (items_of c log)) (numbers a calls) r (numbered one.0) order (slice_get-map numbered (items_of c log) r
+    ∙ ap (option_map numbered) one.1) in
     let held = enumerate-slice_get (map (λ (x : ℕ × Submission). x.0) (calls_to a calls)) r one.0.number one.0.future told in
     let both : Some one.0.future ≡ Some k = sym held ∙ call_among calls a k call has to in
     let future : one.0.future ≡ k = cc in

@@ -62,7 +62,8 @@ not_past : (owners : List OwnerView) (ends : List EndView) (x : ℕ) → length 
     (actor_of (told_by owners ends) x).end ≡ told.Retired → ⊥
 not_past owners ends x past e =
     let none : actor_of (told_by owners ends) x ≡ record { callers = []; end = told.Live } =
-    get_or_past (map (actor_told owners) ends) x (record { callers = []; end = told.Live }) (let size = length-map ends (actor_told owners) in omega (arith, size, past)) in
+    get_or_past (map (actor_told owners) ends) x (record { callers = []; end = told.Live })
+    (let size = length-map ends (actor_told owners) in omega (arith, size, past)) in
     let live : told.Live ≡ told.Retired = sym (ap (λ (a : ActorTold). a.end) none) ∙ e in
     absurd (cc)
 

@@ -63,7 +63,8 @@ pub call_more : (ends : List EndView) (owner : OwnerView) (start k : ℕ) (call 
 call_more ends owner start k call now new whole at h so_far =
     ap (λ (t : List Call). t ++ calls_from ends owner start (k + 1) (drop (k + 1) owner.calls)) h
     ∙ append_assoc now (call_told ends owner start k (submission_of call) ∷ []) (calls_from ends owner start (k + 1) (drop (k + 1) owner.calls))
-    ∙ ap (λ (t : List Submission). now ++ calls_from ends owner start k t) (sym (from_here owner.calls k (submission_of call) (found_call owner.calls k call at)))
+    ∙ ap (λ (t : List Submission). now ++ calls_from ends owner start k t)
+    (sym (from_here owner.calls k (submission_of call) (found_call owner.calls k call at)))
     ∙ so_far
 
 -- ---- the calls of all callers

@@ -112,7 +112,8 @@ call_at ends before (first ∷ owners) zero k owner call at has =
     let mine : slice_get first.calls k ≡ Some call = ap (λ (o : OwnerView). slice_get o.calls k) same ∙ has in
     let e : 0 + k ≡ k = omega arith in let z : before ≡ before + 0 = omega arith in
     ap (slice_get (calls_told ends before (first ∷ owners))) e
-    ∙ slice_get_more (calls_from ends first before 0 first.calls) (calls_told ends (before + length first.calls) owners) k (call_told ends first before (0 + k) call)
+    ∙ slice_get_more (calls_from ends first before 0 first.calls) (calls_told ends (before + length first.calls) owners) k
+    (call_told ends first before (0 + k) call)
     (from_at ends first before 0 first.calls k call mine)
     ∙ ap (λ (n : ℕ). Some (call_told ends first before n call)) e
     ∙ ap (λ (o : OwnerView). Some (call_told ends o before k call)) same

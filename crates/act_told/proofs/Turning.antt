@@ -105,7 +105,8 @@ once_is owners ends i m run other r s callers actors same =
     ∙ ap (actor_place ends) it.to ∙ place_is ends r.is.place r.is.end actors r.is.at in
     let both : Some s.is.end ≡ Some r.is.end = sym s.is.at ∙ ap (slice_get ends) actor ∙ r.is.at in
     let end : s.is.end ≡ r.is.end = cc in
-    let has : slice_get (end_log r.is.end) s.is.number ≡ Some s.is.item = subst (λ (e : EndView). slice_get (end_log e) s.is.number ≡ Some s.is.item) end s.is.has in
+    let has : slice_get (end_log r.is.end) s.is.number ≡ Some s.is.item =
+    subst (λ (e : EndView). slice_get (end_log e) s.is.number ≡ Some s.is.item) end s.is.has in
     let number : r.is.number ≡ s.is.number =
     one_place (end_log r.is.end) r.owner.calls (end_id r.is.end) r.is.number s.is.number r.is.item s.is.item r.order r.is.has has caller future in
     let runs : runs_ahead s.is.place ends ≡ runs_ahead r.is.place ends = ap (λ (k : ℕ). runs_ahead k ends) actor in

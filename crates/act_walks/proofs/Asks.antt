@@ -1,20 +1,10 @@
 -- The kill of each actor that is told dead is asked before anything else is done.
-use Rattle.act_early.proofs.Common.{◌≡◌, ℕ, ◌+◌, ◌<◌, ◌≤◌, ◌==◌, ◌||◌, ◌⊎◌, inl, inr, Bool, true, false, List, [], ◌∷◌, Option, Some, None, refl, ap, sym}
-use Rattle.act_early.proofs.Common.{◌∙◌, subst, arith}
-use Rattle.act_early.proofs.Common.{find, is_none, cases_lt, eqb-true, eq-eqb, Event, Step, Kill, ActorSpec, History, contains, names, cast_of, opening}
-use Rattle.act_early.proofs.Common.{history}
-use Rattle.act_early.proofs.Common.{◌++◌, add_event, cond, if◌then◌else◌}
-use Rattle.act_early.proofs.Worlds.{contains_push}
-use Rattle.act_plan_plays.proofs.Common.{option_map_or}
+use Rattle.act_walks.proofs.Common.{◌≡◌, ℕ, ◌+◌, ◌<◌, ◌≤◌, ◌==◌, ◌||◌, ◌⊎◌, inl, inr, Bool, true, false, List, [], ◌∷◌, Option, Some, None, refl, ap, sym, ◌∙◌}
+use Rattle.act_walks.proofs.Common.{subst, arith, find, is_none, cases_lt, eqb-true, eq-eqb, Event, Step, Kill, ActorSpec, History, contains, names, cast_of}
+use Rattle.act_walks.proofs.Common.{opening, history, ◌++◌, add_event, cond, if◌then◌else◌, contains_push, option_map_or, Told, ToldActor, ToldEnd, IsEager}
+use Rattle.act_walks.proofs.Common.{KillsAreAsked, bound_of, actor_in, callers_of, is_dead_in, step_of, Parts, done_in, IsEndOf, DoesEvent, AreAsked, IsAsking}
+use Rattle.act_walks.proofs.Common.{AsksFrom, SetsOut}
 use Rattle.act_rules.specs.declared.event.Event.TheVariants as event
-use Rattle.act_told_ends.specs.Told.{Told}
-use Rattle.act_walks.specs.declared.told.ToldActor.{ToldActor}
-use Rattle.act_walks.specs.declared.told.ToldEnd.{ToldEnd}
-use Rattle.act_walks.specs.Eager.{IsEager, KillsAreAsked}
-use Rattle.act_walks.specs.Fits.{bound_of, actor_in, callers_of, is_dead_in}
-use Rattle.act_executor.specs.PlanPlays.{step_of}
-use Rattle.act_walks.specs.Walking.{Parts, done_in, IsEndOf, DoesEvent}
-use Rattle.act_walks.specs.Asking.{AreAsked, IsAsking, AsksFrom, SetsOut}
 use Rattle.act_walks.proofs.Eager.{going_of, opened, asked}
 use Rattle.act_walks.proofs.Onward.{stands_event}
 use Rattle.act_owner.proofs.Waiting.{find_true}

@@ -1,17 +1,12 @@
 -- Actors retire once a walk is through, until all did that are told retired.
-use Rattle.act_early.proofs.Common.{◌≡◌, ℕ, true, false, List, Option, Some, None, inl, inr, ◌⊎◌, refl, sym, ◌∙◌, subst, All, IsOk, ◌==◌, eqb-true, Event, Step}
-use Rattle.act_early.proofs.Common.{WorldRefusal, ActorSpec, History, opening, history, contains, is_retired, refusal_of, add_event, after, after_by, outcomes}
+use Rattle.act_walks.proofs.Common.{◌≡◌, ℕ, true, false, List, Option, Some, None, inl, inr, ◌⊎◌, refl, sym, ◌∙◌, subst, All, IsOk, ◌==◌, eqb-true, Event, Step}
+use Rattle.act_walks.proofs.Common.{WorldRefusal, ActorSpec, History, opening, history, contains, is_retired, refusal_of, add_event, after, after_by, outcomes}
+use Rattle.act_walks.proofs.Common.{Did, did, contains_push, either_of, Told, Leaves, MayRetire, LetsGo, Notes, IsToRetire, RetiredAsTold, last_note}
+use Rattle.act_walks.proofs.Common.{after_mail, after_post, brought_kept, brought_release, SomeEnd, IsAtRest}
 use Rattle.act_rules.specs.declared.event.Event.TheVariants as event
-use Rattle.act_rules.specs.declared.outcome.Did.{Did}
 use Rattle.act_rules.specs.declared.outcome.Did.TheVariants as did_so
-use Rattle.act_rules.specs.Rules.{did}
-use Rattle.act_early.proofs.Worlds.{contains_push, either_of}
-use Rattle.act_told_ends.specs.Told.{Told, Leaves}
-use Rattle.act_told_ends.specs.Retiring.{MayRetire, LetsGo, Notes, Retires, IsToRetire, RetiredAsTold, last_note}
+use Rattle.act_told_ends.specs.Retiring.{Retires}
 use Rattle.act_told_ends.proofs.Retiring.{retire_on}
-use Rattle.act_plan_plays.specs.Parts.{after_mail, after_post}
-use Rattle.act_plan_plays.proofs.Brought.{brought_kept, brought_release}
-use Rattle.act_walks.specs.Eager.{SomeEnd, IsAtRest}
 use Rattle.act_walks.proofs.Stuck.{has_arrived}
 
 -- it left what is told, and only those retired that may

@@ -1,17 +1,10 @@
 -- A caller that is bound to no steps makes its next call.
-use Rattle.act_early.proofs.Common.{◌≡◌, ℕ, Bool, true, false, List, [], length, Option, Some, None, refl, ap, sym, ◌∙◌, subst, ◌==◌, slice_get, is_some, eqb-true}
-use Rattle.act_early.proofs.Common.{option_and_then, option_map, Event, Step, Submission, ActorSpec, History, history, calls_of, refusal_of, add_event}
-use Rattle.act_plan_plays.proofs.Common.{IsBehind, Vec}
-use Rattle.std.specs.Option.{option_map_or}
-use Rattle.std.proofs.lemmas.Option.{slice_get-map}
+use Rattle.act_walks.proofs.Common.{◌≡◌, ℕ, Bool, true, false, List, [], length, Option, Some, None, refl, ap, sym, ◌∙◌, subst, ◌==◌, slice_get, is_some}
+use Rattle.act_walks.proofs.Common.{eqb-true, option_and_then, option_map, Event, Step, Submission, ActorSpec, History, history, calls_of, refusal_of}
+use Rattle.act_walks.proofs.Common.{add_event, IsBehind, Vec, option_map_or, slice_get-map, Told, ToldCall, ToldCaller, ToldEnd, Fits, bound_of, caller_in}
+use Rattle.act_walks.proofs.Common.{calls_in, steps_in, submission_of_call, step_of, Parts, done_in, Stands, IsEndOf, IsWalking, GoesOn, Moves, NoCall}
+use Rattle.act_walks.proofs.Common.{DoesEvent, Tries}
 use Rattle.act_rules.specs.declared.event.Event.TheVariants as event
-use Rattle.act_told_ends.specs.Told.{Told}
-use Rattle.act_walks.specs.declared.told.ToldCall.{ToldCall}
-use Rattle.act_walks.specs.declared.told.ToldCaller.{ToldCaller}
-use Rattle.act_walks.specs.declared.told.ToldEnd.{ToldEnd}
-use Rattle.act_walks.specs.Fits.{Fits, bound_of, caller_in, calls_in, steps_in, submission_of_call}
-use Rattle.act_executor.specs.PlanPlays.{step_of}
-use Rattle.act_walks.specs.Walking.{Parts, done_in, Stands, IsEndOf, IsWalking, GoesOn, Moves, NoCall, DoesEvent, Tries}
 use Rattle.act_walks.proofs.Eager.{called}
 use Rattle.act_walks.proofs.Kills.{kills_event}
 use Rattle.act_walks.proofs.Onward.{Nothing, stands_event, walking_to, moves_none, moves_yes}
@@ -24,18 +17,18 @@ calls_are end c caller there = ap (λ (o : Option ToldCaller). option_map_or (λ
 pub bound_is : (end : ToldEnd) (c : ℕ) (caller : ToldCaller) → caller_in end c ≡ Some caller → bound_of end c ≡ steps_in caller
 bound_is end c caller there = ap (option_and_then steps_in) there
 
-pub bound_none : (end : ToldEnd) (c : ℕ) → caller_in end c ≡ None → bound_of end c ≡ None
-bound_none end c there = ap (option_and_then steps_in) there
-
 -- the call that is told at a place
-pub told_call : (end : ToldEnd) (told : Told) (c n : ℕ) (o : Option ToldCall) → Fits end told → slice_get (calls_in end c) n ≡ o → slice_get (told.calls c) n ≡ option_map submission_of_call o
+pub told_call : (end : ToldEnd) (told : Told) (c n : ℕ) (o : Option ToldCall) → Fits end told → slice_get (calls_in end c) n ≡ o
+    → slice_get (told.calls c) n ≡ option_map submission_of_call o
 told_call end told c n o fits at =
-    ap (λ (l : List Submission). slice_get l n) (sym (fits.calls c)) ∙ slice_get-map submission_of_call (calls_in end c) n ∙ ap (option_map submission_of_call) at
+    ap (λ (l : List Submission). slice_get l n) (sym (fits.calls c)) ∙ slice_get-map submission_of_call (calls_in end c) n
+    ∙ ap (option_map submission_of_call) at
 
 -- ---- what isn't done
 
 none_left : (end : ToldEnd) (c n : ℕ) (walk : Parts) → slice_get (calls_in end c) n ≡ None
-    → ((casts : List ActorSpec) (h : History) (before : List Event) → IsBehind casts h walk.world before → n ≡ length (calls_of c h)) → Moves end (NoCall end c) walk walk false
+    → ((casts : List ActorSpec) (h : History) (before : List Event) → IsBehind casts h walk.world before → n ≡ length (calls_of c h))
+    → Moves end (NoCall end c) walk walk false
 none_left end c n walk none count = moves_none end (NoCall end c) walk (λ casts told e s w call free next may.
     let h = history casts walk.events in
     let is : slice_get (told.calls c) (length (calls_of c h)) ≡ None =
@@ -46,11 +39,13 @@ none_left end c n walk none count = moves_none end (NoCall end c) walk (λ casts
 pub no_caller : (end : ToldEnd) (c : ℕ) (walk : Parts) → caller_in end c ≡ None → Moves end (NoCall end c) walk walk false
 no_caller end c walk none = moves_none end (NoCall end c) walk (λ casts told e s w call free next may.
     let nothing : slice_get (calls_in end c) (length (calls_of c (history casts walk.events))) ≡ None =
-    ap (λ (o : Option ToldCaller). slice_get (option_map_or (λ (one : ToldCaller). one.calls.items) o []) (length (calls_of c (history casts walk.events)))) none in
+    ap (λ (o : Option ToldCaller). slice_get (option_map_or (λ (one : ToldCaller). one.calls.items) o []) (length (calls_of c (history casts walk.events))))
+    none in
     let bad : Some call ≡ None = sym next ∙ told_call end told c (length (calls_of c (history casts walk.events))) None e.fits nothing in
     cc)
 
-pub is_bound : (end : ToldEnd) (c : ℕ) (caller : ToldCaller) (walk : Parts) → caller_in end c ≡ Some caller → is_some caller.steps ≡ true → Moves end (NoCall end c) walk walk false
+pub is_bound : (end : ToldEnd) (c : ℕ) (caller : ToldCaller) (walk : Parts) → caller_in end c ≡ Some caller → is_some caller.steps ≡ true
+    → Moves end (NoCall end c) walk walk false
 is_bound end c caller walk there bound = moves_none end (NoCall end c) walk (λ casts told e s w call free next may.
     none caller.steps bound (sym (bound_is end c caller there) ∙ free))
   where
@@ -59,19 +54,22 @@ is_bound end c caller walk there bound = moves_none end (NoCall end c) walk (λ 
     none (Some x) some e = cc
 
 pub no_call : (end : ToldEnd) (c n : ℕ) (caller : ToldCaller) (walk : Parts) → caller_in end c ≡ Some caller → slice_get caller.calls.items n ≡ None
-    → ((casts : List ActorSpec) (h : History) (before : List Event) → IsBehind casts h walk.world before → n ≡ length (calls_of c h)) → Moves end (NoCall end c) walk walk false
+    → ((casts : List ActorSpec) (h : History) (before : List Event) → IsBehind casts h walk.world before → n ≡ length (calls_of c h))
+    → Moves end (NoCall end c) walk walk false
 no_call end c n caller walk there none count = none_left end c n walk (ap (λ (l : List ToldCall). slice_get l n) (calls_are end c caller there) ∙ none) count
 
 -- a walk that was left as it was didn't move, if what would move it can't be done of what is told
 pub moves_refused : (end : ToldEnd) (none : Nothing) (old new : Parts) → new ≡ old
-    → ((casts : List ActorSpec) (told : Told) → IsEndOf end casts told → Stands end casts old → IsWalking end casts told old → none told (done_in old.done) (history casts old.events))
+    → ((casts : List ActorSpec) (told : Told) → IsEndOf end casts told → Stands end casts old → IsWalking end casts told old
+    → none told (done_in old.done) (history casts old.events))
     → Moves end none old new false
 moves_refused end none old new same holds = subst (λ (x : Parts). Moves end none old x false) (sym same) (moves_none end none old holds)
 
 -- ---- what is done
 
 one_call : (end : ToldEnd) (c n : ℕ) (caller : ToldCaller) (call : ToldCall) (old new : Parts) → caller_in end c ≡ Some caller → is_some caller.steps ≡ false
-    → slice_get caller.calls.items n ≡ Some call → ((casts : List ActorSpec) (h : History) (before : List Event) → IsBehind casts h old.world before → n ≡ length (calls_of c h))
+    → slice_get caller.calls.items n ≡ Some call → ((casts : List ActorSpec) (h : History) (before : List Event) → IsBehind casts h old.world before
+    → n ≡ length (calls_of c h))
     → DoesEvent (event.Submit c call.actor call.method call.args) old new → GoesOn end old new
 one_call end c n caller call old new there unbound at count does = record {
   stands = λ casts s. stands_event end casts submit old new strange does s;
@@ -82,7 +80,8 @@ one_call end c n caller call old new there unbound at count does = record {
       ap (slice_get (told.calls c)) (sym (count casts h old.events s.behind))
       ∙ told_call end told c n (Some call) e.fits (ap (λ (l : List ToldCall). slice_get l n) (calls_are end c caller there) ∙ at) in
       walking_to end casts told (done_in old.done) new (add_event h submit) (ap done_in (sym does.done)) done.1.is
-      (called casts (bound_of end) told e.some (done_in old.done) h w.eager c (submission_of_call call) free next done.0) (kills_event (bound_of end) told h submit w.asked);
+      (called casts (bound_of end) told e.some (done_in old.done) h w.eager c (submission_of_call call) free next done.0)
+      (kills_event (bound_of end) told h submit w.asked);
 }
   where
     submit : Event
@@ -105,11 +104,15 @@ one_call end c n caller call old new there unbound at count does = record {
             cc
         go false e = rw e refl
 
-pub call_moves : (end : ToldEnd) (c n : ℕ) (caller : ToldCaller) (call : ToldCall) (old new : Parts) (moved : Bool) → caller_in end c ≡ Some caller → is_some caller.steps ≡ false
-    → slice_get caller.calls.items n ≡ Some call → ((casts : List ActorSpec) (h : History) (before : List Event) → IsBehind casts h old.world before → n ≡ length (calls_of c h))
+pub call_moves : (end : ToldEnd) (c n : ℕ) (caller : ToldCaller) (call : ToldCall) (old new : Parts) (moved : Bool) → caller_in end c ≡ Some caller
+    → is_some caller.steps ≡ false
+    → slice_get caller.calls.items n ≡ Some call → ((casts : List ActorSpec) (h : History) (before : List Event) → IsBehind casts h old.world before
+    → n ≡ length (calls_of c h))
     → Tries (event.Submit c call.actor call.method call.args) old new moved → Moves end (NoCall end c) old new moved
-call_moves end c n caller call old new true there unbound at count does = moves_yes end (NoCall end c) old new (one_call end c n caller call old new there unbound at count does)
-call_moves end c n caller call old new false there unbound at count not = moves_refused end (NoCall end c) old new not.same (λ casts told e s w other free next may.
+call_moves end c n caller call old new true there unbound at count does =
+    moves_yes end (NoCall end c) old new (one_call end c n caller call old new there unbound at count does)
+call_moves end c n caller call old new false there unbound at count not =
+    moves_refused end (NoCall end c) old new not.same (λ casts told e s w other free next may.
     let h = history casts old.events in
     let is : Some other ≡ Some (submission_of_call call) = sym next ∙ ap (slice_get (told.calls c)) (sym (count casts h old.events s.behind))
     ∙ told_call end told c n (Some call) e.fits (ap (λ (l : List ToldCall). slice_get l n) (calls_are end c caller there) ∙ at) in

@@ -1,30 +1,22 @@
 -- Where the call that is told to run next can be sent, its letter comes to its actor, which can run it.
-use Rattle.act_early.proofs.Common.{◌≡◌, ℕ, ◌+◌, ◌-◌, ◌<◌, Bool, true, false, List, [], ◌∷◌, ◌++◌, length, take, Option, Some, None, refl, ap, sym, ◌∙◌, subst, arith, ◌==◌, ◌||◌}
-use Rattle.act_early.proofs.Common.{map, filter, slice_get, option_map, is_some, eq-eqb, slice_get_within, Event, Letter, RunItem, Submission, Step, WorldRefusal, NoCaller, Sending, ActorSpec}
-use Rattle.act_early.proofs.Common.{History, history, contains, names, cast_of, is_caller, calls_of, kept_of, runs_of, is_ended, is_retired, has_letter, ran_count, next_item, needs}
-use Rattle.act_early.proofs.Common.{refusal_of, add_event, after_by, and_also, call_letter, number_of, calls_to, send_refusal, was_sent, items_of, has_terminated, IsPrefix, slice_get_front}
-use Rattle.act_early.proofs.Common.{slice_get-filter, slice_get-enumerate_from, calls_to_grow, calls_to-at, map-slice_get, numbered, numbers, IsSound, world_sound}
-use Rattle.act_early.proofs.Common.{nothing_follows_step, after_all_keeps, opening, Retires}
-use Rattle.std.proofs.lemmas.Option.{slice_get-map}
-use Rattle.act_early.proofs.Common.{take-append_seam}
-use Rattle.act_early.proofs.Unanswered.{number_is}
-use Rattle.act_rules.proofs.Ended.{NothingFollows}
-use Rattle.act_rules.proofs.Letters.{calls_to-number, has_last}
+use Rattle.act_walks.proofs.Common.{◌≡◌, ℕ, ◌+◌, ◌-◌, ◌<◌, Bool, true, false, List, [], ◌∷◌, ◌++◌, length, take, Option, Some, None, refl, ap, sym, ◌∙◌, subst}
+use Rattle.act_walks.proofs.Common.{arith, ◌==◌, ◌||◌, map, filter, slice_get, option_map, is_some, eq-eqb, slice_get_within, Event, Letter, RunItem}
+use Rattle.act_walks.proofs.Common.{Submission, Step, WorldRefusal, NoCaller, Sending, ActorSpec, History, history, contains, names, cast_of, is_caller}
+use Rattle.act_walks.proofs.Common.{calls_of, kept_of, runs_of, is_ended, is_retired, has_letter, ran_count, next_item, needs, refusal_of, add_event, after_by}
+use Rattle.act_walks.proofs.Common.{and_also, call_letter, number_of, calls_to, send_refusal, was_sent, items_of, has_terminated, IsPrefix, slice_get_front}
+use Rattle.act_walks.proofs.Common.{slice_get-filter, slice_get-enumerate_from, calls_to_grow, calls_to-at, map-slice_get, numbered, numbers, IsSound}
+use Rattle.act_walks.proofs.Common.{world_sound, nothing_follows_step, after_all_keeps, opening, Retires, slice_get-map, take-append_seam, number_is}
+use Rattle.act_walks.proofs.Common.{NothingFollows, calls_to-number, has_last, after_post, Told, IsNextRun, IsGoing, SomeEnd, IsEager, named_call}
 use Rattle.act_rules.specs.RunList.{ends_actor}
 use Rattle.act_rules.specs.declared.event.Event.TheVariants as event
 use Rattle.act_rules.specs.declared.history.Letter.TheVariants.{Call as CallLetter}
-use Rattle.act_plan_plays.specs.Parts.{after_post}
-use Rattle.act_told_ends.specs.Told.{Told}
-use Rattle.act_told_ends.specs.Walks.{IsNextRun}
-use Rattle.act_told_ends.proofs.Walked.{IsGoing}
-use Rattle.act_walks.specs.Eager.{SomeEnd, IsEager}
 use Rattle.act_walks.proofs.Eager.{going_of, sent}
-use Rattle.act_rules.proofs.RanAll.{named_call}
 
 -- ---- the item that is told, in the end that is told
 
 -- the call of an item stands among its caller's calls to the actor, at the place of how many ran before it
-item_call : (a : ℕ) (play late : History) (item : RunItem) → IsSound late → IsPrefix (runs_of a play) (runs_of a late) → slice_get (runs_of a late) (length (runs_of a play)) ≡ Some item
+item_call : (a : ℕ) (play late : History) (item : RunItem) → IsSound late → IsPrefix (runs_of a play) (runs_of a late)
+    → slice_get (runs_of a late) (length (runs_of a play)) ≡ Some item
     → (call : ℕ × Submission) × (slice_get (calls_to a (calls_of item.caller late)) (ran_count item.caller a play) ≡ Some call) × (call.0 ≡ item.future)
 item_call a play late item sound front at =
     map-slice_get (λ (call : ℕ × Submission). call.0) (calls_to a (calls_of c late)) m item.future (future (slice_get futures m) refl)
@@ -72,7 +64,8 @@ not_over false false w one two three = three
 
 -- an actor that is told to run more hasn't ended
 lives_on : (a : ℕ) (play late : History) (told : Told) (item : RunItem) → NothingFollows late → IsPrefix (runs_of a play) (runs_of a late)
-    → slice_get (runs_of a late) (length (runs_of a play)) ≡ Some item → (contains a play.killed ≡ true → runs_of a play ≡ runs_of a late) → play.retired ≡ [] → is_ended a play ≡ false
+    → slice_get (runs_of a late) (length (runs_of a play)) ≡ Some item → (contains a play.killed ≡ true → runs_of a play ≡ runs_of a late) → play.retired ≡ []
+    → is_ended a play ≡ false
 lives_on a play late told item follows front at last live =
     not_over (contains a play.killed) (has_terminated (runs_of a play)) (is_retired a play) killed terminated (ap (contains a) live)
   where
@@ -101,7 +94,8 @@ follows_all casts events = after_all_keeps NothingFollows nothing_follows_step (
 
 -- ---- the letter that is sent
 
-send_needs : (named sent : Bool) (h : History) (c k : ℕ) (o : Option Submission) → needs named NoCaller (option_map Sending (send_refusal (kept_of c h) k sent o)) ≡ None
+send_needs : (named sent : Bool) (h : History) (c k : ℕ) (o : Option Submission)
+    → needs named NoCaller (option_map Sending (send_refusal (kept_of c h) k sent o)) ≡ None
     → (named ≡ true) × ((call : Submission) × (o ≡ Some call))
 send_needs true sent h c k None e = cc
 send_needs true sent h c k (Some call) e = (refl, (call, refl))
@@ -204,7 +198,8 @@ comes casts bound told s done h e a item next may = record {
 
     is_own : own ≡ call.1
     is_own =
-        let both : Some own ≡ Some call.1 = sym own_late ∙ ap (slice_get (calls_of c late)) (sym found.2) ∙ (calls_to-at a (calls_of c late) m call found.1).at in
+        let both : Some own ≡ Some call.1 = sym own_late ∙ ap (slice_get (calls_of c late)) (sym found.2)
+        ∙ (calls_to-at a (calls_of c late) m call found.1).at in
         cc
 
     actor : own.actor ≡ a
@@ -218,7 +213,8 @@ comes casts bound told s done h e a item next may = record {
 
     counted : number ≡ m
     counted = sym (number_is a number (calls_of c late) (k, own)
-        (slice_get_front (calls_to a (calls_of c h)) (calls_to a (calls_of c late)) number (k, own) (calls_to_grow a (calls_of c h) (calls_of c late) calls) by_number))
+        (slice_get_front (calls_to a (calls_of c h)) (calls_to a (calls_of c late)) number (k, own)
+        (calls_to_grow a (calls_of c h) (calls_of c late) calls) by_number))
         ∙ ap (λ (j : ℕ). number_of a j (calls_of c late)) (sym found.2) ∙ number_is a m (calls_of c late) call found.1
 
     at : slice_get (calls_to a (calls_of c h)) m ≡ Some (k, own)
@@ -245,4 +241,5 @@ comes casts bound told s done h e a item next may = record {
     named = ap (λ (b : ℕ). names c (cast_of b h)) (sym actor) ∙ named_call h c k own retires.named needed.1.1
 
 pub post_casts : (h : History) (c k : ℕ) → (after_post (event.Send c k) h).casts ≡ h.casts
-post_casts h c k = (deliver_same (add_event h (event.Send c k)) (length h.mail) (refusal_of (add_event h (event.Send c k)) (event.Deliver (length h.mail)))).casts
+post_casts h c k = (deliver_same (add_event h (event.Send c k)) (length h.mail)
+    (refusal_of (add_event h (event.Send c k)) (event.Deliver (length h.mail)))).casts

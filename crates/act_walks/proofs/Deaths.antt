@@ -1,35 +1,28 @@
 -- A caller hears of the death of an actor.
-use Rattle.act_early.proofs.Common.{◌≡◌, ℕ, zero, suc, ◌+◌, ◌<◌, Bool, true, false, List, [], ◌∷◌, length, Option, Some, None, refl, ap, sym, ◌∙◌, subst, arith, ◌==◌, ◌&&◌, ◌||◌, not, Contains}
-use Rattle.act_early.proofs.Common.{slice_get, option_map, is_some, eqb-true, eq-eqb, map-slice_get, Event, Post, Submission, Answer, Step, ActorSpec, History, history, names, cast_of, is_caller, calls_of}
-use Rattle.act_early.proofs.Common.{kept_of, kept_at, is_dead, refusal_of, add_event, is_reply, needs-none, NoCaller, NotDead, Handle, NoActor, needs}
-use Rattle.act_early.proofs.Choosing.{cast_known}
-use Rattle.act_plan_plays.proofs.Common.{◌≤◌, ◌⊎◌, inl, inr, get_or, get_or_from_slice_get, cases_lt, IsBehind, WorldView, SlotView, Runs, Died, Ended, Vacant, IsStage, stage_of_slot, is_dead_slot, Refines, IsOwnerOf, is_death_to, shows_dead, option_map_or}
-use Rattle.act_plan_plays.proofs.Common.{Did, copies_in, OwnerView, is_known_dead, list_any, not_dead, length-map}
+use Rattle.act_walks.proofs.Common.{◌≡◌, ℕ, zero, suc, ◌+◌, ◌<◌, Bool, true, false, List, [], ◌∷◌, length, Option, Some, None, refl, ap, sym, ◌∙◌, subst, arith}
+use Rattle.act_walks.proofs.Common.{◌==◌, ◌||◌, Contains, slice_get, option_map, is_some, eqb-true, eq-eqb, map-slice_get, Event, Post, Submission, Answer}
+use Rattle.act_walks.proofs.Common.{Step, ActorSpec, History, history, names, cast_of, is_caller, kept_of, kept_at, is_dead, refusal_of, add_event, is_reply}
+use Rattle.act_walks.proofs.Common.{needs-none, NoCaller, NotDead, Handle, NoActor, needs, cast_known, ◌≤◌, ◌⊎◌, inl, inr, get_or, get_or_from_slice_get}
+use Rattle.act_walks.proofs.Common.{cases_lt, IsBehind, WorldView, SlotView, Died, Ended, Vacant, IsStage, stage_of_slot, is_dead_slot, Refines, IsOwnerOf}
+use Rattle.act_walks.proofs.Common.{is_death_to, shows_dead, option_map_or, Did, copies_in, OwnerView, is_known_dead, list_any, not_dead, length-map}
+use Rattle.act_walks.proofs.Common.{slice_get-map, DeathPost, Told, MayHear, Left, Open, Reply, Death, ToldCall, ToldEnd, SomeEnd, IsEager, Fits, FitsLeft}
+use Rattle.act_walks.proofs.Common.{bound_of, calls_in, submission_of_call, Parts, done_in, Moves, NoTell, Does, HearsNow, Hears, lets_hear, answer_lets}
+use Rattle.act_walks.proofs.Common.{AllLetHear, place_in}
+use Rattle.act_plan_plays.proofs.Common.{Runs}
 use Rattle.act_plan_plays.proofs.Done.{names_copies}
 use Rattle.act_plan_plays.proofs.Moving.{told_place}
-use Rattle.std.proofs.lemmas.Option.{slice_get-map}
 use Rattle.act_rules.specs.declared.event.Event.TheVariants as event
-use Rattle.act_rules.specs.declared.history.Post.TheVariants.{Death as DeathPost}
 use Rattle.act_rules.specs.declared.outcome.Did.TheVariants as did_so
 use Rattle.act_world.proofs.Lawful.{world_lawful}
 use Rattle.act_world.proofs.Heard.{death_listed}
-use Rattle.act_told_ends.specs.Told.{Told}
-use Rattle.act_told_ends.specs.Walks.{MayHear}
-use Rattle.act_walks.specs.declared.told.Left.{Left}
-use Rattle.act_walks.specs.declared.told.Left.TheVariants.{Open, Reply, Death}
-use Rattle.act_walks.specs.declared.told.ToldCall.{ToldCall}
-use Rattle.act_walks.specs.declared.told.ToldEnd.{ToldEnd}
-use Rattle.act_walks.specs.Eager.{SomeEnd, IsEager}
-use Rattle.act_walks.specs.Fits.{Fits, FitsLeft, bound_of, calls_in, submission_of_call}
-use Rattle.act_walks.specs.Walking.{Parts, done_in, Moves, NoTell, Does, HearsNow, Hears, lets_hear, answer_lets, AllLetHear}
 use Rattle.act_walks.proofs.EagerRuns.{heard}
 use Rattle.act_walks.proofs.Kills.{kills_event}
 use Rattle.act_walks.proofs.Onward.{stands_event, walking_to, moves_none, moves_yes}
-use Rattle.act_lists.proofs.Lists.{place_in}
 
 -- ---- who is dead
 
-dead_slot : (h : History) (a : ℕ) (o : Option SlotView) → IsStage h a o → is_some (cast_of a h) ≡ true → is_dead a h ≡ true → option_map_or is_dead_slot (stage_of_slot o) false ≡ true
+dead_slot : (h : History) (a : ℕ) (o : Option SlotView) → IsStage h a o → is_some (cast_of a h) ≡ true → is_dead a h ≡ true
+    → option_map_or is_dead_slot (stage_of_slot o) false ≡ true
 dead_slot h a None is some dead = let bad : true ≡ false = sym some ∙ ap (λ (o : Option ActorSpec). is_some o) is in cc
 dead_slot h a (Some Vacant) is some dead = let bad : true ≡ false = sym some ∙ ap (λ (o : Option ActorSpec). is_some o) is in cc
 dead_slot h a (Some (Runs live)) is some dead = let bad : true ≡ false = sym dead ∙ not_dead a h is.runs in cc
@@ -43,7 +36,8 @@ tell_needs h a c may =
     let two = needs-none (names c (cast_of a h)) (Handle NoActor) (needs (is_dead a h) NotDead None) one.1 in
     (one.0, two.0, (needs-none (is_dead a h) NotDead None two.1).0)
 
-pub not_shown : (end : ToldEnd) (c a : ℕ) (casts : List ActorSpec) (h : History) (world : WorldView) (before : List Event) → IsBehind casts h world before → shows_dead world a ≡ false
+pub not_shown : (end : ToldEnd) (c a : ℕ) (casts : List ActorSpec) (h : History) (world : WorldView) (before : List Event) → IsBehind casts h world before
+    → shows_dead world a ≡ false
     → Hears end c a h false
 not_shown end c a casts h world before behind hidden = record {
   yes = λ e. cc;
@@ -87,9 +81,11 @@ said_call : (end : ToldEnd) (told : Told) (c k : ℕ) (call : Submission) → Fi
     → (said : ToldCall) × (slice_get (calls_in end c) k ≡ Some said) × (submission_of_call said ≡ call)
 said_call end told c k call fits at = map-slice_get submission_of_call (calls_in end c) k call (ap (λ (l : List Submission). slice_get l k) (fits.calls c) ∙ at)
 
-left_said : (end : ToldEnd) (told : Told) (c k : ℕ) (said : ToldCall) → Fits end told → slice_get (calls_in end c) k ≡ Some said → FitsLeft said.left (kept_at (told.kept c) k)
+left_said : (end : ToldEnd) (told : Told) (c k : ℕ) (said : ToldCall) → Fits end told → slice_get (calls_in end c) k ≡ Some said
+    → FitsLeft said.left (kept_at (told.kept c) k)
 left_said end told c k said fits at =
-    subst (λ (l : Left). FitsLeft l (kept_at (told.kept c) k)) (ap (λ (o : Option ToldCall). option_map_or (λ (call : ToldCall). call.left) o Open) at) (fits.left c k)
+    subst (λ (l : Left). FitsLeft l (kept_at (told.kept c) k)) (ap (λ (o : Option ToldCall). option_map_or (λ (call : ToldCall). call.left) o Open) at)
+    (fits.left c k)
 
 answer_some : (left : Left) (answer own : Option Answer) → FitsLeft left answer → answer_lets left own ≡ true → is_some answer ≡ true
 answer_some Open answer own fits lets = cc
@@ -101,7 +97,8 @@ answer_own Open answer own fits lets reply = cc
 answer_own Reply answer own fits lets reply = lets
 answer_own Death answer own fits lets reply = let bad : true ≡ false = sym reply ∙ fits.1 in cc
 
-lets_answer : (left : Left) (answer own : Option Answer) → FitsLeft left answer → is_some answer ≡ true → (is_reply answer ≡ true → is_some own ≡ true) → answer_lets left own ≡ true
+lets_answer : (left : Left) (answer own : Option Answer) → FitsLeft left answer → is_some answer ≡ true → (is_reply answer ≡ true → is_some own ≡ true)
+    → answer_lets left own ≡ true
 lets_answer Open answer own fits some reply = let bad : true ≡ false = sym some ∙ ap (λ (o : Option Answer). is_some o) fits in cc
 lets_answer Reply answer own fits some reply = reply fits
 lets_answer Death answer own fits some reply = refl
@@ -115,18 +112,21 @@ may_hear end told c a h fits all = record {
   answered = λ k call at to.
       let said = said_call end told c k call fits at in
       let actor : said.0.actor ≡ a = ap (λ (s : Submission). s.actor) said.2 ∙ to in
-      answer_some said.0.left (kept_at (told.kept c) k) (kept_at (kept_of c h) k) (left_said end told c k said.0 fits said.1) (sym (lets_of a (kept_of c h) k said.0 actor) ∙ all k said.0 said.1);
+      answer_some said.0.left (kept_at (told.kept c) k) (kept_at (kept_of c h) k) (left_said end told c k said.0 fits said.1)
+      (sym (lets_of a (kept_of c h) k said.0 actor) ∙ all k said.0 said.1);
   heard = λ k call at to reply.
       let said = said_call end told c k call fits at in
       let actor : said.0.actor ≡ a = ap (λ (s : Submission). s.actor) said.2 ∙ to in
-      answer_own said.0.left (kept_at (told.kept c) k) (kept_at (kept_of c h) k) (left_said end told c k said.0 fits said.1) (sym (lets_of a (kept_of c h) k said.0 actor) ∙ all k said.0 said.1) reply;
+      answer_own said.0.left (kept_at (told.kept c) k) (kept_at (kept_of c h) k) (left_said end told c k said.0 fits said.1)
+      (sym (lets_of a (kept_of c h) k said.0 actor) ∙ all k said.0 said.1) reply;
 }
 
 all_let : (end : ToldEnd) (told : Told) (c a : ℕ) (h : History) → Fits end told → MayHear told c a h → AllLetHear a (kept_of c h) (calls_in end c)
 all_let end told c a h fits hears k said at = go (said.actor == a) refl
   where
     told_at : slice_get (told.calls c) k ≡ Some (submission_of_call said)
-    told_at = ap (λ (l : List Submission). slice_get l k) (sym (fits.calls c)) ∙ slice_get-map submission_of_call (calls_in end c) k ∙ ap (option_map submission_of_call) at
+    told_at = ap (λ (l : List Submission). slice_get l k) (sym (fits.calls c)) ∙ slice_get-map submission_of_call (calls_in end c) k
+        ∙ ap (option_map submission_of_call) at
 
     go : (b : Bool) → (said.actor == a) ≡ b → lets_hear a (kept_of c h) k said ≡ true
     go false e = rw e refl
@@ -137,7 +137,8 @@ all_let end told c a h fits hears k said at = go (said.actor == a) refl
 
 few_calls : (end : ToldEnd) (told : Told) (c : ℕ) → Fits end told → length (told.calls c) ≤ 65536 → length (calls_in end c) ≤ 65536
 few_calls end told c fits few =
-    let same : length (calls_in end c) ≡ length (told.calls c) = sym (length-map (calls_in end c) submission_of_call) ∙ ap (λ (l : List Submission). length l) (fits.calls c) in
+    let same : length (calls_in end c) ≡ length (told.calls c) = sym (length-map (calls_in end c) submission_of_call)
+    ∙ ap (λ (l : List Submission). length l) (fits.calls c) in
     omega (arith, few, same)
 
 -- one whom the actor's cast doesn't name is told nothing
@@ -156,14 +157,16 @@ knows end c a h owner is known = record {
 }
 
 pub hears_by : (end : ToldEnd) (c a : ℕ) (h : History) (owner : OwnerView) (all : Bool) → IsOwnerOf h c owner → is_known_dead owner a ≡ false
-    → (length (calls_in end c) ≤ 65536 → (all ≡ true → AllLetHear a owner.kept (calls_in end c)) × (AllLetHear a owner.kept (calls_in end c) → all ≡ true)) → Hears end c a h all
+    → (length (calls_in end c) ≤ 65536 → (all ≡ true → AllLetHear a owner.kept (calls_in end c)) × (AllLetHear a owner.kept (calls_in end c) → all ≡ true))
+    → Hears end c a h all
 hears_by end c a h owner all is known lets = record {
   yes = λ e told fits few. (
     may_hear end told c a h fits (subst (λ (l : List (Option Answer)). AllLetHear a l (calls_in end c)) is.kept ((lets (few_calls end told c fits few)).0 e)),
     λ has. let bad : true ≡ false = sym (known_death h c a owner is has) ∙ known in cc,
   );
   none = λ e told fits few hears never may.
-      let bad : true ≡ false = sym ((lets (few_calls end told c fits few)).1 (subst (λ (l : List (Option Answer)). AllLetHear a l (calls_in end c)) (sym is.kept) (all_let end told c a h fits hears))) ∙ e in
+      let bad : true ≡ false = sym ((lets (few_calls end told c fits few)).1
+      (subst (λ (l : List (Option Answer)). AllLetHear a l (calls_in end c)) (sym is.kept) (all_let end told c a h fits hears))) ∙ e in
       cc;
 }
 
@@ -172,7 +175,8 @@ hears_by end c a h owner all is known lets = record {
 told_few : (casts : List ActorSpec) (bound : ℕ → Option (List Step)) (told : Told) (c : ℕ) → SomeEnd casts bound told → length (told.calls c) ≤ 65536
 told_few casts bound told c s = subst (λ (l : List Submission). length l ≤ 65536) (s.1.leaves.calls c) ((world_lawful casts s.0).few c)
 
-pub hears_now : (c a j : ℕ) (old mid new : Parts) (told : Did) → Does (event.Tell a c) old mid (did_so.Told j) → Does (event.Collect j) mid new told → HearsNow c a old new
+pub hears_now : (c a j : ℕ) (old mid new : Parts) (told : Did) → Does (event.Tell a c) old mid (did_so.Told j) → Does (event.Collect j) mid new told
+    → HearsNow c a old new
 hears_now c a j old mid new told tells collects = record {
   mid = mid;
   place = j;
@@ -181,7 +185,8 @@ hears_now c a j old mid new told tells collects = record {
   last = λ casts h behind. told_place (tells.says casts h behind);
 }
 
-pub hear_moves : (end : ToldEnd) (c a : ℕ) (old new : Parts) → ((casts : List ActorSpec) (h : History) (before : List Event) → IsBehind casts h old.world before → Hears end c a h true)
+pub hear_moves : (end : ToldEnd) (c a : ℕ) (old new : Parts) → ((casts : List ActorSpec) (h : History) (before : List Event) → IsBehind casts h old.world before
+    → Hears end c a h true)
     → HearsNow c a old new → Moves end (NoTell c a) old new true
 hear_moves end c a old new may now = moves_yes end (NoTell c a) old new (record {
   stands = λ casts s. stands_event end casts (event.Collect now.place) now.mid new (λ d steps is. refl) now.collects
@@ -198,14 +203,16 @@ hear_moves end c a old new may now = moves_yes end (NoTell c a) old new (record 
       (kills_event (bound_of end) told g (event.Collect now.place) (kills_event (bound_of end) told h (event.Tell a c) w.asked));
 })
 
-pub hear_none : (end : ToldEnd) (c a : ℕ) (walk : Parts) → ((casts : List ActorSpec) (h : History) (before : List Event) → IsBehind casts h walk.world before → Hears end c a h false)
+pub hear_none : (end : ToldEnd) (c a : ℕ) (walk : Parts) → ((casts : List ActorSpec) (h : History) (before : List Event) → IsBehind casts h walk.world before
+    → Hears end c a h false)
     → Moves end (NoTell c a) walk walk false
 hear_none end c a walk none = moves_none end (NoTell c a) walk (λ casts told e s w.
     (none casts (history casts walk.events) walk.events s.behind).none refl told e.fits (told_few casts (bound_of end) told c e.some))
 
 -- ---- a loop over calls
 
-pub one_more : {X : Type 0} (p : ℕ → X → Bool) (xs : List X) (n : ℕ) (x : X) → x ≡ get_or xs n x → p n x ≡ true → ((k : ℕ) (y : X) → k < n → slice_get xs k ≡ Some y → p k y ≡ true)
+pub one_more : {X : Type 0} (p : ℕ → X → Bool) (xs : List X) (n : ℕ) (x : X) → x ≡ get_or xs n x → p n x ≡ true
+    → ((k : ℕ) (y : X) → k < n → slice_get xs k ≡ Some y → p k y ≡ true)
     → (k : ℕ) (y : X) → k < n + 1 → slice_get xs k ≡ Some y → p k y ≡ true
 one_more {X = X} p xs n x is holds before k y below at = go (cases_lt k n)
   where

@@ -1,19 +1,17 @@
 -- One event that is tried, and what it tells.
-use Rattle.act_early.proofs.Common.{◌≡◌, ℕ, Bool, List, [], ◌∷◌, ◌++◌, Option, Some, None, Ok, Err, refl, ap, sym, ◌∙◌, subst, Event, WorldRefusal, ActorSpec, History}
-use Rattle.act_early.proofs.Common.{append_assoc, append-nil, refusal_of, add_event, after, outcome_by, outcome_of, Outcome}
-use Rattle.act_plan_plays.proofs.Common.{OnOk, is_ok, Did, did, IsBehind}
-use Rattle.act_plan_plays.proofs.Events.{done_of, post_mail, post_none}
-use Rattle.std.proofs.Common.{OnErr}
+use Rattle.act_walks.proofs.Common.{◌≡◌, ℕ, Bool, List, [], ◌∷◌, ◌++◌, Option, Some, None, Ok, Err, refl, ap, sym, ◌∙◌, subst, Event, WorldRefusal, ActorSpec}
+use Rattle.act_walks.proofs.Common.{History, append_assoc, append-nil, refusal_of, add_event, after, outcome_by, outcome_of, Outcome, OnOk, is_ok, Did, did}
+use Rattle.act_walks.proofs.Common.{IsBehind, done_of, post_mail, post_none, OnErr, Parts, Does, DoesEvent, DoesPost, IsRefused, Tries, bring}
 use Rattle.act_rules.specs.declared.event.Event.TheVariants as event
 use Rattle.act_rules.specs.declared.outcome.Did.TheVariants as did_so
-use Rattle.act_walks.specs.Walking.{Parts, Does, DoesEvent, DoesPost, IsRefused, Tries, bring}
 
 -- what is told of an event that was tried
 abbrev pub IsTold : Event → Parts → Parts → Outcome → Type 0
 IsTold one old new outcome = (casts : List ActorSpec) (h : History) → IsBehind casts h old.world old.events →
     (outcome ≡ outcome_of h one) × IsBehind casts (after h one) new.world new.events
 
-pub done_event : (one : Event) (old new : Parts) (told : Did) → IsTold one old new (Ok told) → new.events ≡ old.events ++ one ∷ [] → new.done ≡ old.done → DoesEvent one old new
+pub done_event : (one : Event) (old new : Parts) (told : Did) → IsTold one old new (Ok told) → new.events ≡ old.events ++ one ∷ [] → new.done ≡ old.done
+    → DoesEvent one old new
 done_event one old new told is events done = record {
   events = events;
   done = done;
@@ -36,12 +34,14 @@ refused_event one old new refusal is same = record {
   refused = λ casts h behind none. not_refused h one refusal (is casts h behind).0 none;
 }
 
-pub tries : {X : Type 0} (one : Event) (old new : Parts) (outcome : Outcome) (b : Bool) → IsTold one old new outcome → OnOk outcome (new.events ≡ old.events ++ one ∷ []) → OnErr outcome X
+pub tries : {X : Type 0} (one : Event) (old new : Parts) (outcome : Outcome) (b : Bool) → IsTold one old new outcome
+    → OnOk outcome (new.events ≡ old.events ++ one ∷ []) → OnErr outcome X
     → (X → new ≡ old) → new.done ≡ old.done → b ≡ is_ok outcome → Tries one old new b
 tries one old new (Ok told) b is events refused same done e = subst (Tries one old new) (sym e) (done_event one old new told is events done)
 tries one old new (Err refusal) b is events refused same done e = subst (Tries one old new) (sym e) (refused_event one old new refusal is (same refused))
 
-pub tried_ok : (one : Event) (old new : Parts) (outcome : Outcome) (told : Did) → outcome ≡ Ok told → IsTold one old new outcome → OnOk outcome (new.events ≡ old.events ++ one ∷ [])
+pub tried_ok : (one : Event) (old new : Parts) (outcome : Outcome) (told : Did) → outcome ≡ Ok told → IsTold one old new outcome
+    → OnOk outcome (new.events ≡ old.events ++ one ∷ [])
     → new.done ≡ old.done → Does one old new told
 tried_ok one old new outcome told is says events done =
     let says_so : IsTold one old new (Ok told) = subst (IsTold one old new) is says in
@@ -52,7 +52,8 @@ tried_ok one old new outcome told is says events done =
       says = λ casts h behind. (done_of h one told (says_so casts h behind).0).1;
     }
 
-pub tried_err : {X : Type 0} (one : Event) (old new : Parts) (outcome : Outcome) → ((told : Did) → outcome ≡ Ok told → ⊥) → IsTold one old new outcome → OnErr outcome X → (X → new ≡ old)
+pub tried_err : {X : Type 0} (one : Event) (old new : Parts) (outcome : Outcome) → ((told : Did) → outcome ≡ Ok told → ⊥) → IsTold one old new outcome
+    → OnErr outcome X → (X → new ≡ old)
     → IsRefused one old new
 tried_err one old new (Ok told) none is refused same = absurd (none told refl)
 tried_err one old new (Err refusal) none is refused same = refused_event one old new refusal is (same refused)
@@ -73,7 +74,8 @@ posts_letter one old mid new told i does says mail brought letter more done = re
 }
 
 pub posts_brought : {X : Type 0} (one : Event) (old mid new : Parts) (told : Did) (i : ℕ) (outcome : Outcome) → Does one old mid told → told ≡ did_so.Mail i
-    → IsTold (event.Deliver i) mid new outcome → OnOk outcome (new.events ≡ mid.events ++ event.Deliver i ∷ []) → OnErr outcome X → (X → new ≡ mid) → new.done ≡ mid.done → DoesPost one old new
+    → IsTold (event.Deliver i) mid new outcome → OnOk outcome (new.events ≡ mid.events ++ event.Deliver i ∷ []) → OnErr outcome X → (X → new ≡ mid)
+    → new.done ≡ mid.done → DoesPost one old new
 posts_brought one old mid new told i (Ok arrived) does mail is kept refused same done =
     posts_letter one old mid new told i does.does does.says mail (λ casts h behind. (is casts h behind).1) (Some i) kept done
 posts_brought one old mid new told i (Err refusal) does mail is kept refused same done =

@@ -1,23 +1,14 @@
 -- What an eager walk may do next at once leaves it eager.
-use Rattle.act_early.proofs.Common.{◌≡◌, ℕ, true, false, List, length, Option, Some, None, refl, ap, sym, ◌∙◌, subst, arith, Contains, slice_get, is_some}
-use Rattle.act_early.proofs.Common.{Event, RunItem, Post, Submission, Step, Submit, Copy, Release, Kill, Await, Answer, kept_at, ActorSpec, History, opening}
-use Rattle.act_early.proofs.Common.{under, contains, calls_of, runs_of, kept_of, is_dead, refusal_of, add_event, after, after_by, Grows, added_grows, IsSound, kept_extends}
-use Rattle.act_early.proofs.Common.{MayTake, WorldRefusal, Contains-append_left}
+use Rattle.act_walks.proofs.Common.{◌≡◌, ℕ, true, false, List, length, Option, Some, None, refl, ap, sym, ◌∙◌, subst, arith, Contains, slice_get, is_some}
+use Rattle.act_walks.proofs.Common.{Event, RunItem, Post, Submission, Step, Submit, Copy, Release, Kill, Await, Answer, kept_at, ActorSpec, History, opening}
+use Rattle.act_walks.proofs.Common.{under, contains, calls_of, runs_of, kept_of, is_dead, refusal_of, add_event, after, after_by, Grows, added_grows, IsSound}
+use Rattle.act_walks.proofs.Common.{kept_extends, MayTake, WorldRefusal, Contains-append_left, DeathPost, Did, did, Told, Calls, Asks, DoesWithout, TakesKill}
+use Rattle.act_walks.proofs.Common.{IsNextRun, IsWalked, Begins, Mails, Brings, one_step_more, late_play, going, IsGoing, IsBrought, after_mail, after_post}
+use Rattle.act_walks.proofs.Common.{after_move, brought_kept, brought_release, brought_send, SomeEnd, RepliesAreKept, DeathsAreHeard, IsEager, front_whole}
 use Rattle.act_rules.specs.declared.event.Event.TheVariants as event
-use Rattle.act_rules.specs.declared.history.Post.TheVariants.{Death as DeathPost}
-use Rattle.act_rules.specs.declared.outcome.Did.{Did}
 use Rattle.act_rules.specs.declared.outcome.Did.TheVariants as did_so
-use Rattle.act_rules.specs.Rules.{did}
-use Rattle.act_told_ends.specs.Told.{Told}
-use Rattle.act_told_ends.specs.Walks.{Calls, Asks, Steps, DoesWithout, TakesKill, IsNextRun}
-use Rattle.act_told_ends.specs.Walked.{IsWalked, Begins, GoesOn, Mails, Brings, one_step_more}
-use Rattle.act_told_ends.proofs.Bridge.{late_play}
-use Rattle.act_told_ends.proofs.Stepped.{going}
-use Rattle.act_told_ends.proofs.Walked.{IsGoing}
-use Rattle.act_plan_plays.specs.Parts.{IsBrought, after_mail, after_post, after_move}
-use Rattle.act_plan_plays.proofs.Brought.{brought_kept, brought_release, brought_send}
-use Rattle.act_walks.specs.Eager.{SomeEnd, RepliesAreKept, DeathsAreHeard, IsEager}
-use Rattle.act_rules.proofs.Lists.{front_whole}
+use Rattle.act_told_ends.specs.Walks.{Steps}
+use Rattle.act_told_ends.specs.Walked.{GoesOn}
 
 -- what a walk keeps, where some events end as is told
 pub going_of : (casts : List ActorSpec) (bound : ℕ → Option (List Step)) (told : Told) → SomeEnd casts bound told → (done : ℕ → ℕ) (h : History)
@@ -53,7 +44,8 @@ pub record IsNear (casts : List ActorSpec) (bound : ℕ → Option (List Step)) 
   pub heard : DeathsAreHeard h
 
 -- an event that posts nothing and runs nothing
-quiet_near : (casts : List ActorSpec) (bound : ℕ → Option (List Step)) (told : Told) → SomeEnd casts bound told → (done next : ℕ → ℕ) (h : History) (other : Event)
+quiet_near : (casts : List ActorSpec) (bound : ℕ → Option (List Step)) (told : Told) → SomeEnd casts bound told
+    → (done next : ℕ → ℕ) (h : History) (other : Event)
     → IsNear casts bound told done h → (add_event h other).posts ≡ h.posts → (add_event h other).ran ≡ h.ran
     → IsWalked casts bound told next (add_event h other) → IsNear casts bound told next (add_event h other)
 quiet_near casts bound told s done next h other near posts ran walked = record {

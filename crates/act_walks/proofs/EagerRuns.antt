@@ -1,28 +1,18 @@
 -- A run that is told, whose reply is kept at once or lost, and a death that is heard at once, leave a walk eager.
-use Rattle.act_early.proofs.Common.{◌≡◌, ℕ, true, false, List, [], ◌∷◌, ◌++◌, length, Option, Some, None, inl, inr, ◌⊎◌, refl, ap, sym, ◌∙◌, subst, Contains, cond}
-use Rattle.act_early.proofs.Common.{Bool, slice_get, is_some, eq-eqb, RunItem, Post, Submission, Step, Answer, kept_at, ActorSpec, History, calls_of}
-use Rattle.act_early.proofs.Common.{runs_of, kept_of, next_item, refusal_of, add_event, after_run, and_also, under-push, Grows, added_grows, runs_grow}
-use Rattle.act_early.proofs.Common.{IsSound, IsSoundPost, IsPrefix, All_at, slice_get_front, slice_get_last, run_needs, is_reply, At}
-use Rattle.act_early.proofs.Common.{Contains-append_left}
+use Rattle.act_walks.proofs.Common.{◌≡◌, ℕ, true, false, List, [], ◌∷◌, ◌++◌, length, Option, Some, None, inl, inr, ◌⊎◌, refl, ap, sym, ◌∙◌, subst, Contains}
+use Rattle.act_walks.proofs.Common.{cond, Bool, slice_get, is_some, eq-eqb, RunItem, Post, Submission, Step, Answer, kept_at, ActorSpec, History, calls_of}
+use Rattle.act_walks.proofs.Common.{runs_of, kept_of, next_item, refusal_of, add_event, after_run, and_also, under-push, Grows, added_grows, runs_grow, IsSound}
+use Rattle.act_walks.proofs.Common.{IsSoundPost, IsPrefix, All_at, slice_get_front, slice_get_last, run_needs, is_reply, At, Contains-append_left, ReplyPost}
+use Rattle.act_walks.proofs.Common.{DeathPost, next_unanswered, IsWorld, world, Told, Runs, Collects, Tells, IsNextRun, MayHear, IsWalked, IsLate, late_play}
+use Rattle.act_walks.proofs.Common.{push_at, IsGoing, hear_more, quiet_kept, collect_may, IsBrought, brought_kept, SomeEnd, RepliesAreKept, DeathsAreHeard}
+use Rattle.act_walks.proofs.Common.{IsEager, place_in, stands_in}
 use Rattle.act_rules.proofs.Growth.{after_run_grows}
 use Rattle.act_rules.specs.declared.event.Event.TheVariants as event
-use Rattle.act_rules.specs.declared.history.Post.TheVariants.{Reply as ReplyPost, Death as DeathPost}
 use Rattle.act_early.proofs.Items.{ready, same_item}
-use Rattle.act_early.proofs.Unanswered.{next_unanswered}
-use Rattle.act_early.proofs.Worlds.{IsWorld, world}
-use Rattle.act_told_ends.specs.Told.{Told}
-use Rattle.act_told_ends.specs.Walks.{Runs, Collects, Tells, Hears, IsNextRun, MayHear}
-use Rattle.act_told_ends.specs.Walked.{IsWalked, GoesOn}
-use Rattle.act_told_ends.proofs.Bridge.{IsLate, late_play}
-use Rattle.act_told_ends.proofs.Lists.{push_at}
+use Rattle.act_told_ends.specs.Walks.{Hears}
+use Rattle.act_told_ends.specs.Walked.{GoesOn}
 use Rattle.act_told_ends.proofs.Posted.{reply_answers}
-use Rattle.act_told_ends.proofs.Walked.{IsGoing, hear_more, quiet_kept}
-use Rattle.act_told_ends.proofs.Resting.{collect_may}
-use Rattle.act_plan_plays.specs.Parts.{IsBrought}
-use Rattle.act_plan_plays.proofs.Brought.{brought_kept}
-use Rattle.act_walks.specs.Eager.{SomeEnd, RepliesAreKept, DeathsAreHeard, IsEager}
 use Rattle.act_walks.proofs.Eager.{going_of, some_stays}
-use Rattle.act_lists.proofs.Lists.{place_in, stands_in}
 
 -- ---- what runs next is what is told
 
@@ -135,7 +125,8 @@ which_death : (h : History) (a : ℕ) (item : RunItem) (j d b : ℕ) → slice_g
     → slice_get h.posts j ≡ Some (DeathPost d b)
 which_death h a item j d b at = go (push_at h.posts (reply_of a item h) (DeathPost d b) j at)
   where
-    go : (slice_get h.posts j ≡ Some (DeathPost d b)) ⊎ ((j ≡ length h.posts) × (DeathPost d b ≡ reply_of a item h)) → slice_get h.posts j ≡ Some (DeathPost d b)
+    go : (slice_get h.posts j ≡ Some (DeathPost d b)) ⊎ ((j ≡ length h.posts) × (DeathPost d b ≡ reply_of a item h))
+        → slice_get h.posts j ≡ Some (DeathPost d b)
     go (inl before) = before
     go (inr last) = let bad : DeathPost d b ≡ ReplyPost item.caller a (length (runs_of a h)) = last.1 in cc
 

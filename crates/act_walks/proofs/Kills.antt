@@ -1,14 +1,9 @@
 -- The kills that were asked stay asked.
-use Rattle.act_early.proofs.Common.{◌≡◌, ℕ, true, List, Option, Some, None, refl, ap, ◌∙◌, ◌||◌, contains, Event, RunItem, Step, Submit, Copy, Release, Kill, Await}
-use Rattle.act_early.proofs.Common.{WorldRefusal, ActorSpec, History, names, refusal_of, next_item, add_event, after, after_by, after_run, sym, ◌==◌, find, Bool}
+use Rattle.act_walks.proofs.Common.{◌≡◌, ℕ, true, List, Option, Some, None, refl, ap, ◌∙◌, ◌||◌, contains, Event, RunItem, Step, Submit, Copy, Release, Kill}
+use Rattle.act_walks.proofs.Common.{Await, WorldRefusal, ActorSpec, History, names, refusal_of, next_item, add_event, after, after_by, after_run, sym, ◌==◌}
+use Rattle.act_walks.proofs.Common.{find, Bool, Did, did, contains_push, Told, after_mail, after_post, after_move, KillsAreAsked}
 use Rattle.act_rules.specs.declared.event.Event.TheVariants as event
-use Rattle.act_rules.specs.declared.outcome.Did.{Did}
 use Rattle.act_rules.specs.declared.outcome.Did.TheVariants as did_so
-use Rattle.act_rules.specs.Rules.{did}
-use Rattle.act_early.proofs.Worlds.{contains_push}
-use Rattle.act_told_ends.specs.Told.{Told}
-use Rattle.act_plan_plays.specs.Parts.{after_mail, after_post, after_move}
-use Rattle.act_walks.specs.Eager.{KillsAreAsked}
 
 -- with the same casts, and no kill less
 record IsNoLess (h g : History) : Type 0 where

@@ -1,3 +1,4 @@
+pub mod Common
 pub mod Eager
 pub mod EagerRuns
 pub mod Kills

@@ -1,44 +1,42 @@
 -- How a walk goes on: one event, one thing after the other, and rounds.
-use Rattle.act_early.proofs.Common.{◌≡◌, ℕ, ◌+◌, Bool, true, false, List, [], ◌∷◌, ◌++◌, Option, Some, None, refl, ap, sym, ◌∙◌, subst, append_assoc, append-nil, arith}
-use Rattle.act_early.proofs.Common.{◌||◌, inl, inr, ◌⊎◌, cases_lt, Event, Step, ActorSpec, History}
-use Rattle.act_early.proofs.Common.{add_event, history}
-use Rattle.act_plan_plays.proofs.Common.{◌<◌, ◌≤◌, ◌==◌, ◌≢◌, slice_get, slice_set, eqb-true, eq-eqb, WorldView, IsBehind, after_post, get_set-same, get_set-other}
+use Rattle.act_walks.proofs.Common.{◌≡◌, ℕ, ◌+◌, Bool, true, false, List, [], ◌∷◌, ◌++◌, Option, Some, None, refl, ap, sym, ◌∙◌, subst, append_assoc}
+use Rattle.act_walks.proofs.Common.{append-nil, arith, ◌||◌, inl, inr, ◌⊎◌, cases_lt, Event, Step, ActorSpec, History, add_event, history, ◌<◌, ◌≤◌, ◌==◌, ◌≢◌}
+use Rattle.act_walks.proofs.Common.{slice_get, slice_set, eqb-true, eq-eqb, WorldView, IsBehind, after_post, get_set-same, get_set-other, Told, one_step_more}
+use Rattle.act_walks.proofs.Common.{ToldEnd, IsEager, KillsAreAsked, bound_of, step_of, IsPaced, Others, Parts, done_in, Stands, IsEndOf, IsWalking, GoesOn}
+use Rattle.act_walks.proofs.Common.{Moves, DoesEvent, DoesPost, bring, or_parts}
 use Rattle.act_rules.specs.declared.event.Event.TheVariants as event
-use Rattle.act_told_ends.specs.Told.{Told}
-use Rattle.act_told_ends.specs.Walked.{one_step_more}
-use Rattle.act_walks.specs.declared.told.ToldEnd.{ToldEnd}
-use Rattle.act_walks.specs.Eager.{IsEager, KillsAreAsked}
-use Rattle.act_walks.specs.Fits.{bound_of}
-use Rattle.act_executor.specs.PlanPlays.{step_of}
-use Rattle.act_walks.specs.Paced.{IsPaced, Others}
-use Rattle.act_walks.specs.Walking.{Parts, done_in, Stands, IsEndOf, IsWalking, GoesOn, Moves, DoesEvent, DoesPost, bring}
-use Rattle.std.proofs.lemmas.Bool.{or_parts}
 
 -- ---- where it stands
 
 -- the history of a world is that of its events
-pub behind_here : (casts : List ActorSpec) (h : History) (world : WorldView) (events : List Event) → IsBehind casts h world events → IsBehind casts (history casts events) world events
+pub behind_here : (casts : List ActorSpec) (h : History) (world : WorldView) (events : List Event) → IsBehind casts h world events
+    → IsBehind casts (history casts events) world events
 behind_here casts h world events b = record { is = refl; reached = b.reached; accepted = b.accepted }
 
 -- an event that is no step of a bound caller
-pub stands_event : (end : ToldEnd) (casts : List ActorSpec) (one : Event) (old new : Parts) → ((c : ℕ) (steps : List Step) → bound_of end c ≡ Some steps → step_of c one ≡ None)
+pub stands_event : (end : ToldEnd) (casts : List ActorSpec) (one : Event) (old new : Parts)
+    → ((c : ℕ) (steps : List Step) → bound_of end c ≡ Some steps → step_of c one ≡ None)
     → DoesEvent one old new → Stands end casts old → Stands end casts new
 stands_event end casts one old new strange does s = record {
   behind = behind_here casts (add_event (history casts old.events) one) new.world new.events (does.behind casts (history casts old.events) s.behind).1;
   paced = subst (λ (l : List Event). IsPaced casts (bound_of end) (done_in new.done) l) (sym does.events)
-      (subst (λ (d : List ℕ). IsPaced casts (bound_of end) (done_in d) (old.events ++ one ∷ [])) (sym does.done) (Others (done_in old.done) old.events one strange s.paced));
+      (subst (λ (d : List ℕ). IsPaced casts (bound_of end) (done_in d) (old.events ++ one ∷ [])) (sym does.done)
+      (Others (done_in old.done) old.events one strange s.paced));
 }
 
-pub paced_letter : (casts : List ActorSpec) (bound : ℕ → Option (List Step)) (done : ℕ → ℕ) (events : List Event) (letter : Option ℕ) → IsPaced casts bound done events
+pub paced_letter : (casts : List ActorSpec) (bound : ℕ → Option (List Step)) (done : ℕ → ℕ) (events : List Event) (letter : Option ℕ)
+    → IsPaced casts bound done events
     → IsPaced casts bound done (events ++ bring letter)
 paced_letter casts bound done events None paced = subst (IsPaced casts bound done) (sym (append-nil events)) paced
 paced_letter casts bound done events (Some i) paced = Others done events (event.Deliver i) (λ c steps is. refl) paced
 
-pub stands_post : (end : ToldEnd) (casts : List ActorSpec) (one : Event) (old new : Parts) → ((c : ℕ) (steps : List Step) → bound_of end c ≡ Some steps → step_of c one ≡ None)
+pub stands_post : (end : ToldEnd) (casts : List ActorSpec) (one : Event) (old new : Parts)
+    → ((c : ℕ) (steps : List Step) → bound_of end c ≡ Some steps → step_of c one ≡ None)
     → DoesPost one old new → Stands end casts old → Stands end casts new
 stands_post end casts one old new strange does s = record {
   behind = behind_here casts (after_post one (history casts old.events)) new.world new.events (does.behind casts (history casts old.events) s.behind).1;
-  paced = subst (λ (l : List Event). IsPaced casts (bound_of end) (done_in new.done) l) (sym (does.events ∙ sym (append_assoc old.events (one ∷ []) (bring does.letter))))
+  paced = subst (λ (l : List Event). IsPaced casts (bound_of end) (done_in new.done) l)
+      (sym (does.events ∙ sym (append_assoc old.events (one ∷ []) (bring does.letter))))
       (subst (λ (d : List ℕ). IsPaced casts (bound_of end) (done_in d) ((old.events ++ one ∷ []) ++ bring does.letter)) (sym does.done)
       (paced_letter casts (bound_of end) (done_in old.done) (old.events ++ one ∷ []) does.letter (Others (done_in old.done) old.events one strange s.paced)));
 }
@@ -46,7 +44,8 @@ stands_post end casts one old new strange does s = record {
 -- ---- where some events end as is told
 
 -- a walk keeps to what is told where its history is eager by its counts of steps, and the kills were asked
-pub walking_to : (end : ToldEnd) (casts : List ActorSpec) (told : Told) (done : ℕ → ℕ) (new : Parts) (g : History) → done ≡ done_in new.done → g ≡ history casts new.events
+pub walking_to : (end : ToldEnd) (casts : List ActorSpec) (told : Told) (done : ℕ → ℕ) (new : Parts) (g : History) → done ≡ done_in new.done
+    → g ≡ history casts new.events
     → IsEager casts (bound_of end) told done g → KillsAreAsked (bound_of end) told g → IsWalking end casts told new
 walking_to end casts told done new g same is eager asked = record {
   eager = subst (λ (d : ℕ → ℕ). IsEager casts (bound_of end) told d (history casts new.events)) same (subst (IsEager casts (bound_of end) told done) is eager);
@@ -65,7 +64,8 @@ done_more c slot n done same at = λ i d. each d i
         go true e =
             let is : c ≡ d = eqb-true c d e in
             let one : slice_get (slice_set done slot (n + 1)) d ≡ Some (n + 1) =
-            ap (λ (m : ℕ). slice_get (slice_set done m (n + 1)) d) same ∙ ap (λ (m : ℕ). slice_get (slice_set done c (n + 1)) m) (sym is) ∙ get_set-same done c n (n + 1) at in
+            ap (λ (m : ℕ). slice_get (slice_set done m (n + 1)) d) same ∙ ap (λ (m : ℕ). slice_get (slice_set done c (n + 1)) m) (sym is)
+            ∙ get_set-same done c n (n + 1) at in
             rw (e, one, ap (slice_get done) (sym is) ∙ at) refl
         go false e =
             let apart : slot ≢ d = λ other. let bad : true ≡ false = sym (eq-eqb c d (sym same ∙ other)) ∙ e in cc in
@@ -89,7 +89,8 @@ Nothing = Told → (ℕ → ℕ) → History → Type 0
 
 -- a walk that stays where it is didn't move, if what would move it can't be done of what is told
 pub moves_none : (end : ToldEnd) (none : Nothing) (walk : Parts)
-    → ((casts : List ActorSpec) (told : Told) → IsEndOf end casts told → Stands end casts walk → IsWalking end casts told walk → none told (done_in walk.done) (history casts walk.events))
+    → ((casts : List ActorSpec) (told : Told) → IsEndOf end casts told → Stands end casts walk → IsWalking end casts told walk
+    → none told (done_in walk.done) (history casts walk.events))
     → Moves end none walk walk false
 moves_none end none walk holds = record { goes = goes_same end walk; still = λ _ casts told e s w. (refl, holds casts told e s w) }
 
@@ -105,8 +106,11 @@ moves_both end first second both p q r moved join one two = record {
   goes = goes_trans end p q r one.goes two.goes;
   still = λ none casts told e s w.
       let f = one.still refl casts told e s w in
-      let g = two.still none casts told e (one.goes.stands casts s) (one.goes.walks casts told e s w) in
-      (g.0 ∙ f.0, join told (done_in p.done) (history casts p.events) f.1 (subst (λ (x : Parts). second told (done_in x.done) (history casts x.events)) f.0 g.1));
+      let g = two.still none casts told e (one.goes.stands casts s) (one.goes.walks casts told e s w) in (
+        g.0 ∙ f.0,
+        join told (done_in p.done) (history casts p.events) f.1
+            (subst (λ (x : Parts). second told (done_in x.done) (history casts x.events)) f.0 g.1),
+      );
 }
 
 -- the last of many
@@ -132,8 +136,11 @@ moves_row end none n m p q r one two is first second = record {
       let both = or_parts one two e in
       let f = first.still both.0 casts told en s w in
       let g = second.still both.1 casts told en (first.goes.stands casts s) (first.goes.walks casts told en s w) in
-      let last = subst (λ (x : Parts). none m told (done_in x.done) (history casts x.events)) f.0 g.1 in
-      (g.0 ∙ f.0, λ k from upto. row told (done_in p.done) (history casts p.events) f.1 (subst (λ (x : ℕ). none x told (done_in p.done) (history casts p.events)) is last) k from upto);
+      let last = subst (λ (x : Parts). none m told (done_in x.done) (history casts x.events)) f.0 g.1 in (
+        g.0 ∙ f.0,
+        λ k from upto. row told (done_in p.done) (history casts p.events) f.1
+            (subst (λ (x : ℕ). none x told (done_in p.done) (history casts p.events)) is last) k from upto,
+      );
 }
   where
     row : (told : Told) (done : ℕ → ℕ) (h : History) → ((k : ℕ) → 1 ≤ k → k ≤ n → none k told done h) → none (n + 1) told done h
@@ -146,4 +153,5 @@ moves_row end none n m p q r one two is first second = record {
 
 -- a walk that tried no number of a row yet is where it was, and didn't move
 pub row_none : (end : ToldEnd) (none : ℕ → Nothing) (walk : Parts) → Moves end (λ told done h. (k : ℕ) → 1 ≤ k → k ≤ 0 → none k told done h) walk walk false
-row_none end none walk = moves_none end (λ told done h. (k : ℕ) → 1 ≤ k → k ≤ 0 → none k told done h) walk (λ casts told e s w k from upto. absurd (omega arith))
+row_none end none walk = moves_none end (λ told done h. (k : ℕ) → 1 ≤ k → k ≤ 0 → none k told done h) walk
+    (λ casts told e s w k from upto. absurd (omega arith))

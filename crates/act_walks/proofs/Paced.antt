@@ -1,20 +1,11 @@
 -- A caller that keeps to its steps does them as a plan.
-use Rattle.std.proofs.Common.{◌≡◌, ℕ, ◌+◌, ◌<◌, ◌≤◌, ◌==◌, Bool, true, false, List, [], ◌∷◌, ◌++◌, length, map, take, slice_get, Option, Some, None, inl, inr, refl, sym}
-use Rattle.std.proofs.Common.{ap, ◌∙◌, subst, append_assoc, arith, if◌then◌else◌, All}
-use Rattle.std.proofs.lemmas.Bool.{eqb-true}
-use Rattle.std.proofs.lemmas.List.{append-nil, map-append, take_all}
-use Rattle.std.proofs.lemmas.List.Elements.{All-append, All-cons, All-head, All-nil, All-tail}
-use Rattle.std.proofs.lemmas.Option.{slice_get_within}
-use Rattle.act_rules.specs.declared.event.Event.{Event}
+use Rattle.act_walks.proofs.Common.{◌≡◌, ℕ, ◌+◌, ◌<◌, ◌≤◌, ◌==◌, Bool, true, false, List, [], ◌∷◌, ◌++◌, length, map, take, slice_get, Option, Some, None, inl}
+use Rattle.act_walks.proofs.Common.{inr, refl, sym, ap, ◌∙◌, subst, append_assoc, arith, if◌then◌else◌, All, eqb-true, append-nil, map-append, take_all}
+use Rattle.act_walks.proofs.Common.{All-append, All-cons, All-head, All-nil, All-tail, slice_get_within, Event, Step, ActorSpec, one_step_more, step_of}
+use Rattle.act_walks.proofs.Common.{DoesStepIn, DoesPlanIn, IsPaced, Starts, Steps, Others, Closes, AreAllDone, DoesAllItsSteps, is_restful, OnlyRests}
 use Rattle.act_rules.specs.declared.event.Event.TheVariants as event
-use Rattle.act_rules.specs.declared.script.Step.{Step}
 use Rattle.act_rules.specs.declared.script.Step.TheVariants as step
-use Rattle.act_rules.specs.History.{ActorSpec}
 use Rattle.act_early.proofs.Counting.{take-at}
-use Rattle.act_told_ends.specs.Walked.{one_step_more}
-use Rattle.act_executor.specs.PlanPlays.{step_of, DoesStepIn, DoesPlanIn}
-use Rattle.act_walks.specs.Paced.{IsPaced, Starts, Steps, Others, Closes, AreAllDone, DoesAllItsSteps, DoesTheFirst}
-use Rattle.act_walks.specs.Rested.{is_restful, OnlyRests}
 
 module _ (casts : List ActorSpec) (c : ℕ) where
   abbrev IsStrange : Event → Type 0
@@ -180,12 +171,6 @@ does_all_its_steps casts bound done events c steps paced is all =
     let so_far = did casts bound c steps is done events paced in
     let whole : take (done c) steps ≡ steps = take_all (done c) steps (omega arith) in
     (so_far.closing, subst (λ (front : List Step). DoesPlanIn casts c (front ++ map (λ (a : ℕ). step.Release a) so_far.closing) [] events) whole so_far.does)
-
-pub does_the_first : DoesTheFirst
-does_the_first casts bound done events c steps paced is some =
-    let so_far = did casts bound c steps is done events paced in
-    subst (λ (plan : List Step). DoesPlanIn casts c plan [] events)
-    (ap (λ (l : List ℕ). take (done c) steps ++ map (λ (a : ℕ). step.Release a) l) (so_far.last some) ∙ append-nil (take (done c) steps)) so_far.does
 
 -- ---- how far they are
 

@@ -1,40 +1,19 @@
 -- How a walk rests: events of that time one after the other.
-use Rattle.std.proofs.Common.{◌≡◌, ℕ, ◌+◌, ◌<◌, ◌≤◌, ◌==◌, nat_lt, length, get_or, take, arith, Bool, true, false, List, [], ◌∷◌, ◌++◌, Option, Some, None, Result, Ok, Err, inl, inr, ◌⊎◌, refl, ap, sym, ◌∙◌, subst, append_assoc, OnOk, OnErr, is_some, option_map, slice_get}
-use Rattle.std.proofs.lemmas.Option.{get_or_from_slice_get, slice_get-get_or, slice_get_within}
-use Rattle.std.specs.Global.{Vec}
+use Rattle.act_walks.proofs.Common.{◌≡◌, ℕ, ◌+◌, ◌<◌, ◌≤◌, ◌==◌, nat_lt, length, get_or, take, arith, Bool, true, false, List, [], ◌∷◌, ◌++◌, Option, Some}
+use Rattle.act_walks.proofs.Common.{None, Result, Ok, Err, inl, inr, ◌⊎◌, refl, ap, sym, ◌∙◌, subst, append_assoc, OnOk, OnErr, is_some, option_map, slice_get}
+use Rattle.act_walks.proofs.Common.{get_or_from_slice_get, slice_get-get_or, slice_get_within, Vec, option_map_or, cases_lt, eqb-true, or_cases, append-nil}
+use Rattle.act_walks.proofs.Common.{take_more, All-append, All-cons, All-nil, Event, Did, WorldRefusal, ActorSpec, History, opening, contains, cast_of, names}
+use Rattle.act_walks.proofs.Common.{is_caller, copies_of, history, refusal_of, outcome_of, outcome_by, did, add_event, after, needs, NoActor, Handle, NoCaller}
+use Rattle.act_walks.proofs.Common.{Step, needs-none, option_map-none, copies_named, contains_push, WorldView, IsBehind, after_mail, after_post, done_of, Told}
+use Rattle.act_walks.proofs.Common.{RetiredAsTold, ToldActor, ToldEnd, SomeEnd, IsAtRest, callers_of, Fits, FitsCasts, is_restful, OnlyRests, RestsOn}
+use Rattle.act_walks.proofs.Common.{IsToldRetired, SaysRetired, CannotHappen, HoldNone, IsSettled, AreSettled}
 use Rattle.std.specs.List.{find}
-use Rattle.std.specs.Option.{option_map_or}
-use Rattle.std.proofs.lemmas.Bool.{cases_lt, eqb-true, or_cases}
 use Rattle.std.proofs.lemmas.Bool.Decides.{nat_tests}
-use Rattle.std.proofs.lemmas.List.{append-nil, take_all, take_more}
-use Rattle.std.proofs.lemmas.List.Elements.{All-append, All-cons, All-nil}
-use Rattle.act_rules.specs.declared.event.Event.{Event}
 use Rattle.act_rules.specs.declared.event.Event.TheVariants as event
-use Rattle.act_rules.specs.declared.outcome.Did.{Did}
 use Rattle.act_rules.specs.declared.outcome.Did.TheVariants as did_so
-use Rattle.act_rules.specs.declared.outcome.WorldRefusal.{WorldRefusal}
-use Rattle.act_rules.specs.History.{ActorSpec, History, opening, contains, cast_of, names, is_caller, copies_of}
-use Rattle.act_rules.specs.Laws.{history}
-use Rattle.act_rules.specs.Rules.{refusal_of, outcome_of, outcome_by, did, add_event, after}
-use Rattle.act_rules.specs.Submissions.{needs, copies_held, handle_refusal}
-use Rattle.act_rules.specs.declared.outcome.HandleRefusal.TheVariants.{NoActor, NoHandle}
-use Rattle.act_rules.specs.declared.outcome.WorldRefusal.TheVariants.{Handle, NoCaller}
-use Rattle.act_rules.specs.declared.script.Step.{Step}
-use Rattle.act_rules.proofs.Ended.{needs-none}
-use Rattle.act_rules.proofs.Lists.{option_map-none}
-use Rattle.act_rules.proofs.RanAll.{copies_named}
-use Rattle.act_early.proofs.Worlds.{contains_push}
-use Rattle.act_world.specs.View.{WorldView}
-use Rattle.act_plan_plays.specs.Parts.{IsBehind, after_mail, after_post}
+use Rattle.act_rules.specs.Submissions.{copies_held, handle_refusal}
+use Rattle.act_rules.specs.declared.outcome.HandleRefusal.TheVariants.{NoHandle}
 use Rattle.act_plan_plays.specs.declared.choice.PlayFault.{PlayFault}
-use Rattle.act_plan_plays.proofs.Events.{done_of}
-use Rattle.act_told_ends.specs.Told.{Told}
-use Rattle.act_told_ends.specs.Retiring.{RetiredAsTold}
-use Rattle.act_walks.specs.declared.told.ToldActor.{ToldActor}
-use Rattle.act_walks.specs.declared.told.ToldEnd.{ToldEnd}
-use Rattle.act_walks.specs.Eager.{SomeEnd, IsAtRest}
-use Rattle.act_walks.specs.Fits.{callers_of, Fits, FitsCasts}
-use Rattle.act_walks.specs.Rested.{is_restful, OnlyRests, RestsOn, IsToldRetired, SaysRetired, CannotHappen, HoldNone, IsSettled, AreSettled}
 use Rattle.act_walks.proofs.AtRest as at_rest
 use Rattle.act_walks.proofs.Onward.{behind_here}
 use Rattle.act_executor.proofs.PlaysOfThreads.AsPlay.{casts_stay}
@@ -190,10 +169,6 @@ tells_none b e = cc
 pub not_first : (n : ℕ) → tells (nat_lt 0 n) ≡ tells false → n ≡ 0
 not_first n e = let none : nat_lt 0 n ≡ false = cc in grind (arith, nat_tests)
 
--- of no callers, none can let a handle go
-pub hold_none : (a : ℕ) (world : WorldView) (events : List Event) → HoldNone [] a world events
-hold_none a world events c e = cc
-
 -- one caller more that can let no handle go
 pub hold_more : (callers : List ℕ) (i c a : ℕ) (world : WorldView) (events : List Event) → i < length callers → c ≡ get_or callers i c
     → HoldNone (take i callers) a world events
@@ -214,19 +189,12 @@ pub hold_same : (callers : List ℕ) (a : ℕ) {old new : WorldView} {before lat
 hold_same callers a {old = old} {new = new} {before = before} {later = later} world events hold =
     subst (λ (w : WorldView). HoldNone callers a w later) (sym world) (subst (λ (l : List Event). HoldNone callers a old l) (sym events) hold)
 
-pub hold_all : (callers : List ℕ) (i a : ℕ) (world : WorldView) (events : List Event) → length callers ≤ i → HoldNone (take i callers) a world events
-    → HoldNone callers a world events
-hold_all callers i a world events whole hold = subst (λ (l : List ℕ). HoldNone l a world events) (take_all i callers whole) hold
-
 -- ---- all actors
 
 -- so of the actors below this number
 abbrev pub SettledBelow : ℕ → List ToldActor → WorldView → List Event → Type 0
 SettledBelow n actors world events = (a : ℕ) (actor : ToldActor) → a < n → slice_get actors a ≡ Some actor → actor.is_retired ≡ true →
     IsSettled actor.callers.items a world events
-
-pub settled_none : (actors : List ToldActor) (world : WorldView) (events : List Event) → SettledBelow 0 actors world events
-settled_none actors world events a actor below at is = absurd (omega arith)
 
 pub settled_more : (n : ℕ) (actors : List ToldActor) (one : ToldActor) (world : WorldView) (events : List Event) → one ≡ get_or actors n one
     → SettledBelow n actors world events

@@ -1,25 +1,19 @@
 -- Rounds, until nothing can be done: the walk is through.
-use Rattle.act_early.proofs.Common.{◌≡◌, ℕ, Bool, true, false, List, [], ◌∷◌, Option, Some, None, refl, ap, sym, ◌∙◌, subst, ◌==◌, ◌||◌, slice_get, option_map, is_some, Event}
-use Rattle.act_early.proofs.Common.{RunItem, Submission, Step, Submit, Copy, Release, Kill, Await, NoCaller, Handle, ActorSpec, History, opening, history, contains, names}
-use Rattle.act_early.proofs.Common.{cast_of, is_caller, calls_of, copies_of, kept_of, kept_at, next_item, refusal_of, after_run, needs-none}
-use Rattle.act_early.proofs.Common.{handle_refusal, copy_refusal, copies_named, MayTake, IsKept, after_all_keeps, run_needs, first_answer, map, eqb-true, Retires}
-use Rattle.act_plan_plays.proofs.Common.{◌≤◌, enumerate_from, named_call}
-use Rattle.act_early.proofs.Worlds.{contains_push, either_of, take_needs}
+use Rattle.act_walks.proofs.Common.{◌≡◌, ℕ, Bool, true, false, List, [], ◌∷◌, Option, Some, None, refl, ap, sym, ◌∙◌, subst, ◌==◌, ◌||◌, slice_get, option_map}
+use Rattle.act_walks.proofs.Common.{is_some, Event, RunItem, Submission, Step, Submit, Copy, Release, Kill, Await, NoCaller, Handle, ActorSpec, History}
+use Rattle.act_walks.proofs.Common.{opening, history, contains, names, cast_of, is_caller, calls_of, copies_of, kept_of, kept_at, next_item, refusal_of}
+use Rattle.act_walks.proofs.Common.{after_run, needs-none, copy_refusal, copies_named, MayTake, IsKept, after_all_keeps, run_needs, first_answer, map, eqb-true}
+use Rattle.act_walks.proofs.Common.{Retires, ◌≤◌, enumerate_from, named_call, contains_push, either_of, take_needs, Told, IsThrough, IsGoing, ToldEnd}
+use Rattle.act_walks.proofs.Common.{FitsCasts, bound_of, Parts, done_in, IsEndOf, IsWalking, GoesOn, Moves, NoMove, ComesThrough, or_parts}
+use Rattle.act_early.proofs.Common.{handle_refusal}
 use Rattle.act_rules.proofs.Retired.{submit_needs}
 use Rattle.act_rules.specs.declared.event.Event.TheVariants as event
-use Rattle.act_told_ends.specs.Told.{Told}
-use Rattle.act_told_ends.specs.Walks.{IsThrough}
 use Rattle.act_told_ends.proofs.Asked.{can_ask}
-use Rattle.act_told_ends.proofs.Walked.{IsGoing}
-use Rattle.act_walks.specs.declared.told.ToldEnd.{ToldEnd}
-use Rattle.act_walks.specs.Fits.{FitsCasts, bound_of}
-use Rattle.act_walks.specs.Walking.{Parts, done_in, IsEndOf, IsWalking, GoesOn, Moves, NoMove, ComesThrough}
 use Rattle.act_walks.proofs.Eager.{going_of}
 use Rattle.act_walks.proofs.Stuck.{stuck}
 use Rattle.act_walks.proofs.Comes.{comes, post_casts}
 use Rattle.act_walks.proofs.Deaths.{tell_needs}
 use Rattle.act_walks.proofs.Onward.{Nothing, goes_trans}
-use Rattle.std.proofs.lemmas.Bool.{or_parts}
 
 -- ---- who is named
 
@@ -65,7 +59,8 @@ step_named h c (Await k) retires may = go (calls_of c h) refl
   where
     go : (calls : List Submission) → calls_of c h ≡ calls → (a : ℕ) × (names c (cast_of a h) ≡ true)
     go [] e =
-        let none : is_some (kept_at (kept_of c h) k) ≡ false = ap (λ (l : List Submission). is_some (kept_at (map (first_answer h c) (enumerate_from 0 l)) k)) e in
+        let none : is_some (kept_at (kept_of c h) k) ≡ false =
+        ap (λ (l : List Submission). is_some (kept_at (map (first_answer h c) (enumerate_from 0 l)) k)) e in
         let bad : true ≡ false = sym may ∙ none in
         cc
     go (call ∷ calls) e = (call.actor, named_call h c 0 call retires.named (ap (λ (l : List Submission). slice_get l 0) e))
@@ -136,8 +131,11 @@ moves_two end first second both p q r one two join f s = record {
   still = λ none casts told e stands w.
       let b = or_parts one two none in
       let x = f.still b.0 casts told e stands w in
-      let y = s.still b.1 casts told e (f.goes.stands casts stands) (f.goes.walks casts told e stands w) in
-      (y.0 ∙ x.0, join told (done_in p.done) (history casts p.events) x.1 (subst (λ (z : Parts). second told (done_in z.done) (history casts z.events)) x.0 y.1));
+      let y = s.still b.1 casts told e (f.goes.stands casts stands) (f.goes.walks casts told e stands w) in (
+        y.0 ∙ x.0,
+        join told (done_in p.done) (history casts p.events) x.1
+            (subst (λ (z : Parts). second told (done_in z.done) (history casts z.events)) x.0 y.1),
+      );
 }
 
 pub comes_through : (end : ToldEnd) (start now new : Parts) → GoesOn end start now → Moves end (NoMove end) now new false → ComesThrough end start new

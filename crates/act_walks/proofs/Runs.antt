@@ -1,24 +1,13 @@
 -- An actor runs the call that it is told to run next, and takes its kill.
-use Rattle.act_early.proofs.Common.{◌≡◌, ℕ, Bool, true, false, List, [], length, Option, Some, None, refl, ap, sym, ◌∙◌, subst, slice_get, option_map, is_some}
-use Rattle.act_early.proofs.Common.{map-slice_get, Event, RunItem, Answer, ActorSpec, History, history, names, cast_of, kept_at, runs_of, is_ended, next_item, is_reply}
-use Rattle.act_early.proofs.Common.{refusal_of, add_event, run_needs}
-use Rattle.act_plan_plays.proofs.Common.{IsBehind, WorldView, Refines}
-use Rattle.act_plan_plays.proofs.Common.{after_post, shows_next, did, did_run, Did, option_map_or, length-map}
+use Rattle.act_walks.proofs.Common.{◌≡◌, ℕ, Bool, true, false, List, [], length, Option, Some, None, refl, ap, sym, ◌∙◌, subst, slice_get, option_map, is_some}
+use Rattle.act_walks.proofs.Common.{map-slice_get, Event, RunItem, Answer, ActorSpec, History, history, names, cast_of, kept_at, runs_of, is_ended, next_item}
+use Rattle.act_walks.proofs.Common.{is_reply, refusal_of, add_event, run_needs, IsBehind, WorldView, Refines, after_post, shows_next, did, did_run, Did}
+use Rattle.act_walks.proofs.Common.{option_map_or, length-map, slice_get-map, map, Told, IsNextRun, Left, Open, Reply, Death, ToldActor, ToldEnd, IsEager, Fits}
+use Rattle.act_walks.proofs.Common.{FitsLeft, bound_of, left_of, actor_in, rans_in, call_of_run, runs_in, is_dead_in, call_of_item, Parts, done_in, Stands}
+use Rattle.act_walks.proofs.Common.{IsEndOf, IsWalking, GoesOn, Moves, NoRuns, NoKill, Does, DoesPost, IsRefused, Tries, RunsNext}
 use Rattle.act_plan_plays.proofs.Chosen.{next_slot}
-use Rattle.std.proofs.lemmas.Option.{slice_get-map}
-use Rattle.std.specs.Prelude.{map}
 use Rattle.act_rules.specs.declared.event.Event.TheVariants as event
 use Rattle.act_rules.specs.declared.outcome.Did.TheVariants as did_so
-use Rattle.act_told_ends.specs.Told.{Told}
-use Rattle.act_told_ends.specs.Walks.{IsNextRun}
-use Rattle.act_walks.specs.declared.told.Left.{Left}
-use Rattle.act_walks.specs.declared.told.Left.TheVariants.{Open, Reply, Death}
-use Rattle.act_walks.specs.declared.told.ToldActor.{ToldActor}
-use Rattle.act_walks.specs.declared.told.ToldEnd.{ToldEnd}
-use Rattle.act_walks.specs.declared.told.ToldRun.{ToldRun}
-use Rattle.act_walks.specs.Eager.{IsEager}
-use Rattle.act_walks.specs.Fits.{Fits, FitsLeft, bound_of, left_of, actor_in, rans_in, call_of_run, runs_in, is_dead_in, call_of_item}
-use Rattle.act_walks.specs.Walking.{Parts, done_in, Stands, IsEndOf, IsWalking, GoesOn, Moves, NoRuns, NoKill, Does, DoesPost, IsRefused, Tries, RunsNext}
 use Rattle.act_walks.proofs.Eager.{sent, killed}
 use Rattle.act_walks.proofs.EagerRuns.{ran_kept, ran_lost}
 use Rattle.act_walks.proofs.Kills.{kills_event, kills_post}
@@ -28,7 +17,8 @@ use Rattle.act_walks.proofs.Calls.{moves_refused}
 
 -- ---- what the world shows
 
-shown : (casts : List ActorSpec) (h : History) (world : WorldView) (events : List Event) (a c : ℕ) → IsBehind casts h world events → names c (cast_of a h) ≡ true → is_ended a h ≡ false
+shown : (casts : List ActorSpec) (h : History) (world : WorldView) (events : List Event) (a c : ℕ) → IsBehind casts h world events
+    → names c (cast_of a h) ≡ true → is_ended a h ≡ false
     → is_some (next_item a c h) ≡ true → shows_next world a c ≡ true
 shown casts h world events a c behind named live next =
     let refines : Refines h world = subst (λ (g : History). Refines g world) (sym behind.is) behind.reached in
@@ -56,7 +46,8 @@ no_reply Death answer fits none = fits.1
 names_of : (item : RunItem) (c k : ℕ) → call_of_item item ≡ (c, k) → (item.caller ≡ c) × (item.future ≡ k)
 names_of item c k e = (ap (λ (p : ℕ × ℕ). p.0) e, ap (λ (p : ℕ × ℕ). p.1) e)
 
-pub runs_lost : (end : ToldEnd) (a c k place j : ℕ) (old new : Parts) → Does (event.Run a c) old new (did_so.Ran place j) → (left_of end c k ≡ Reply → ⊥) → RunsNext end a c k old new
+pub runs_lost : (end : ToldEnd) (a c k place j : ℕ) (old new : Parts) → Does (event.Run a c) old new (did_so.Ran place j) → (left_of end c k ≡ Reply → ⊥)
+    → RunsNext end a c k old new
 runs_lost end a c k place j old new does none = (
   (λ casts s. stands_event end casts (event.Run a c) old new (λ d steps is. refl) does.does s),
   λ casts told e s w item next is.
@@ -68,16 +59,20 @@ runs_lost end a c k place j old new does none = (
       ap (λ (d : ℕ). is_reply (kept_at (told.kept d) item.future)) by.0 ∙ ap (λ (f : ℕ). is_reply (kept_at (told.kept c) f)) by.1
       ∙ no_reply (left_of end c k) (kept_at (told.kept c) k) (e.fits.left c k) none in
       let eager : IsEager casts (bound_of end) told (done_in old.done) (add_event h (event.Run a item.caller)) =
-      ran_lost casts (bound_of end) told e.some (done_in old.done) h w.eager a item next (subst (λ (d : ℕ). refusal_of h (event.Run a d) ≡ None) (sym by.0) so.0)
+      ran_lost casts (bound_of end) told e.some (done_in old.done) h w.eager a item next
+      (subst (λ (d : ℕ). refusal_of h (event.Run a d) ≡ None) (sym by.0) so.0)
       (subst (λ (d : ℕ). is_some (next_item a d h) ≡ true) (sym by.0) what.0) lost in
       walking_to end casts told (done_in old.done) new (add_event h (event.Run a c)) (ap done_in (sym does.does.done)) so.1.is
-      (subst (λ (d : ℕ). IsEager casts (bound_of end) told (done_in old.done) (add_event h (event.Run a d))) by.0 eager) (kills_event (bound_of end) told h (event.Run a c) w.asked),
+      (subst (λ (d : ℕ). IsEager casts (bound_of end) told (done_in old.done) (add_event h (event.Run a d))) by.0 eager)
+      (kills_event (bound_of end) told h (event.Run a c) w.asked),
 )
 
-pub runs_kept : (end : ToldEnd) (a c k place j : ℕ) (old mid new : Parts) (kept : Did) → Does (event.Run a c) old mid (did_so.Ran place j) → left_of end c k ≡ Reply
+pub runs_kept : (end : ToldEnd) (a c k place j : ℕ) (old mid new : Parts) (kept : Did) → Does (event.Run a c) old mid (did_so.Ran place j)
+    → left_of end c k ≡ Reply
     → Does (event.Collect j) mid new kept → RunsNext end a c k old new
 runs_kept end a c k place j old mid new kept does left collects = (
-  (λ casts s. stands_event end casts (event.Collect j) mid new (λ d steps is. refl) collects.does (stands_event end casts (event.Run a c) old mid (λ d steps is. refl) does.does s)),
+  (λ casts s. stands_event end casts (event.Collect j) mid new (λ d steps is. refl) collects.does
+      (stands_event end casts (event.Run a c) old mid (λ d steps is. refl) does.does s)),
   λ casts told e s w item next is.
       let h = history casts old.events in
       let so = does.does.behind casts h s.behind in
@@ -88,10 +83,12 @@ runs_kept end a c k place j old mid new kept does left collects = (
       let reply : is_reply (kept_at (told.kept item.caller) item.future) ≡ true =
       ap (λ (d : ℕ). is_reply (kept_at (told.kept d) item.future)) by.0 ∙ ap (λ (f : ℕ). is_reply (kept_at (told.kept c) f)) by.1
       ∙ reply_told (left_of end c k) (kept_at (told.kept c) k) (e.fits.left c k) left in
-      let ran = ran_kept casts (bound_of end) told e.some (done_in old.done) h w.eager a item next (subst (λ (d : ℕ). refusal_of h (event.Run a d) ≡ None) (sym by.0) so.0)
+      let ran = ran_kept casts (bound_of end) told e.some (done_in old.done) h w.eager a item next
+      (subst (λ (d : ℕ). refusal_of h (event.Run a d) ≡ None) (sym by.0) so.0)
       (subst (λ (d : ℕ). is_some (next_item a d h) ≡ true) (sym by.0) what.0) reply in
       let eager : IsEager casts (bound_of end) told (done_in old.done) (add_event g (event.Collect (length h.posts))) =
-      subst (λ (d : ℕ). IsEager casts (bound_of end) told (done_in old.done) (add_event (add_event h (event.Run a d)) (event.Collect (length h.posts)))) by.0 ran.1 in
+      subst (λ (d : ℕ). IsEager casts (bound_of end) told (done_in old.done) (add_event (add_event h (event.Run a d)) (event.Collect (length h.posts)))) by.0
+      ran.1 in
       walking_to end casts told (done_in old.done) new (add_event g (event.Collect j)) (ap done_in (sym (collects.does.done ∙ does.does.done))) then.1.is
       (subst (λ (i : ℕ). IsEager casts (bound_of end) told (done_in old.done) (add_event g (event.Collect i))) (sym what.1) eager)
       (kills_event (bound_of end) told g (event.Collect j) (kills_event (bound_of end) told h (event.Run a c) w.asked)),
@@ -104,22 +101,26 @@ abbrev pub IsSaid : ToldEnd → ℕ → Parts → Option (ℕ × ℕ) → Type 0
 IsSaid end a walk said = (casts : List ActorSpec) (h : History) (before : List Event) → IsBehind casts h walk.world before →
     said ≡ slice_get (runs_in end a) (length (runs_of a h))
 
-said_of : (end : ToldEnd) (told : Told) (a n : ℕ) (item : RunItem) → Fits end told → slice_get (told.runs a) n ≡ Some item → slice_get (runs_in end a) n ≡ Some (call_of_item item)
+said_of : (end : ToldEnd) (told : Told) (a n : ℕ) (item : RunItem) → Fits end told → slice_get (told.runs a) n ≡ Some item
+    → slice_get (runs_in end a) n ≡ Some (call_of_item item)
 said_of end told a n item fits at =
     ap (λ (l : List (ℕ × ℕ)). slice_get l n) (fits.runs a) ∙ slice_get-map call_of_item (told.runs a) n ∙ ap (option_map call_of_item) at
 
 -- an item that is told next is the one that is said
-next_said : (end : ToldEnd) (told : Told) (casts : List ActorSpec) (a : ℕ) (walk : Parts) (said : Option (ℕ × ℕ)) → IsEndOf end casts told → Stands end casts walk → IsSaid end a walk said
+next_said : (end : ToldEnd) (told : Told) (casts : List ActorSpec) (a : ℕ) (walk : Parts) (said : Option (ℕ × ℕ)) → IsEndOf end casts told
+    → Stands end casts walk → IsSaid end a walk said
     → (item : RunItem) → IsNextRun told a (history casts walk.events) item → said ≡ Some (call_of_item item)
 next_said end told casts a walk said e s is item next =
     is casts (history casts walk.events) walk.events s.behind ∙ said_of end told a (length (runs_of a (history casts walk.events))) item e.fits next
 
 -- and what is said is such an item
-item_said : (end : ToldEnd) (told : Told) (casts : List ActorSpec) (a c k : ℕ) (walk : Parts) → IsEndOf end casts told → Stands end casts walk → IsSaid end a walk (Some (c, k))
+item_said : (end : ToldEnd) (told : Told) (casts : List ActorSpec) (a c k : ℕ) (walk : Parts) → IsEndOf end casts told → Stands end casts walk
+    → IsSaid end a walk (Some (c, k))
     → (item : RunItem) × IsNextRun told a (history casts walk.events) item × (call_of_item item ≡ (c, k))
 item_said end told casts a c k walk e s is =
     let n = length (runs_of a (history casts walk.events)) in
-    map-slice_get call_of_item (told.runs a) n (c, k) (ap (λ (l : List (ℕ × ℕ)). slice_get l n) (sym (e.fits.runs a)) ∙ sym (is casts (history casts walk.events) walk.events s.behind))
+    map-slice_get call_of_item (told.runs a) n (c, k) (ap (λ (l : List (ℕ × ℕ)). slice_get l n) (sym (e.fits.runs a))
+    ∙ sym (is casts (history casts walk.events) walk.events s.behind))
 
 pub runs_none : (end : ToldEnd) (a : ℕ) (walk : Parts) → IsSaid end a walk None → Moves end (NoRuns a) walk walk false
 runs_none end a walk none = moves_none end (NoRuns a) walk (λ casts told e s w. (
@@ -146,7 +147,8 @@ one_sent end a c k old new said does = record {
       let found = item_said end told casts a c k old e s said in
       let by = names_of found.0 c k found.2 in
       let eager = sent casts (bound_of end) told e.some (done_in old.done) h w.eager a found.0 found.1
-      (subst (λ (d : ℕ). refusal_of h (event.Send d found.0.future) ≡ None) (sym by.0) (subst (λ (f : ℕ). refusal_of h (event.Send c f) ≡ None) (sym by.1) so.0)) in
+      (subst (λ (d : ℕ). refusal_of h (event.Send d found.0.future) ≡ None) (sym by.0)
+      (subst (λ (f : ℕ). refusal_of h (event.Send c f) ≡ None) (sym by.1) so.0)) in
       walking_to end casts told (done_in old.done) new (after_post (event.Send c k) h) (ap done_in (sym does.done)) so.1.is
       (subst (λ (f : ℕ). IsEager casts (bound_of end) told (done_in old.done) (after_post (event.Send c f) h)) by.1
       (subst (λ (d : ℕ). IsEager casts (bound_of end) told (done_in old.done) (after_post (event.Send d found.0.future) h)) by.0 eager))
@@ -154,7 +156,8 @@ one_sent end a c k old new said does = record {
 }
 
 -- where some events end as is told, the letter has come
-has_come : (end : ToldEnd) (a c k : ℕ) (old new : Parts) → IsSaid end a old (Some (c, k)) → DoesPost (event.Send c k) old new → (casts : List ActorSpec) (told : Told) → IsEndOf end casts told
+has_come : (end : ToldEnd) (a c k : ℕ) (old new : Parts) → IsSaid end a old (Some (c, k)) → DoesPost (event.Send c k) old new
+    → (casts : List ActorSpec) (told : Told) → IsEndOf end casts told
     → Stands end casts old → IsWalking end casts told old → shows_next new.world a c ≡ true
 has_come end a c k old new said does casts told e s w =
     let h = history casts old.events in
@@ -163,12 +166,15 @@ has_come end a c k old new said does casts told e s w =
     let by = names_of found.0 c k found.2 in
     let has : HasCome a found.0.caller (after_post (event.Send found.0.caller found.0.future) h) =
     comes casts (bound_of end) told e.some (done_in old.done) h w.eager a found.0 found.1
-    (subst (λ (d : ℕ). refusal_of h (event.Send d found.0.future) ≡ None) (sym by.0) (subst (λ (f : ℕ). refusal_of h (event.Send c f) ≡ None) (sym by.1) so.0)) in
+    (subst (λ (d : ℕ). refusal_of h (event.Send d found.0.future) ≡ None) (sym by.0) (subst (λ (f : ℕ). refusal_of h (event.Send c f) ≡ None) (sym by.1) so.0))
+    in
     let there : HasCome a c (after_post (event.Send c k) h) =
-    subst (λ (f : ℕ). HasCome a c (after_post (event.Send c f) h)) by.1 (subst (λ (d : ℕ). HasCome a d (after_post (event.Send d found.0.future) h)) by.0 has) in
+    subst (λ (f : ℕ). HasCome a c (after_post (event.Send c f) h)) by.1 (subst (λ (d : ℕ). HasCome a d (after_post (event.Send d found.0.future) h)) by.0 has)
+    in
     shown casts (after_post (event.Send c k) h) new.world new.events a c so.1 there.named there.live there.next
 
-pub sends_next : (end : ToldEnd) (a c k : ℕ) (old new : Parts) (b : Bool) → IsSaid end a old (Some (c, k)) → DoesPost (event.Send c k) old new → b ≡ shows_next new.world a c
+pub sends_next : (end : ToldEnd) (a c k : ℕ) (old new : Parts) (b : Bool) → IsSaid end a old (Some (c, k)) → DoesPost (event.Send c k) old new
+    → b ≡ shows_next new.world a c
     → Moves end (NoRuns a) old new b
 sends_next end a c k old new true said does is = moves_yes end (NoRuns a) old new (one_sent end a c k old new said does)
 sends_next end a c k old new false said does is = record {
@@ -178,7 +184,8 @@ sends_next end a c k old new false said does is = record {
       cc;
 }
 
-pub send_waits : (end : ToldEnd) (a c k : ℕ) (old new : Parts) → IsSaid end a old (Some (c, k)) → false ≡ shows_next old.world a c → IsRefused (event.Send c k) old new
+pub send_waits : (end : ToldEnd) (a c k : ℕ) (old new : Parts) → IsSaid end a old (Some (c, k)) → false ≡ shows_next old.world a c
+    → IsRefused (event.Send c k) old new
     → Moves end (NoRuns a) old new false
 send_waits end a c k old new said hidden not = moves_refused end (NoRuns a) old new not.same (λ casts told e s w.
     let h = history casts old.events in (
@@ -186,7 +193,8 @@ send_waits end a c k old new said hidden not = moves_refused end (NoRuns a) old 
           let both : Some (c, k) ≡ Some (call_of_item item) = next_said end told casts a old (Some (c, k)) e s said item next in
           let by : call_of_item item ≡ (c, k) = cc in
           let one = names_of item c k by in
-          not.refused casts h s.behind (subst (λ (f : ℕ). refusal_of h (event.Send c f) ≡ None) one.1 (subst (λ (d : ℕ). refusal_of h (event.Send d item.future) ≡ None) one.0 may))),
+          not.refused casts h s.behind (subst (λ (f : ℕ). refusal_of h (event.Send c f) ≡ None) one.1
+          (subst (λ (d : ℕ). refusal_of h (event.Send d item.future) ≡ None) one.0 may))),
       λ item next is may.
           let both : Some (c, k) ≡ Some (call_of_item item) = next_said end told casts a old (Some (c, k)) e s said item next in
           let by : call_of_item item ≡ (c, k) = cc in
@@ -204,7 +212,8 @@ IsRunCount n a walk = (casts : List ActorSpec) (h : History) (before : List Even
 
 -- an actor that isn't told dead
 pub not_dead : (end : ToldEnd) (a : ℕ) (walk : Parts) → is_dead_in end a ≡ false → Moves end (NoKill a) walk walk false
-not_dead end a walk alive = moves_none end (NoKill a) walk (λ casts told e s w dead long may. let bad : true ≡ false = sym dead ∙ sym (e.fits.dead a) ∙ alive in cc)
+not_dead end a walk alive = moves_none end (NoKill a) walk (λ casts told e s w dead long may. let bad : true ≡ false = sym dead ∙ sym (e.fits.dead a)
+    ∙ alive in cc)
 
 runs_long : (end : ToldEnd) (told : Told) (a : ℕ) → Fits end told → length (runs_in end a) ≡ length (told.runs a)
 runs_long end told a fits = ap (λ (l : List (ℕ × ℕ)). length l) (fits.runs a) ∙ length-map (told.runs a) call_of_item
@@ -213,7 +222,8 @@ pub runs_yet : (end : ToldEnd) (a n : ℕ) (walk : Parts) → IsRunCount n a wal
 runs_yet end a n walk count more = moves_none end (NoKill a) walk (λ casts told e s w dead long may.
     more (count casts (history casts walk.events) walk.events s.behind ∙ long ∙ sym (runs_long end told a e.fits)))
 
-pub kill_moves : (end : ToldEnd) (a n : ℕ) (old new : Parts) (moved : Bool) → is_dead_in end a ≡ true → IsRunCount n a old → n ≡ length (runs_in end a) → Tries (event.TakeKill a) old new moved
+pub kill_moves : (end : ToldEnd) (a n : ℕ) (old new : Parts) (moved : Bool) → is_dead_in end a ≡ true → IsRunCount n a old → n ≡ length (runs_in end a)
+    → Tries (event.TakeKill a) old new moved
     → Moves end (NoKill a) old new moved
 kill_moves end a n old new true dead count long does = moves_yes end (NoKill a) old new (record {
   stands = λ casts s. stands_event end casts (event.TakeKill a) old new (λ d steps is. refl) does s;
@@ -224,9 +234,11 @@ kill_moves end a n old new true dead count long does = moves_yes end (NoKill a) 
       (killed casts (bound_of end) told e.some (done_in old.done) h w.eager a (sym (e.fits.dead a) ∙ dead)
       (sym (count casts h old.events s.behind) ∙ long ∙ runs_long end told a e.fits) so.0) (kills_event (bound_of end) told h (event.TakeKill a) w.asked);
 })
-kill_moves end a n old new false dead count long not = moves_refused end (NoKill a) old new not.same (λ casts told e s w dead last may. not.refused casts (history casts old.events) s.behind may)
+kill_moves end a n old new false dead count long not =
+    moves_refused end (NoKill a) old new not.same (λ casts told e s w dead last may. not.refused casts (history casts old.events) s.behind may)
 
-pub actor_dead : (end : ToldEnd) (a : ℕ) (o : Option ToldActor) → actor_in end a ≡ o → is_dead_in end a ≡ option_map_or (λ (actor : ToldActor). actor.is_dead) o false
+pub actor_dead : (end : ToldEnd) (a : ℕ) (o : Option ToldActor) → actor_in end a ≡ o
+    → is_dead_in end a ≡ option_map_or (λ (actor : ToldActor). actor.is_dead) o false
 actor_dead end a o there = ap (λ (o : Option ToldActor). option_map_or (λ (actor : ToldActor). actor.is_dead) o false) there
 
 pub actor_rans : (end : ToldEnd) (a : ℕ) (actor : ToldActor) → actor_in end a ≡ Some actor → rans_in end a ≡ actor.runs.items

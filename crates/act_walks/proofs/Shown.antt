@@ -1,17 +1,15 @@
 -- What a world shows of callers and actors, and what the history says of it.
-use Rattle.act_early.proofs.Common.{◌≡◌, ℕ, Bool, true, false, cond, List, [], ◌∷◌, ◌++◌, length, Option, Some, None, refl, ap, sym, ◌∙◌, subst, ◌==◌, map, slice_get, is_some}
-use Rattle.act_early.proofs.Common.{eqb-true, under-push, append-nil, Event, RunItem, Submission, ActorSpec, History, opening, cast_of, is_caller, calls_of, kept_of}
-use Rattle.act_early.proofs.Common.{runs_of, first_answer, kept_at, next_item, after_run, IsKept, after_all_keeps, run_needs, Retires, world_retires}
-use Rattle.act_early.proofs.Choosing.{cast_known}
-use Rattle.act_plan_plays.proofs.Common.{WorldView, IsBehind, named_call, named_caller, enumerate_from}
-use Rattle.std.proofs.Common.{Bor, option_copied, nat_lt, get_or}
-use Rattle.std.proofs.lemmas.Bool.{ltb-false}
-use Rattle.std.proofs.lemmas.Option.{slice_get_past}
+use Rattle.act_walks.proofs.Common.{◌≡◌, ℕ, Bool, true, false, cond, List, [], ◌∷◌, ◌++◌, length, Option, Some, None, refl, ap, sym, ◌∙◌, subst, ◌==◌, map}
+use Rattle.act_walks.proofs.Common.{slice_get, is_some, eqb-true, under-push, append-nil, Event, RunItem, Submission, ActorSpec, History, opening, cast_of}
+use Rattle.act_walks.proofs.Common.{is_caller, calls_of, kept_of, runs_of, first_answer, kept_at, next_item, after_run, IsKept, after_all_keeps, run_needs}
+use Rattle.act_walks.proofs.Common.{Retires, world_retires, cast_known, WorldView, IsBehind, named_call, named_among, enumerate_from, Bor, option_copied}
+use Rattle.act_walks.proofs.Common.{nat_lt, get_or, ltb-false, slice_get_past}
 use Rattle.act_rules.specs.declared.event.Event.TheVariants as event
 use Rattle.act_world.proofs.Lists.{read_is}
 
 -- a stranger has no calls, and no answers
-pub no_calls : (casts : List ActorSpec) (h : History) (c : ℕ) (world : WorldView) (events : List Event) → IsBehind casts h world events → is_caller c h ≡ false → calls_of c h ≡ []
+pub no_calls : (casts : List ActorSpec) (h : History) (c : ℕ) (world : WorldView) (events : List Event) → IsBehind casts h world events → is_caller c h ≡ false
+    → calls_of c h ≡ []
 no_calls casts h c world events behind none = go (calls_of c h) refl
   where
     retires : Retires h
@@ -21,10 +19,11 @@ no_calls casts h c world events behind none = go (calls_of c h) refl
     go [] e = refl
     go (call ∷ calls) e =
         let at : slice_get (calls_of c h) 0 ≡ Some call = ap (λ (l : List Submission). slice_get l 0) e in
-        let bad : true ≡ false = sym (named_caller c call.actor h.casts (named_call h c 0 call retires.named at)) ∙ none in
+        let bad : true ≡ false = sym (named_among c call.actor h.casts (named_call h c 0 call retires.named at)) ∙ none in
         cc
 
-pub no_answer : (casts : List ActorSpec) (h : History) (c k : ℕ) (world : WorldView) (events : List Event) → IsBehind casts h world events → is_caller c h ≡ false
+pub no_answer : (casts : List ActorSpec) (h : History) (c k : ℕ) (world : WorldView) (events : List Event) → IsBehind casts h world events
+    → is_caller c h ≡ false
     → false ≡ is_some (kept_at (kept_of c h) k)
 no_answer casts h c k world events behind none =
     ap (λ (l : List Submission). is_some (kept_at (map (first_answer h c) (enumerate_from 0 l)) k)) (sym (no_calls casts h c world events behind none))
@@ -33,7 +32,8 @@ no_answer casts h c k world events behind none =
 abbrev RunsAreCast : History → Type 0
 RunsAreCast h = (a : ℕ) → cast_of a h ≡ None → runs_of a h ≡ []
 
-run_cast : (h : History) (b c a : ℕ) (o : Option RunItem) → RunsAreCast h → is_some (cast_of b h) ≡ true → cast_of a h ≡ None → runs_of a (after_run b c h o) ≡ []
+run_cast : (h : History) (b c a : ℕ) (o : Option RunItem) → RunsAreCast h → is_some (cast_of b h) ≡ true → cast_of a h ≡ None
+    → runs_of a (after_run b c h o) ≡ []
 run_cast h b c a None cast some none = cast a none
 run_cast h b c a (Some item) cast some none = under-push a b h.ran item ∙ go (b == a) refl
   where
@@ -53,9 +53,11 @@ cast_step h (event.Run b c) cast may = λ a none.
     casts (Some item) a e = e
 cast_step h other cast may = cast
 
-pub no_runs : (casts : List ActorSpec) (h : History) (a : ℕ) (world : WorldView) (events : List Event) → IsBehind casts h world events → cast_of a h ≡ None → 0 ≡ length (runs_of a h)
+pub no_runs : (casts : List ActorSpec) (h : History) (a : ℕ) (world : WorldView) (events : List Event) → IsBehind casts h world events → cast_of a h ≡ None
+    → 0 ≡ length (runs_of a h)
 no_runs casts h a world events behind none =
-    ap (λ (l : List RunItem). length l) (sym (subst RunsAreCast (sym behind.is) (after_all_keeps RunsAreCast cast_step (opening casts) events (λ a none. refl)) a none))
+    ap (λ (l : List RunItem). length l) (sym (subst RunsAreCast (sym behind.is) (after_all_keeps RunsAreCast cast_step (opening casts) events (λ a none. refl))
+    a none))
 
 -- ---- what is read
 
@@ -64,7 +66,8 @@ copied_some None = refl
 copied_some (Some x) = refl
 
 -- an item that was read before a list's end stands in an equal list at an equal place
-pub read_at : {X : Type 0} (read items : List X) (n m : ℕ) (x : X) → read ≡ items → n ≡ m → true ≡ nat_lt n (length read) → x ≡ get_or read n x → slice_get items m ≡ Some x
+pub read_at : {X : Type 0} (read items : List X) (n m : ℕ) (x : X) → read ≡ items → n ≡ m → true ≡ nat_lt n (length read) → x ≡ get_or read n x
+    → slice_get items m ≡ Some x
 read_at read items n m x same is within at = subst (λ (k : ℕ). slice_get items k ≡ Some x) is (read_is read items n x same within at)
 
 -- where a list has no such place, an equal list has nothing at an equal place

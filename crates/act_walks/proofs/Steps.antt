@@ -1,16 +1,10 @@
 -- A bound caller takes its next step.
-use Rattle.act_early.proofs.Common.{◌≡◌, ℕ, ◌+◌, Bool, true, false, List, [], ◌∷◌, ◌++◌, Option, Some, None, Ok, Err, refl, ap, sym, ◌∙◌, subst, append_assoc, append-nil, slice_get, is_some}
-use Rattle.act_early.proofs.Common.{Event, Step, Release, Await, ActorSpec, History, history, kept_of, kept_at, refusal_of, add_event, MayTake}
-use Rattle.act_plan_plays.proofs.Common.{Result, IsBehind, Vec, slice_set, after_move}
-use Rattle.std.specs.Prelude.{IfOk}
+use Rattle.act_walks.proofs.Common.{◌≡◌, ℕ, ◌+◌, Bool, true, false, List, [], ◌∷◌, ◌++◌, Option, Some, None, Ok, Err, refl, ap, sym, ◌∙◌, subst, append_assoc}
+use Rattle.act_walks.proofs.Common.{append-nil, slice_get, is_some, Event, Step, Release, Await, ActorSpec, History, history, kept_of, kept_at, refusal_of}
+use Rattle.act_walks.proofs.Common.{add_event, MayTake, Result, IsBehind, Vec, slice_set, after_move, IfOk, one_step_more, ToldCaller, ToldEnd, bound_of}
+use Rattle.act_walks.proofs.Common.{caller_in, steps_in, DoesStepIn, IsPaced, Steps, Parts, done_in, Moves, NoStep, DoesStep, NeedsMore, Tries, TriesPost}
+use Rattle.act_walks.proofs.Common.{TriesStep, bring}
 use Rattle.act_rules.specs.declared.event.Event.TheVariants as event
-use Rattle.act_told_ends.specs.Walked.{one_step_more}
-use Rattle.act_walks.specs.declared.told.ToldCaller.{ToldCaller}
-use Rattle.act_walks.specs.declared.told.ToldEnd.{ToldEnd}
-use Rattle.act_walks.specs.Fits.{bound_of, caller_in, steps_in}
-use Rattle.act_executor.specs.PlanPlays.{DoesStepIn}
-use Rattle.act_walks.specs.Paced.{IsPaced, Steps}
-use Rattle.act_walks.specs.Walking.{Parts, done_in, Moves, NoStep, DoesStep, NeedsMore, Tries, TriesPost, TriesStep, bring}
 use Rattle.act_walks.proofs.Eager.{stepped}
 use Rattle.act_walks.proofs.Kills.{kills_move}
 use Rattle.act_walks.proofs.Onward.{behind_here, paced_letter, done_more, walking_to, moves_none, moves_yes}
@@ -36,7 +30,8 @@ tries_step c step one old new true may needs after is does = record {
       (may h so.0, subst (λ (g : History). IsBehind casts g new.world new.events) (after h) so.1);
   does = λ casts behind. is casts old.events;
 }
-tries_step c step one old new false may needs after is not = record { same = not.same; needs = λ casts h behind taken. not.refused casts h behind (needs h taken) }
+tries_step c step one old new false may needs after is not =
+    record { same = not.same; needs = λ casts h behind taken. not.refused casts h behind (needs h taken) }
 
 pub tries_release : (c a : ℕ) (old new : Parts) (b : Bool) → TriesPost (event.Release c a) old new b → TriesStep c (Release a) old new b
 tries_release c a old new true does = record {
@@ -50,7 +45,8 @@ tries_release c a old new true does = record {
 tries_release c a old new false not = record { same = not.same; needs = not.refused }
 
 pub tries_await : (c k : ℕ) (walk : Parts) (b : Bool)
-    → ((casts : List ActorSpec) (h : History) (before : List Event) → IsBehind casts h walk.world before → b ≡ is_some (kept_at (kept_of c h) k)) → TriesStep c (Await k) walk walk b
+    → ((casts : List ActorSpec) (h : History) (before : List Event) → IsBehind casts h walk.world before → b ≡ is_some (kept_at (kept_of c h) k))
+    → TriesStep c (Await k) walk walk b
 tries_await c k walk true has = record {
   own = [];
   letter = None;
@@ -66,7 +62,8 @@ tries_await c k walk false has = record {
 
 -- ---- a caller's next step
 
-pub steps_are : (end : ToldEnd) (c : ℕ) (caller : ToldCaller) (steps : Vec Step) → caller_in end c ≡ Some caller → caller.steps ≡ Some steps → bound_of end c ≡ Some steps.items
+pub steps_are : (end : ToldEnd) (c : ℕ) (caller : ToldCaller) (steps : Vec Step) → caller_in end c ≡ Some caller → caller.steps ≡ Some steps
+    → bound_of end c ≡ Some steps.items
 steps_are end c caller steps there is =
     bound_is end c caller there ∙ ap (λ (o : Option (Vec Step)). steps_in (record caller { steps = o })) is
 
@@ -77,27 +74,31 @@ count_is : (done : List ℕ) (c n : ℕ) → slice_get done c ≡ Some n → don
 count_is done c n at = rw at refl
 
 -- what is told of its next step
-one_step : (end : ToldEnd) (c n : ℕ) (steps : List Step) (done : List ℕ) (o : Option Step) → bound_of end c ≡ Some steps → slice_get done c ≡ Some n → slice_get steps n ≡ o
+one_step : (end : ToldEnd) (c n : ℕ) (steps : List Step) (done : List ℕ) (o : Option Step) → bound_of end c ≡ Some steps → slice_get done c ≡ Some n
+    → slice_get steps n ≡ o
     → (other : List Step) → bound_of end c ≡ Some other → slice_get other (done_in done c) ≡ o
 one_step end c n steps done o bound count at other is =
     let both : Some steps ≡ Some other = sym bound ∙ is in
     let same : steps ≡ other = cc in
     ap (slice_get other) (count_is done c n count) ∙ ap (λ (l : List Step). slice_get l n) (sym same) ∙ at
 
-pub last_step : (end : ToldEnd) (c n : ℕ) (steps : List Step) (walk : Parts) → bound_of end c ≡ Some steps → slice_get walk.done c ≡ Some n → slice_get steps n ≡ None
+pub last_step : (end : ToldEnd) (c n : ℕ) (steps : List Step) (walk : Parts) → bound_of end c ≡ Some steps → slice_get walk.done c ≡ Some n
+    → slice_get steps n ≡ None
     → Moves end (NoStep end c) walk walk false
 last_step end c n steps walk bound count none = moves_none end (NoStep end c) walk (λ casts told e s w other step is at may.
     let bad : Some step ≡ None = sym at ∙ one_step end c n steps walk.done None bound count none other is in
     cc)
 
-pub step_waits : (end : ToldEnd) (c n : ℕ) (steps : List Step) (step : Step) (old new : Parts) → bound_of end c ≡ Some steps → slice_get old.done c ≡ Some n → slice_get steps n ≡ Some step
+pub step_waits : (end : ToldEnd) (c n : ℕ) (steps : List Step) (step : Step) (old new : Parts) → bound_of end c ≡ Some steps → slice_get old.done c ≡ Some n
+    → slice_get steps n ≡ Some step
     → NeedsMore c step old new → Moves end (NoStep end c) old new false
 step_waits end c n steps step old new bound count at waits = moves_refused end (NoStep end c) old new waits.same (λ casts told e s w other next is there may.
     let both : Some next ≡ Some step = sym there ∙ one_step end c n steps old.done (Some step) bound count at other is in
     let same : next ≡ step = cc in
     waits.needs casts (history casts old.events) s.behind (subst (λ (one : Step). MayTake c one (history casts old.events)) same may))
 
-pub step_taken : (end : ToldEnd) (c slot n : ℕ) (steps : List Step) (step : Step) (old new : Parts) → slot ≡ c → bound_of end c ≡ Some steps → slice_get old.done c ≡ Some n
+pub step_taken : (end : ToldEnd) (c slot n : ℕ) (steps : List Step) (step : Step) (old new : Parts) → slot ≡ c → bound_of end c ≡ Some steps
+    → slice_get old.done c ≡ Some n
     → slice_get steps n ≡ Some step → DoesStep c step old new → Moves end (NoStep end c) old (record new { done = slice_set new.done slot (n + 1) }) true
 step_taken end c slot n steps step old new is bound count at does = moves_yes end (NoStep end c) old next (record {
   stands = λ casts s. record {

@@ -1,25 +1,15 @@
 -- Where an eager walk can do nothing of what is told, it is through.
-use Rattle.act_early.proofs.Common.{◌≡◌, ℕ, true, false, List, [], ◌∷◌, ◌++◌, length, Option, Some, None, inl, inr, ◌⊎◌, refl, ap, sym, ◌∙◌, subst}
-use Rattle.act_early.proofs.Common.{Contains, slice_get, is_some, not, not-true, option_map, Letter, RunItem, Post, Submission, Step, Answer}
-use Rattle.act_early.proofs.Common.{Handle, NoCaller, ActorEnded, handle_refusal, ActorSpec, History, opening, contains, names, cast_of, is_caller, copies_of}
-use Rattle.act_early.proofs.Common.{calls_of, runs_of, is_dead, is_ended, has_letter, next_item, refusal_of, add_event, after_run, and_also}
-use Rattle.act_early.proofs.Common.{letter_actor, deliver_refusal, needs-none, copies_named, MayTake, IsKept, after_all_keeps, Contains-append_left, IsPrefix}
-use Rattle.act_early.proofs.Common.{added_grows}
+use Rattle.act_walks.proofs.Common.{◌≡◌, ℕ, true, false, List, [], ◌∷◌, ◌++◌, length, Option, Some, None, inl, inr, ◌⊎◌, refl, ap, sym, ◌∙◌, subst, Contains}
+use Rattle.act_walks.proofs.Common.{slice_get, is_some, not, not-true, option_map, Letter, RunItem, Post, Submission, Step, Answer, Handle, NoCaller}
+use Rattle.act_walks.proofs.Common.{ActorEnded, ActorSpec, History, opening, contains, names, cast_of, is_caller, copies_of, calls_of, runs_of, is_dead}
+use Rattle.act_walks.proofs.Common.{is_ended, has_letter, next_item, refusal_of, add_event, after_run, and_also, letter_actor, deliver_refusal, needs-none}
+use Rattle.act_walks.proofs.Common.{copies_named, MayTake, IsKept, after_all_keeps, Contains-append_left, IsPrefix, added_grows, DeathPost, Kill, Told, MayGoOn}
+use Rattle.act_walks.proofs.Common.{Calls, Asks, DoesWithout, Sends, Delivers, Runs, Collects, TakesKill, Tells, IsThrough, IsNextRun, MayHear, IsWalked}
+use Rattle.act_walks.proofs.Common.{push_at, walked_left, goes_on, IsBrought, SomeEnd, IsEager, KillsAreAsked, IsAtRest, place_in, stands_in, has_letter-at}
+use Rattle.act_early.proofs.Common.{handle_refusal}
 use Rattle.act_rules.specs.declared.event.Event.TheVariants as event
-use Rattle.act_rules.specs.declared.history.Post.TheVariants.{Death as DeathPost}
-use Rattle.act_rules.specs.declared.script.Step.TheVariants.{Kill}
-use Rattle.act_told_ends.specs.Told.{Told}
-use Rattle.act_told_ends.specs.Walks.{MayGoOn, Calls, Asks, Steps, DoesWithout, Sends, Delivers, Runs, Collects, TakesKill, Tells, Hears, IsThrough, IsNextRun}
-use Rattle.act_told_ends.specs.Walks.{MayHear}
-use Rattle.act_told_ends.specs.Walked.{IsWalked}
-use Rattle.act_told_ends.proofs.Lists.{push_at}
-use Rattle.act_told_ends.proofs.Resting.{walked_left}
-use Rattle.act_told_ends.proofs.Stepped.{goes_on}
-use Rattle.act_plan_plays.specs.Parts.{IsBrought}
-use Rattle.act_walks.specs.Eager.{SomeEnd, IsEager, KillsAreAsked, IsAtRest}
+use Rattle.act_told_ends.specs.Walks.{Steps, Hears}
 use Rattle.act_walks.proofs.Eager.{going_of}
-use Rattle.act_lists.proofs.Lists.{place_in, stands_in}
-use Rattle.act_rules.proofs.Letters.{has_letter-at}
 
 -- ---- what was collected was posted
 

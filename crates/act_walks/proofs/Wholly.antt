@@ -1,19 +1,10 @@
 -- The whole walk.
-use Rattle.act_early.proofs.Common.{◌≡◌, ℕ, zero, suc, ◌+◌, ◌<◌, ◌≤◌, Bool, true, false, List, [], length, inl, inr, ◌⊎◌, cases_lt, Option, Some, None, refl, ap, sym, ◌∙◌, subst, arith, ◌==◌, slice_get, eqb-true}
-use Rattle.act_early.proofs.Common.{slice_get_within, option_and_then, Event, Step, ActorSpec, history, IsOk}
-use Rattle.act_plan_plays.proofs.Common.{IsBehind, WorldView, IsReachedBy, Did, WorldRefusal, replicate, All-nil, Vec, leb, leb-true, leb-false, get_or, slice_get-get_or, get_or_from_slice_get}
-use Rattle.act_told_ends.specs.Told.{Told}
-use Rattle.act_told_ends.specs.Retiring.{RetiredAsTold}
-use Rattle.act_told_ends.specs.Walked.{one_step_more}
-use Rattle.act_walks.specs.declared.told.ToldCaller.{ToldCaller}
-use Rattle.act_walks.specs.declared.told.ToldEnd.{ToldEnd}
-use Rattle.act_walks.specs.Asking.{SetsOut}
-use Rattle.act_walks.specs.Eager.{SomeEnd, IsAtRest}
-use Rattle.act_walks.specs.Fits.{Fits, FitsCasts, bound_of, caller_in, steps_in}
-use Rattle.act_walks.specs.Paced.{IsPaced, Starts, Steps, Others, Closes, AreAllDone}
-use Rattle.act_walks.specs.Rested.{RestsOn}
-use Rattle.act_walks.specs.Walking.{Parts, done_in, Stands, ComesThrough}
-use Rattle.act_walks.specs.Whole.{HasDone, HaveDone, GoesFar, DoesAllSteps, Decides}
+use Rattle.act_walks.proofs.Common.{◌≡◌, ℕ, zero, suc, ◌+◌, ◌<◌, ◌≤◌, Bool, true, false, List, [], length, inl, inr, ◌⊎◌, cases_lt, Option, Some, None, refl}
+use Rattle.act_walks.proofs.Common.{ap, sym, ◌∙◌, subst, arith, ◌==◌, slice_get, eqb-true, slice_get_within, option_and_then, Event, Step, ActorSpec, history}
+use Rattle.act_walks.proofs.Common.{IsOk, IsBehind, WorldView, IsReachedBy, Did, WorldRefusal, replicate, All-nil, Vec, leb, leb-true, leb-false, get_or}
+use Rattle.act_walks.proofs.Common.{slice_get-get_or, get_or_from_slice_get, Told, RetiredAsTold, one_step_more, ToldCaller, ToldEnd, SetsOut, SomeEnd}
+use Rattle.act_walks.proofs.Common.{IsAtRest, Fits, FitsCasts, bound_of, caller_in, steps_in, IsPaced, Starts, Steps, Others, Closes, AreAllDone, RestsOn}
+use Rattle.act_walks.proofs.Common.{Parts, done_in, Stands, ComesThrough, HasDone, HaveDone, GoesFar, DoesAllSteps, Decides}
 use Rattle.act_walks.proofs.Paced.{does_all_its_steps}
 use Rattle.act_walks.proofs.Stuck.{at_rest}
 use Rattle.act_walks.proofs.Calls.{bound_is}
@@ -23,7 +14,8 @@ use Rattle.act_walks.proofs.Calls.{bound_is}
 pub at_most : (casts : List ActorSpec) (bound : ℕ → Option (List Step)) (done : ℕ → ℕ) (events : List Event) → IsPaced casts bound done events
     → (c : ℕ) (steps : List Step) → bound c ≡ Some steps → done c ≤ length steps
 at_most casts bound done events Starts c steps is = omega arith
-at_most casts bound done events (Steps before first now d own step free at does paced) c steps is = go (d == c) refl (at_most casts bound before first paced c steps is)
+at_most casts bound done events (Steps before first now d own step free at does paced) c steps is =
+    go (d == c) refl (at_most casts bound before first paced c steps is)
   where
     go : (b : Bool) → (d == c) ≡ b → before c ≤ length steps → one_step_more d before c ≤ length steps
     go true e rest =
@@ -44,7 +36,8 @@ at_most casts bound done events (Closes before first d a own free all paced) c s
 exactly : (n m : ℕ) → n ≤ m → m ≤ n → n ≡ m
 exactly n m one two = omega (arith, one, two)
 
-pub all_done : (end : ToldEnd) (casts : List ActorSpec) (walk : Parts) → Stands end casts walk → HaveDone end walk.done → AreAllDone (bound_of end) (done_in walk.done)
+pub all_done : (end : ToldEnd) (casts : List ActorSpec) (walk : Parts) → Stands end casts walk → HaveDone end walk.done
+    → AreAllDone (bound_of end) (done_in walk.done)
 all_done end casts walk s have c steps is =
     exactly (done_in walk.done c) (length steps) (at_most casts (bound_of end) (done_in walk.done) walk.events s.paced c steps is) (have c steps is)
 
@@ -67,7 +60,8 @@ has_done done n len number steps o is long count = (
     true_leb true e below = e
     true_leb false e below = let above = leb-false len n e in absurd (omega (arith, above, below))
 
-pub has_done_all : (done : List ℕ) (n len number : ℕ) (steps : Vec Step) (caller : ToldCaller) → caller.steps ≡ Some steps → len ≡ length steps.items → n ≡ done_in done number
+pub has_done_all : (done : List ℕ) (n len number : ℕ) (steps : Vec Step) (caller : ToldCaller) → caller.steps ≡ Some steps → len ≡ length steps.items
+    → n ≡ done_in done number
     → (leb len n ≡ true → HasDone done number caller) × (HasDone done number caller → leb len n ≡ true)
 has_done_all done n len number steps caller is long count =
     has_done done n len number steps.items (steps_in caller) (ap (λ (o : Option (Vec Step)). steps_in (record caller { steps = o })) is) long count
@@ -76,7 +70,8 @@ has_done_all done n len number steps caller is long count =
 abbrev pub HaveDoneTo : ToldEnd → List ℕ → ℕ → Type 0
 HaveDoneTo end done n = (c : ℕ) (caller : ToldCaller) → c < n → caller_in end c ≡ Some caller → HasDone done c caller
 
-pub have_done_more : (end : ToldEnd) (done : List ℕ) (n : ℕ) (caller : ToldCaller) → n < length end.callers.items → caller ≡ get_or end.callers.items n caller → HasDone done n caller
+pub have_done_more : (end : ToldEnd) (done : List ℕ) (n : ℕ) (caller : ToldCaller) → n < length end.callers.items → caller ≡ get_or end.callers.items n caller
+    → HasDone done n caller
     → HaveDoneTo end done n → HaveDoneTo end done (n + 1)
 have_done_more end done n caller within is has before c other below at = go (cases_lt c n)
   where
@@ -97,7 +92,8 @@ have_done_all end done n whole to c steps bound = go (caller_in end c) refl boun
         let within = slice_get_within end.callers.items c caller at in
         to c caller (omega (arith, within, whole)) at steps is
 
-pub not_done : (end : ToldEnd) (done : List ℕ) (n : ℕ) (caller : ToldCaller) → n < length end.callers.items → caller ≡ get_or end.callers.items n caller → HaveDone end done → HasDone done n caller
+pub not_done : (end : ToldEnd) (done : List ℕ) (n : ℕ) (caller : ToldCaller) → n < length end.callers.items → caller ≡ get_or end.callers.items n caller
+    → HaveDone end done → HasDone done n caller
 not_done end done n caller within is have steps own =
     let at : caller_in end n ≡ Some caller = slice_get-get_or end.callers.items n caller within ∙ ap (λ (x : ToldCaller). Some x) (sym is) in
     have n steps (bound_is end n caller at ∙ own)
@@ -126,7 +122,8 @@ opened end casts world events none reached =
 -- ---- all of it
 
 -- it isn't over
-pub ends_early : (end : ToldEnd) (old mid new : Parts) → SetsOut end old mid → ComesThrough end mid new → (HaveDone end new.done → ⊥) → GoesFar end old new false
+pub ends_early : (end : ToldEnd) (old mid new : Parts) → SetsOut end old mid → ComesThrough end mid new → (HaveDone end new.done → ⊥)
+    → GoesFar end old new false
 ends_early end old mid new sets comes not = record {
   stands = λ casts s. comes.goes.stands casts (sets.stands casts s);
   does = λ e. cc;
@@ -137,9 +134,11 @@ ends_early end old mid new sets comes not = record {
 }
 
 -- it is over, and actors retired
-pub ends_late : (end : ToldEnd) (old mid late : Parts) (world : WorldView) (events : List Event) → SetsOut end old mid → ComesThrough end mid late → HaveDone end late.done
+pub ends_late : (end : ToldEnd) (old mid late : Parts) (world : WorldView) (events : List Event) → SetsOut end old mid → ComesThrough end mid late
+    → HaveDone end late.done
     → RestsOn (Fits end) late.world world late.events events
-    → ((casts : List ActorSpec) (bound : ℕ → Option (List Step)) (done : ℕ → ℕ) → AreAllDone bound done → IsPaced casts bound done late.events → IsPaced casts bound done events)
+    → ((casts : List ActorSpec) (bound : ℕ → Option (List Step)) (done : ℕ → ℕ) → AreAllDone bound done → IsPaced casts bound done late.events
+    → IsPaced casts bound done events)
     → ((casts : List ActorSpec) (bound : ℕ → Option (List Step)) (told : Told) → SomeEnd casts bound told → Fits end told → FitsCasts end casts
     → IsBehind casts (history casts late.events) late.world late.events → IsAtRest told (history casts late.events) → RetiredAsTold told (history casts events))
     → GoesFar end old (record { world = world; events = events; done = late.done }) true
@@ -165,11 +164,14 @@ ends_late end old mid late world events sets comes have rests paced retired = re
       );
 }
 
-pub does_all : (end : ToldEnd) (old new : Parts) (is_done : Bool) → GoesFar end old new is_done → is_done ≡ true → (casts : List ActorSpec) → Stands end casts old
+pub does_all : (end : ToldEnd) (old new : Parts) (is_done : Bool) → GoesFar end old new is_done → is_done ≡ true → (casts : List ActorSpec)
+    → Stands end casts old
     → (c : ℕ) (steps : List Step) → bound_of end c ≡ Some steps → DoesAllSteps casts c steps new.events
 does_all end old new is_done far e casts s c steps is =
     does_all_its_steps casts (bound_of end) (done_in new.done) new.events c steps (far.stands casts s).paced is (far.does e casts s c steps is)
 
-pub decides : (end : ToldEnd) (old new : Parts) (is_done : Bool) → GoesFar end old new is_done → (casts : List ActorSpec) → Stands end casts old → old.events ≡ []
+pub decides : (end : ToldEnd) (old new : Parts) (is_done : Bool) → GoesFar end old new is_done → (casts : List ActorSpec) → Stands end casts old
+    → old.events ≡ []
     → ((c : ℕ) → done_in old.done c ≡ 0) → Decides end casts new.events is_done
-decides end old new is_done far casts s none nothing told some fits cast = far.decides casts told (record { some = some; fits = fits; cast = cast }) s none nothing
+decides end old new is_done far casts s none nothing told some fits cast =
+    far.decides casts told (record { some = some; fits = fits; cast = cast }) s none nothing

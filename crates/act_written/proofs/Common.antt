@@ -7,12 +7,10 @@ pub use Rattle.act_orders.specs.declared.told.Run.{Run}
 pub use Rattle.act_orders.specs.declared.told.Told.{Told}
 pub use Rattle.act_written.specs.Texts.{IsAt, IsPast, actor_lines, await_line, call_lines, call_number, of_each, outcome_line, role_line, role_word, run_line}
 pub use Rattle.act_written.specs.Texts.{run_line_of, take_word}
-pub use Rattle.std.proofs.Common.{List, Option, [], add-one, ap, append_assoc, arith, drop, get_or, inl, inr, length, refl, slice_index_or}
-pub use Rattle.std.proofs.Common.{string_bytes, subst, suc, sym, take, zero, ℕ, ◌++◌, ◌+◌, ◌-◌, ◌<◌, ◌∙◌, ◌∷◌, ◌≡◌, ◌≢◌, ◌≤◌}
-pub use Rattle.std.proofs.KnownBytes.{Appends-trans}
-pub use Rattle.std.proofs.Math.Seq.{get_or-append_seam}
+pub use Rattle.std.proofs.Common.{List, [], add-one, ap, append_assoc, arith, get_or, inl, inr, length, refl, slice_index_or, string_bytes, subst, suc, sym}
+pub use Rattle.std.proofs.Common.{take, zero, ℕ, ◌++◌, ◌+◌, ◌-◌, ◌<◌, ◌∙◌, ◌≡◌, ◌≢◌, ◌≤◌}
 pub use Rattle.std.proofs.lemmas.Bool.{eq-eqb, ne_eqb}
-pub use Rattle.std.proofs.lemmas.List.{append-nil, get_or_append_left, take-append-drop}
+pub use Rattle.std.proofs.lemmas.List.{append-nil, take_rest}
 pub use Rattle.std.proofs.lemmas.List.Elements.{All-contains_itself}
 pub use Rattle.std.specs.Io.KnownBytes.{Appends}
 pub use Rattle.std.specs.List.{All, Contains, flat_map}

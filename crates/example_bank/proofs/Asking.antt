@@ -20,9 +20,6 @@ pub record Asking (done : List Request) (seen : SessionView) (futures : List ℕ
   pub count : length futures ≡ length done
   pub numbered : (k : ℕ) → k < length futures → slice_index futures k ≡ k
 
-pub fresh_asking : (seen : SessionView) → seen.calls ≡ [] → Asking [] seen []
-fresh_asking seen none = record { calls = none; count = refl; numbered = λ k below. absurd (omega (arith, below)) }
-
 calls_more : (done : List Request) (request : Request) (calls : List Submission) → calls ≡ map request_call done
     → calls ++ request_call request ∷ [] ≡ map request_call (done ++ request ∷ [])
 calls_more done request calls e = ap (λ (l : List Submission). l ++ request_call request ∷ []) e ∙ sym (map-append request_call done (request ∷ []))

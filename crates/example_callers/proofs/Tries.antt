@@ -5,9 +5,6 @@ use Rattle.example_callers.proofs.Common.{HasFailed, HasTried}
 use Rattle.example_callers.proofs.Calls.{called, kept_same}
 use Rattle.example_callers.proofs.Works.{replicate_more, length_of, last_or_before}
 
-pub none_failed : (r : Retry) (seen : SessionView) → seen.calls ≡ [] → HasFailed r 0 seen
-none_failed r seen none = record { calls = none; failed = λ k below. absurd (omega (arith, below)) }
-
 lacking_there : (o : Option Answer) → is_lacking o ≡ true → is_some o ≡ true
 lacking_there None lacking = cc
 lacking_there (Some answer) lacking = refl

@@ -18,9 +18,6 @@ pub record AtWork (w : Worker) (n : ℕ) (seen : SessionView) : Type 0 where
   pub calls : seen.calls ≡ replicate n (dequeue_call w)
   pub given : (k : ℕ) → k < n → is_job (kept_at seen.kept k) ≡ true
 
-pub at_work : (w : Worker) (seen : SessionView) → seen.calls ≡ [] → AtWork w 0 seen
-at_work w seen none = record { calls = none; given = λ k below. absurd (omega (arith, below)) }
-
 job_there : (o : Option Answer) → is_job o ≡ true → is_some o ≡ true
 job_there None job = cc
 job_there (Some answer) job = refl

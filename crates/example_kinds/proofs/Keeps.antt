@@ -1,23 +1,17 @@
 -- Each step of a bank keeps its money.
-use Rattle.std.proofs.Common.{◌≡◌, ℕ, ◌+◌, ◌-◌, ◌^◌, ◌<◌, ◌≤◌, List, [], ◌∷◌, ◌++◌, Bool, true, false, ◌&&◌, refl, ap, sym, ◌∙◌, subst, length, replicate, ℤ, pos, ◌-ℤ◌, nat_lt, nat_le, arith}
-use Rattle.std.specs.Prelude.{Result, Ok, Err, codes, int_lt, unsigned_abs}
-use Rattle.std.specs.List.{sum}
+use Rattle.example_kinds.proofs.Common.{◌≡◌, ℕ, ◌+◌, ◌-◌, ◌^◌, ◌<◌, ◌≤◌, List, [], ◌∷◌, ◌++◌, Bool, true, false, ◌&&◌, refl, ap, sym, ◌∙◌, subst, length}
+use Rattle.example_kinds.proofs.Common.{replicate, ℤ, pos, ◌-ℤ◌, nat_lt, nat_le, arith, Result, Ok, Err, codes, int_lt, unsigned_abs, sum, length-set}
+use Rattle.example_kinds.proofs.Common.{sum_by-append, Value, Fault, BadAmount, Own, Ask, next_state, step_answer, on_call, KindState, told_reply, reply_of}
+use Rattle.example_kinds.proofs.Common.{Answer, step_of_reply, kind_answer, IsKept, Int, and_funds, asked_next, bank_at, bank_text, bank_need, has_account}
+use Rattle.example_kinds.proofs.Common.{funds_held, with_deposit, with_withdrawal, bank_call, bank_does, bank_step, amount_in, amount_out, paid_in, paid_out}
+use Rattle.example_kinds.proofs.Common.{HoldsItsMoney, told_any}
 use Rattle.std.proofs.Math.IntN.{+ℤ-neg_ℤ_cancel}
 use Rattle.std.proofs.Math.Nat.{add-zero, mul-zero}
-use Rattle.std.proofs.lemmas.List.{length-set}
-use Rattle.std.proofs.lemmas.List.Sums.{sum_by-append}
 use Rattle.std.proofs.lemmas.List.Folds.{sum_by-replicate}
-use Rattle.actors.specs.Value.{Value}
-use Rattle.actors.specs.Fault.{Fault}
-use Rattle.actors.specs.Fault.TheVariants.{BadAmount, Own}
 use Rattle.actors.specs.Method.{Method}
-use Rattle.actors.specs.Kinds.{Ask, next_state, step_answer, on_call, KindState, told_reply, reply_of, Answer, step_of_reply, kind_answer, IsKept}
-use Rattle.actors.specs.Value.TheVariants.{Int}
 use Rattle.example_kinds.specs.declared.bank.Bank.{Bank}
 use Rattle.example_kinds.specs.declared.bank.BankCall.{BankCall}
 use Rattle.example_kinds.specs.declared.bank.BankCall.TheVariants.{PayIn, PayOut, Transfer, Funds, Total}
-use Rattle.example_kinds.specs.Bank.{and_funds, asked_next, bank_at, bank_text, bank_need, has_account, funds_held, with_deposit, with_withdrawal, bank_call, bank_does, bank_step, amount_in, amount_out, paid_in, paid_out, HoldsItsMoney}
-use Rattle.actors.proofs.Lemmas.{told_any}
 use Rattle.example_kinds.proofs.Money.{sum_given, sum_taken}
 
 -- what holds of each fault, and of what comes after three conditions
@@ -95,7 +89,8 @@ keeps told bank ask h =
     let out : paid_out (told ++ last ∷ []) ≡ paid_out told + paid_out (last ∷ []) = sum_by-append _ told (last ∷ []) in
     let into : paid_in (told ++ last ∷ []) ≡ paid_in told + paid_in (last ∷ []) = sum_by-append _ told (last ∷ []) in
     let one : Balances bank (bank_call ask.method ask.args) done = step_balances bank (bank_call ask.method ask.args) in
-    let change : sum (next_state bank done) + amount_out (bank_call ask.method ask.args) last.1 ≡ sum bank + amount_in (bank_call ask.method ask.args) last.1 = one.same in
+    let change : sum (next_state bank done) + amount_out (bank_call ask.method ask.args) last.1 ≡ sum bank + amount_in (bank_call ask.method ask.args) last.1 =
+    one.same in
     omega (arith, h, out, into, change)
 
 -- nothing was paid into an empty bank, which holds nothing

@@ -1,7 +1,5 @@
 -- How the sum of a list changes with one of its elements.
-use Rattle.std.proofs.Common.{◌≡◌, ℕ, ◌+◌, ◌-◌, ◌<◌, ◌≤◌, List, length, get_or, set, arith}
-use Rattle.std.specs.List.{sum}
-use Rattle.std.proofs.lemmas.List.Sums.{sum_by-set}
+use Rattle.example_kinds.proofs.Common.{◌≡◌, ℕ, ◌+◌, ◌-◌, ◌<◌, ◌≤◌, List, length, get_or, set, arith, sum, sum_by-set}
 
 pub sum_given : (xs : List ℕ) (k n : ℕ) → k < length xs → sum (set xs k (get_or xs k 0 + n)) ≡ sum xs + n
 sum_given xs k n h =

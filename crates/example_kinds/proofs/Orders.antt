@@ -1,13 +1,8 @@
 -- Each step of a work queue keeps the order.
-use Rattle.std.proofs.Common.{◌≡◌, List, [], ◌∷◌, ◌++◌, length, flat_map, Bool, true, false}
-use Rattle.std.proofs.Common.{refl, ap, sym, ◌∙◌}
-use Rattle.std.specs.Prelude.{Result, Ok, Err, nat_lt, codes, if◌then◌else◌}
-use Rattle.std.proofs.lemmas.List.{append_assoc, append-nil}
+use Rattle.example_kinds.proofs.Common.{◌≡◌, List, [], ◌∷◌, ◌++◌, length, flat_map, Bool, true, false, refl, ap, sym, ◌∙◌, Result, Ok, Err, nat_lt, codes}
+use Rattle.example_kinds.proofs.Common.{if◌then◌else◌, append_assoc, append-nil, Value, Fault, Own, Ask, next_state, step_answer, on_call, count_value, Answer}
+use Rattle.example_kinds.proofs.Common.{kind_answer, IsKept}
 use Rattle.std.proofs.lemmas.Grind.{flat_map-append}
-use Rattle.actors.specs.Value.{Value}
-use Rattle.actors.specs.Fault.{Fault}
-use Rattle.actors.specs.Fault.TheVariants.{Own}
-use Rattle.actors.specs.Kinds.{Ask, next_state, step_answer, on_call, count_value, Answer, kind_answer, IsKept}
 use Rattle.example_kinds.specs.declared.queue.TheConstants.{MAX_QUEUED}
 use Rattle.example_kinds.specs.Queue.{QueueCall, Enqueue, Dequeue, Waiting, queue_call, queue_does, queue_step, put_by, taken_by, taken_of, IsInOrder}
 

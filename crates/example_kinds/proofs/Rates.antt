@@ -1,16 +1,10 @@
 -- A limiter never grants more than its rate between two resets.
-use Rattle.std.proofs.Common.{◌≡◌, ◌≤◌, ◌<◌, ◌+◌, ℕ, suc, List, [], ◌∷◌, ◌++◌, length, filter, cond, Bool, true, false, refl, ap, sym, ◌∙◌, subst, arith}
-use Rattle.std.specs.Prelude.{Result, Ok, Err, ◌&&◌, ◌||◌, nat_lt, bytes_eq, codes, is_ok, if◌then◌else◌, pos, ◌-◌}
-use Rattle.std.specs.List.{list_any}
+use Rattle.example_kinds.proofs.Common.{◌≡◌, ◌≤◌, ◌<◌, ◌+◌, ℕ, suc, List, [], ◌∷◌, ◌++◌, length, filter, cond, Bool, true, false, refl, ap, sym, ◌∙◌, subst}
+use Rattle.example_kinds.proofs.Common.{arith, Result, Ok, Err, ◌&&◌, ◌||◌, nat_lt, bytes_eq, codes, is_ok, if◌then◌else◌, pos, ◌-◌, list_any, Value, Int}
+use Rattle.example_kinds.proofs.Common.{Fault, NoMethod, Own, Ask, next_state, step_answer, on_call, alone, Answer, kind_answer, told_in, IsKept, Left}
+use Rattle.example_kinds.proofs.Common.{method_text, holds_in_each_run}
 use Rattle.std.proofs.lemmas.Bool.{ltb-true}
-use Rattle.actors.specs.Value.{Value}
-use Rattle.actors.specs.Value.TheVariants.{Int}
-use Rattle.actors.specs.Fault.{Fault}
-use Rattle.actors.specs.Fault.TheVariants.{NoMethod, Own}
-use Rattle.actors.specs.Kinds.{Ask, next_state, step_answer, on_call, alone, Answer, kind_answer, told_in, IsKept, Left}
-use Rattle.actors.specs.Texts.{method_text}
 use Rattle.actors.specs.RunItem.{RunItem}
-use Rattle.actors.proofs.Lemmas.{holds_in_each_run}
 use Rattle.example_kinds.specs.declared.limiter.Limiter.{Limiter}
 use Rattle.example_kinds.specs.declared.limiter.LimiterCall.TheVariants.{Acquire, Reset, Left as HowMany}
 use Rattle.example_kinds.specs.Limiter.{limiter_does, limiter_step, limiter_text, limiter_of, limiter_at, is_grant, is_reset, grants, NeverAbove}
@@ -82,7 +76,8 @@ never_above most told h before stretch after is none =
 -- ---- what a step does to the count
 
 record Counts (l : Limiter) (acquire reset : Bool) (given : Result (Limiter × Value) Fault) : Type 0 where
-  count : next_count (acquire && is_ok (kind_answer (step_answer given))) (reset && is_ok (kind_answer (step_answer given))) l.granted ≡ (next_state l given).granted
+  count : next_count (acquire && is_ok (kind_answer (step_answer given)))
+      (reset && is_ok (kind_answer (step_answer given))) l.granted ≡ (next_state l given).granted
   most : (next_state l given).most ≡ l.most
   fits : l.granted ≤ l.most → (next_state l given).granted ≤ l.most
 
@@ -102,7 +97,8 @@ acquired l reset true e =
 acquired l reset false e = refused l true reset (Own (codes "RateLimited"))
 
 step_counts : (l : Limiter) (acquire reset left : Bool) (args : List Value)
-    → Counts l acquire reset (on_call limiter_does l (if acquire then alone Acquire args else (if reset then alone Reset args else (if left then alone HowMany args else Err NoMethod))))
+    → Counts l acquire reset (on_call limiter_does l
+    (if acquire then alone Acquire args else (if reset then alone Reset args else (if left then alone HowMany args else Err NoMethod))))
 step_counts l true reset left [] = acquired l reset (nat_lt l.granted l.most) refl
 step_counts l true reset left (arg ∷ args) = refused l true reset _
 step_counts l false true left [] = record { count = refl; most = refl; fits = λ fits. omega arith }
@@ -122,11 +118,13 @@ rate_is_kept most told l ask h =
     let given : Result (Limiter × Value) Fault = limiter_step l ask.method ask.args in
     let one : Ask × Answer = (ask, kind_answer (step_answer given)) in
     let counts : Counts l (bytes_eq (method_text ask.method) (codes "acquire")) (bytes_eq (method_text ask.method) (codes "reset")) given =
-    step_counts l (bytes_eq (method_text ask.method) (codes "acquire")) (bytes_eq (method_text ask.method) (codes "reset")) (bytes_eq (method_text ask.method) (codes "left")) ask.args in
+    step_counts l (bytes_eq (method_text ask.method) (codes "acquire")) (bytes_eq (method_text ask.method) (codes "reset"))
+    (bytes_eq (method_text ask.method) (codes "left")) ask.args in
     let now : counted (since 0 told) one ≡ (next_state l given).granted = ap (λ (n : ℕ). counted n one) h.known ∙ counts.count in
     let before : l.granted ≤ l.most = subst (λ (m : ℕ). l.granted ≤ m) (sym h.rate) (subst (λ (n : ℕ). n ≤ most) h.known (within_since most 0 told h.within)) in
     record {
-      within = within_last most 0 told one h.within (subst (λ (n : ℕ). n ≤ most) (sym now) (subst (λ (m : ℕ). (next_state l given).granted ≤ m) h.rate (counts.fits before)));
+      within = within_last most 0 told one h.within
+          (subst (λ (n : ℕ). n ≤ most) (sym now) (subst (λ (m : ℕ). (next_state l given).granted ≤ m) h.rate (counts.fits before)));
       known = since_last 0 told one ∙ now;
       rate = counts.most ∙ h.rate;
     }

@@ -1,2 +1,3 @@
+pub mod Common
 pub mod SamePurse
 pub mod Threads

@@ -1,19 +1,13 @@
 -- A purse is told by what it answers.
-use Rattle.std.proofs.Common.{◌≡◌, ℕ, zero, suc, ◌+◌, ◌≤◌, ◌↔◌, Bool, true, false, [], ◌∷◌, refl, ap, sym, ◌∙◌, arith, pos, nat_le}
-use Rattle.std.specs.Prelude.{Ok, is_ok, codes, int_lt, Some, IsTrue}
+use Rattle.example_transfer.proofs.Common.{◌≡◌, ℕ, zero, suc, ◌+◌, ◌≤◌, ◌↔◌, Bool, true, false, [], ◌∷◌, refl, ap, sym, ◌∙◌, arith, pos, nat_le, Ok, is_ok}
+use Rattle.example_transfer.proofs.Common.{codes, int_lt, Some, IsTrue, ActorSpec, History, runs_of, state_after, Purse, Together, purse_at, purse_need}
+use Rattle.example_transfer.proofs.Common.{IsPurse, HoldTogether}
 use Rattle.actors.specs.Value.{Value}
 use Rattle.actors.specs.Value.TheVariants.{Int}
 use Rattle.actors.specs.Method.TheVariants as method
 use Rattle.actors.specs.Fault.{Fault}
 use Rattle.actors.specs.Fault.TheVariants.{BadAmount, Insufficient}
 use Rattle.actors.specs.Kinds.{KindState, OwnAt, Ask, step_answer}
-use Rattle.actors.specs.Rules.{ActorSpec, History}
-use Rattle.actors.specs.Rules.{runs_of}
-use Rattle.actors.specs.Actors.{state_after}
-use Rattle.example_transfer.specs.declared.purse.Purse.{Purse}
-use Rattle.example_transfer.specs.declared.together.Together.{Together}
-use Rattle.example_transfer.specs.Purse.{purse_at, purse_need}
-use Rattle.example_transfer.specs.Money.{IsPurse, HoldTogether}
 
 -- whether a kind of one's own answers a call with a value
 abbrev gives : KindState → Ask → Bool

@@ -1,6 +1,9 @@
 -- What a run in threads leaves of two purses, where each end that a search saw keeps their sum.
-use Rattle.std.proofs.Common.{◌≡◌, ℕ, ◌≤◌, ◌==◌, true, List, map, Option, Some, None, refl, ap, sym, ◌∙◌, subst, arith}
-use Rattle.std.specs.Prelude.{find, option_map, option_and_then, IfSome}
+use Rattle.example_transfer.proofs.Common.{◌≡◌, ℕ, ◌≤◌, ◌==◌, true, List, map, Option, Some, None, refl, ap, sym, ◌∙◌, subst, arith, find, option_map}
+use Rattle.example_transfer.proofs.Common.{option_and_then, IfSome, ActorSpec, History, history, is_dead, state_after, RetiredView, retired_view, EndView}
+use Rattle.example_transfer.proofs.Common.{Killed, Retired, Starved, end_view, end_id, IfRetired, plan_of, IsJoined, RanAll, actors_of_casts, cast_at, Purse}
+use Rattle.example_transfer.proofs.Common.{Together, purse_at, PurseEnd, PurseLeft, IsPurse, HoldTogether, purse_of_end, purse_left, AreLeftTogether}
+use Rattle.example_transfer.proofs.Common.{HoldOtherwise, IsAnswer, IsKeptInThreads, ends_of}
 use Rattle.std.specs.Global.{Vec}
 use Rattle.std.specs.List.{list_any}
 use Rattle.std.proofs.lemmas.Bool.{eq-eqb, eqb-true}
@@ -8,28 +11,17 @@ use Rattle.std.proofs.lemmas.Map.Keys.{any_passes_from_place}
 use Rattle.actors.specs.Limits.{MAX_ACTORS}
 use Rattle.actors.specs.Event.{Event}
 use Rattle.actors.specs.Step.{Step}
-use Rattle.actors.specs.Rules.{ActorSpec, History, history}
-use Rattle.actors.specs.Rules.{is_dead}
 use Rattle.actors.specs.Callers.{one_to, OwnerView}
-use Rattle.actors.specs.Actors.{state_after, RetiredView, retired_view}
 use Rattle.act_rules.proofs.Lists.{find-map}
 use Rattle.act_rules.proofs.Unique.{map-slice_get}
-use Rattle.actors.specs.PlanEnds.{At, IsPlay}
+use Rattle.actors.specs.PlanEnds.{At, IsPlay, CanBeEndIn, EndsAsThreads, LeadsToEnd, EachRunHas, EndsInThreads}
 use Rattle.act_early.proofs.Worlds.{world}
-use Rattle.actors.specs.Threads.{EndView, Killed, Retired, Starved, end_view, end_id, IfRetired, plan_of, IsJoined, RanAll}
 use Rattle.actors.specs.Ended.TheVariants as ended
-use Rattle.actors.specs.Threads.{actors_of_casts, cast_at}
 use Rattle.act_plans.proofs.Numbers.{in_one_to}
 use Rattle.actors.specs.Plays.{IsPlayedAsPlanned}
 use Rattle.act_rules.proofs.Elements.{IsIn, in_from_contains, all_in, in_filter, found_is, finds}
-use Rattle.actors.specs.PlanEnds.{CanBeEndIn, EndsAsThreads}
-use Rattle.actors.specs.PlanEnds.{LeadsToEnd, EachRunHas, EndsInThreads}
-use Rattle.example_transfer.specs.declared.purse.Purse.{Purse}
-use Rattle.example_transfer.specs.declared.together.Together.{Together}
 use Rattle.example_transfer.specs.declared.purses.Purses.{Purses}
-use Rattle.example_transfer.specs.Purse.{purse_at}
 use Rattle.example_transfer.specs.Purses.{casts_of, together_of}
-use Rattle.example_transfer.specs.Money.{PurseEnd, PurseLeft, IsPurse, HoldTogether, purse_of_end, purse_left, AreLeftTogether, HoldOtherwise, IsAnswer, IsKeptInThreads, ends_of}
 use Rattle.example_transfer.proofs.SamePurse.{same_held}
 
 -- their numbers are those of actors
@@ -136,7 +128,8 @@ module _ (casts : List ActorSpec) (plans : List (ℕ × List Step)) (owners : Li
       left_by a actors purse found.actor.ended (ap (option_and_then (λ (x : PurseLeft). purse_of_end x.ended)) found.found)
       (subst (λ (x : EndView). Leaves x purse) (sym found.is) gone)
 
-  left_together : (t : Together) → IsJoined casts plans owners ends → (early : At) → IsPlay casts (λ c. plan_of c plans) early → EndsAsThreads plans early owners ends
+  left_together : (t : Together) → IsJoined casts plans owners ends → (early : At) → IsPlay casts (λ c. plan_of c plans) early
+      → EndsAsThreads plans early owners ends
       → HoldTogether t early.history → AreActors t → AreLeftTogether t actors
   left_together t joined early play alike h known =
       let one = left_so joined early play alike t.one h.one known.one.0 known.one.1 h.one_is in
@@ -157,7 +150,8 @@ kept_in_threads purses t plans same always = λ owners actors joined played.
 
 -- a run with what was opened is one
 pub kept_in_run : (purses : Purses) (plans : List (ℕ × List Step)) (owners : List OwnerView) (actors : List PurseLeft) (opened : List ActorSpec)
-    → opened ≡ casts_of purses → IsKeptInThreads purses plans → IsJoined opened plans owners (ends_of actors) → IsPlayedAsPlanned opened plans owners (ends_of actors)
+    → opened ≡ casts_of purses → IsKeptInThreads purses plans → IsJoined opened plans owners (ends_of actors)
+    → IsPlayedAsPlanned opened plans owners (ends_of actors)
     → AreLeftTogether (together_of purses) actors
 kept_in_run purses plans owners actors opened same kept joined played =
     kept owners actors (subst (λ (l : List ActorSpec). IsJoined l plans owners (ends_of actors)) same joined)

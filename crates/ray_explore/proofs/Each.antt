@@ -1,19 +1,12 @@
 -- That each end was told.
-use Rattle.std.proofs.Common.{◌≡◌, ℕ, true, false, List, [], Option, Result, Ok, Err, refl, ap, sym, ◌∙◌, subst, Contains}
-use Rattle.std.specs.Prelude.{IfOk}
-use Rattle.std.specs.BTreeSet.{BTreeSet, contains_text}
-use Rattle.std.specs.Global.{Global}
-use Rattle.std.specs.Prelude.{String}
+use Rattle.ray_explore.proofs.Common.{◌≡◌, ℕ, true, false, List, [], Option, Result, Ok, Err, refl, ap, sym, ◌∙◌, subst, Contains, IfOk, BTreeSet}
+use Rattle.ray_explore.proofs.Common.{contains_text, Global, String, history, told_at_rest, HasToldSome, TellsEach}
 use Rattle.act_rules.specs.declared.script.Step.{Step}
 use Rattle.act_rules.specs.History.{ActorSpec, History}
-use Rattle.act_rules.specs.Laws.{history}
-use Rattle.act_early.specs.Told.{told_at_rest}
 use Rattle.act_early.proofs.Told.{alike_told}
 use Rattle.act_plans.specs.Runs.{plan_of}
 use Rattle.act_explore.specs.Ends.{HasPassed, EachEndHas}
 use Rattle.ray_explore.specs.declared.telling.Told.{Told}
-use Rattle.ray_explore.specs.Telling.{HasToldSome}
-use Rattle.ray_explore.specs.All.{TellsEach}
 
 -- nothing is known at first
 pub none_told : (script : List ℕ) (ends : BTreeSet (String Global)) (old : Option (List ℕ)) → ends.keys ≡ [] → HasToldSome script ends old old
@@ -46,6 +39,7 @@ when_ok (Ok y) x K k e = k
 when_ok (Err error) x K k e = cc
 
 -- what is said where all was searched
-pub where_whole : {E : Type 0} (r : Result Told E) (Q T : Type 0) → IfOk r (λ told. told.is_whole ≡ true → Q) → (Q → T) → IfOk r (λ told. told.is_whole ≡ true → T)
+pub where_whole : {E : Type 0} (r : Result Told E) (Q T : Type 0) → IfOk r (λ told. told.is_whole ≡ true → Q) → (Q → T)
+    → IfOk r (λ told. told.is_whole ≡ true → T)
 where_whole (Ok told) Q T f next = λ whole. next (f whole)
 where_whole (Err error) Q T f next = tt

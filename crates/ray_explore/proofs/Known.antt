@@ -1,12 +1,8 @@
 -- Which ends are known, once one more was told.
-use Rattle.std.proofs.Common.{◌≡◌, ℕ, ◌<◌, arith, length, Bool, true, false, cond, List, [], ◌∷◌, ◌++◌, bytes_eq, Option, refl, ap, sym, ◌∙◌, subst, Contains}
-use Rattle.std.specs.BTreeSet.{BTreeSet, contains_text}
-use Rattle.std.specs.Global.{Global}
-use Rattle.std.specs.Prelude.{String}
+use Rattle.ray_explore.proofs.Common.{◌≡◌, ℕ, ◌<◌, arith, length, Bool, true, false, cond, List, [], ◌∷◌, ◌++◌, bytes_eq, Option, refl, ap, sym, ◌∙◌, subst}
+use Rattle.ray_explore.proofs.Common.{Contains, BTreeSet, contains_text, Global, String, TellsEnd, TellsNew, TellsEnds, HasToldSome, HasToldMore}
 use Rattle.std.specs.Cmp.Lexicographic.{bytes_decides}
 use Rattle.std.proofs.lemmas.List.Elements.{Contains-append_left, Contains-append_right}
-use Rattle.ray_explore.specs.Told.{TellsEnd, TellsNew, TellsEnds}
-use Rattle.ray_explore.specs.Telling.{HasToldSome, HasToldMore}
 use Rattle.ray_explore.proofs.Written.{one_end_more}
 
 -- the set has these lines, and what it had
@@ -17,7 +13,8 @@ pub known_now : (lines same : List ℕ) (old new : BTreeSet (String Global)) →
 known_now lines same old new adds is =
     adds same ∙ ap (λ (b : Bool). cond b true (contains_text old same)) ((bytes_decides lines same).1 is)
 
-pub known_still : (lines other : List ℕ) (old new : BTreeSet (String Global)) → Adds lines old new → contains_text old other ≡ true → contains_text new other ≡ true
+pub known_still : (lines other : List ℕ) (old new : BTreeSet (String Global)) → Adds lines old new → contains_text old other ≡ true
+    → contains_text new other ≡ true
 known_still lines other old new adds was = adds other ∙ go (bytes_eq lines other) (contains_text old other) was
   where
     go : (b had : Bool) → had ≡ true → cond b true had ≡ true
@@ -37,7 +34,8 @@ last_one : (told : List (List ℕ)) (lines : List ℕ) → Contains (told ++ lin
 last_one told lines = let within : 0 < length (lines ∷ []) = omega arith in Contains-append_right told (lines ∷ []) lines (0, within, refl)
 
 -- an end that is new was written
-pub told_new : (script lines : List ℕ) (is_new : Bool) (old new : BTreeSet (String Global)) (before after : Option (List ℕ)) → Adds lines old new → is_new ≡ true
+pub told_new : (script lines : List ℕ) (is_new : Bool) (old new : BTreeSet (String Global)) (before after : Option (List ℕ)) → Adds lines old new
+    → is_new ≡ true
     → TellsNew script lines is_new before after → HasToldMore script old new before after
 told_new script lines is_new old new before after adds fresh wrote first (told, has) =
     let written : TellsEnd script lines before after = subst (λ (b : Bool). TellsNew script lines b before after) fresh wrote in (
@@ -50,7 +48,8 @@ told_new script lines is_new old new before after adds fresh wrote first (told, 
     )
 
 -- one that was told before was not
-pub told_before : (script lines : List ℕ) (is_new : Bool) (old new : BTreeSet (String Global)) (before after : Option (List ℕ)) → Adds lines old new → is_new ≡ false
+pub told_before : (script lines : List ℕ) (is_new : Bool) (old new : BTreeSet (String Global)) (before after : Option (List ℕ)) → Adds lines old new
+    → is_new ≡ false
     → contains_text old lines ≡ true → TellsNew script lines is_new before after → HasToldMore script old new before after
 told_before script lines is_new old new before after adds stale known wrote first (told, has) =
     let same : after ≡ before = subst (λ (b : Bool). TellsNew script lines b before after) stale wrote in (
@@ -62,7 +61,8 @@ told_before script lines is_new old new before after adds stale known wrote firs
     )
 
 -- the same of a script that is seen otherwise
-pub told_there : (script seen : List ℕ) (old new : BTreeSet (String Global)) (first before after : Option (List ℕ)) → seen ≡ script → HasToldMore seen old new before after
+pub told_there : (script seen : List ℕ) (old new : BTreeSet (String Global)) (first before after : Option (List ℕ)) → seen ≡ script
+    → HasToldMore seen old new before after
     → HasToldSome script old first before → HasToldSome script new first after
 told_there script seen old new first before after same more some =
     subst (λ (s : List ℕ). HasToldSome s new first after) same (more first (subst (λ (s : List ℕ). HasToldSome s old first before) (sym same) some))

@@ -1,3 +1,4 @@
+pub mod Common
 pub mod Written
 pub mod Known
 pub mod Each

@@ -12,6 +12,7 @@ returns g c =
       accepted = subst (λ (events : List Event). All IsOk (outcomes (opening specs) events)) c.deref.ensures.value c.in_ok-world.ensures.accepted;
       reached = reached;
       through = λ caller first last named.
-          subst (λ (casts : List ActorSpec). IsThrough (g.M.Codes.makes c.args.codes.now caller) g.C.Code.tells (opened_of caller casts) (calls_of caller (history specs events)) (kept_of caller (history specs events))) c.requires.same
+          subst (λ (casts : List ActorSpec). IsThrough (g.M.Codes.makes c.args.codes.now caller) g.C.Code.tells (opened_of caller casts)
+          (calls_of caller (history specs events)) (kept_of caller (history specs events))) c.requires.same
           (c.in_ok-all_left.ensures c.if-not-branch.false caller first last specs events reached named);
     }

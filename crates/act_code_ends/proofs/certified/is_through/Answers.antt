@@ -10,4 +10,5 @@ returns g c holds specs events reached named =
     let opened = opened_with c.args.c (limits_that_name c.args.c c.args.casts.now) in
     subst (λ (o : OwnerView). IsThrough makes g.C.Code.tells o (calls_of c.args.c h) (kept_of c.args.c h)) (opened_as g.K.Actor.state c.args.c c.args.casts.now)
     (through_is makes g.C.Code.tells opened h c.args.c c.in_ok-rehearsed.rehearsed.owner c.in-Some.owner.now
-    (left.same holds) c.in_ok-rehearsed.ensures.places (c.in-Some.ensures.reached specs events reached) (c.in_ok-rehearsed.ensures.ended (left.ended holds)) (left.answered holds))
+    (left.same holds) c.in_ok-rehearsed.ensures.places (c.in-Some.ensures.reached specs events reached) (c.in_ok-rehearsed.ensures.ended (left.ended holds))
+    (left.answered holds))

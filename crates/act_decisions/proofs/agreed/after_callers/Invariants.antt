@@ -1,7 +1,4 @@
-use Rattle.act_decisions.proofs.Common.{flat_map}
-use Rattle.act_rules.specs.Report.{one_to}
-use Rattle.act_summaries.specs.Stems.{OfCall, placed}
-use Rattle.act_decisions.specs.Agreed.{calls_told, AgreeUpTo}
+use Rattle.act_decisions.proofs.Common.{flat_map, one_to, OfCall, placed, calls_told, AgreeUpTo}
 use Rattle.act_decisions.proofs.agreed.after_callers.Given as goal
 
 -- the lines so far are those of the callers so far

@@ -1,6 +1,4 @@
-use Rattle.act_decisions.proofs.Common.{map, take}
-use Rattle.act_summaries.specs.Stems.{OfCall, placed}
-use Rattle.act_decisions.specs.Agreed.{call_told, AgreeUpTo}
+use Rattle.act_decisions.proofs.Common.{map, take, OfCall, placed, call_told, AgreeUpTo}
 use Rattle.act_decisions.proofs.agreed.after_calls.Given as goal
 
 -- the lines so far are those of the calls so far

@@ -1,6 +1,4 @@
-use Rattle.act_decisions.proofs.Common.{map, take}
-use Rattle.act_summaries.specs.Stems.{OfRun, placed}
-use Rattle.act_decisions.specs.Agreed.{ran_told, AgreeUpTo}
+use Rattle.act_decisions.proofs.Common.{map, take, OfRun, placed, ran_told, AgreeUpTo}
 use Rattle.act_decisions.proofs.agreed.after_runs.Given as goal
 
 -- the lines so far are those of the runs so far

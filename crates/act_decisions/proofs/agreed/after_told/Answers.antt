@@ -1,8 +1,5 @@
-use Rattle.act_decisions.proofs.Common.{Bor, List, [], ◌∷◌, ℕ, ◌<◌, Option, length, map, subst, rules, tests}
-use Rattle.std.specs.Prelude.{IfSome}
-use Rattle.act_summaries.specs.Stems.{End, OfEnd, OfRun, placed, stems_of_actor}
-use Rattle.act_walks.specs.declared.told.ToldRun.{ToldRun}
-use Rattle.act_decisions.specs.Agreed.{end_told, ran_told, AgreeUpTo}
+use Rattle.act_decisions.proofs.Common.{Bor, List, [], ◌∷◌, ℕ, ◌<◌, Option, length, map, subst, rules, tests, IfSome, End, OfEnd, OfRun, placed, stems_of_actor}
+use Rattle.act_decisions.proofs.Common.{ToldRun, end_told, ran_told, AgreeUpTo}
 use Rattle.act_decisions.proofs.Agreeing.{actor_more, some_left}
 use Rattle.act_decisions.proofs.agreed.after_told.Goals as goal
 
@@ -12,7 +9,8 @@ returns c =
     let rest = c.args.rest.now in
     let mid = c.in-Some.left.now in
     let some : 0 < length actor.callers.items = search (rules, tests) in
-    let first = subst (λ (o : Option (Bor (List ℕ))). IfSome o (λ left. AgreeUpTo (OfEnd c.args.a actor.is_dead actor.is_retired ∷ []) rest left.now)) c.in-Some.is c.in_ok-left.ensures in
+    let first = subst (λ (o : Option (Bor (List ℕ))). IfSome o (λ left. AgreeUpTo (OfEnd c.args.a actor.is_dead actor.is_retired ∷ []) rest left.now))
+    c.in-Some.is c.in_ok-left.ensures in
     let ended : End = record { dead = actor.is_dead; retired = actor.is_retired; runs = map ran_told actor.runs.items } in
     some_left c.in_ok-below.below
     (AgreeUpTo (placed (OfRun c.args.a) 0 (map ran_told c.deref.result.now)) mid)

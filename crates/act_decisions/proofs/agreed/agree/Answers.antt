@@ -1,9 +1,5 @@
-use Rattle.act_decisions.proofs.Common.{Bor, List, ℕ, Option, subst, flat_map}
-use Rattle.std.specs.Prelude.{IfSome}
-use Rattle.act_types.specs.declared.limits.TheConstants.{MAX_ACTORS, MAX_CALLERS}
-use Rattle.act_rules.specs.Report.{one_to}
-use Rattle.act_summaries.specs.Stems.{Stem, OfCall, placed, stems_of_actor}
-use Rattle.act_decisions.specs.Agreed.{calls_told, ends_told, AgreeUpTo}
+use Rattle.act_decisions.proofs.Common.{Bor, List, ℕ, Option, subst, flat_map, IfSome, MAX_ACTORS, MAX_CALLERS, one_to, Stem, OfCall, placed, stems_of_actor}
+use Rattle.act_decisions.proofs.Common.{calls_told, ends_told, AgreeUpTo}
 use Rattle.act_decisions.proofs.Agreeing.{agree_on, agree_all}
 use Rattle.act_decisions.proofs.agreed.agree.Goals as goal
 

@@ -1,6 +1,4 @@
-use Rattle.act_decisions.proofs.Common.{List, ℕ, ◌++◌, ◌∙◌, sym, ap, append_assoc, map, subst, All}
-use Rattle.act_types.specs.Texts.{method_text, settled_text, with_spaces}
-use Rattle.act_summaries.specs.Stems.{IsReadable}
+use Rattle.act_decisions.proofs.Common.{List, ℕ, ◌++◌, ◌∙◌, sym, ap, append_assoc, map, subst, All, method_text, settled_text, with_spaces, IsReadable}
 use Rattle.act_decisions.proofs.agreed.agrees_words.Goals as goal
 
 pub returns : goal.returns

@@ -1,4 +1,4 @@
-use Rattle.act_summaries.specs.Stems.{IsReadable}
+use Rattle.act_decisions.proofs.Common.{IsReadable}
 use Rattle.act_decisions.proofs.Calls.{each, each_more}
 use Rattle.act_decisions.proofs.agreed.are_readable.Goals as goal
 

@@ -1,5 +1,4 @@
-use Rattle.act_decisions.proofs.Common.{All, take}
-use Rattle.act_summaries.specs.Stems.{IsReadable}
+use Rattle.act_decisions.proofs.Common.{All, take, IsReadable}
 use Rattle.act_decisions.proofs.agreed.are_readable.Given as goal
 
 -- the arguments so far can be read back

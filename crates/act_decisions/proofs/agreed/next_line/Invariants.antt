@@ -1,5 +1,4 @@
-use Rattle.act_decisions.proofs.Common.{◌≡◌, length}
-use Rattle.act_decisions.specs.Agreed.{lines_told}
+use Rattle.act_decisions.proofs.Common.{◌≡◌, length, lines_told}
 use Rattle.act_decisions.proofs.agreed.next_line.Given as goal
 
 -- the lines so far are skipped

@@ -1,5 +1,4 @@
-use Rattle.act_decisions.proofs.Common.{◌≡◌, ◌++◌, take, string_bytes, flat_map}
-use Rattle.act_types.specs.Texts.{space, settled_text}
+use Rattle.act_decisions.proofs.Common.{◌≡◌, ◌++◌, take, string_bytes, flat_map, space, settled_text}
 use Rattle.act_decisions.proofs.agreed.push_args.Given as goal
 
 -- the arguments so far are written

@@ -1,6 +1,4 @@
-use Rattle.act_decisions.proofs.Common.{List, ℕ, ◌++◌, ◌∙◌, ap, flat_map}
-use Rattle.act_types.specs.Texts.{space, method_text, settled_text}
-use Rattle.act_types.specs.declared.call.Settled.{Settled}
+use Rattle.act_decisions.proofs.Common.{List, ℕ, ◌++◌, ◌∙◌, ap, flat_map, space, method_text, settled_text, Settled}
 use Rattle.act_decisions.proofs.Agreeing.{spaced}
 use Rattle.act_decisions.proofs.agreed.run_words.Goals as goal
 

@@ -1,5 +1,4 @@
-use Rattle.act_decisions.proofs.Common.{◌≡◌, take, map}
-use Rattle.act_types.specs.declared.call.Settled.TheVariants.{Good}
+use Rattle.act_decisions.proofs.Common.{◌≡◌, take, map, Good}
 use Rattle.act_decisions.proofs.answers.values_of.Given as goal
 
 -- the arguments so far are good, and these are their values

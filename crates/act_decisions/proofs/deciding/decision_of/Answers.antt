@@ -1,8 +1,4 @@
-use Rattle.act_decisions.proofs.Common.{◌≤◌, ℕ, List, Option, length, map, ap, subst, arith, actor_spec_of, not_so}
-use Rattle.std.specs.Prelude.{IfSome}
-use Rattle.act_rules.specs.declared.event.Event.{Event}
-use Rattle.act_rules.specs.declared.script.Step.{Step}
-use Rattle.act_decisions.specs.Decided.{IsBadIn, Refutes}
+use Rattle.act_decisions.proofs.Common.{◌≤◌, ℕ, List, Option, length, map, ap, subst, arith, actor_spec_of, not_so, IfSome, Event, Step, IsBadIn, Refutes}
 use Rattle.act_decisions.proofs.Decided.{bad_step_of, ends_so, few_own, nowhere, own_steps}
 use Rattle.act_decisions.proofs.deciding.decision_of.Goals as goal
 
@@ -24,7 +20,8 @@ bad_plan-requires-clause-short g c = λ d plan some few bound.
 pub returns-in-Some : goal.returns-in-Some
 returns-in-Some g c =
     let casts = map actor_spec_of c.args.roles.now in
-    let bad = subst (λ (o : Option (ℕ × ℕ)). IfSome o (λ at. (1 ≤ at.0) × (at.0 ≤ 16) × IsBadIn c.args.end.now casts at.0 at.1)) c.in-Some.is c.in_ok-bad.ensures.some in
+    let bad = subst (λ (o : Option (ℕ × ℕ)). IfSome o (λ at. (1 ≤ at.0) × (at.0 ≤ 16) × IsBadIn c.args.end.now casts at.0 at.1)) c.in-Some.is
+    c.in_ok-bad.ensures.some in
     bad_step_of c.args.end.now c.args.steps.now c.requires.lines casts _ _ bad.0 bad.1 bad.2
 
 pub returns-then-branch-2 : goal.returns-then-branch-2

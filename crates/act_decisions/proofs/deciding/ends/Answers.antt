@@ -5,4 +5,5 @@ pub returns-then-not-walked-clause-exact : goal.returns-then-not-walked-clause-e
 returns-then-not-walked-clause-exact g c = λ casts events reached done matches. absurd (not_so c.args.walked.now.is_done done c.if-not-walked.true)
 
 pub returns-clause-exact : goal.returns-clause-exact
-returns-clause-exact g c = IfOk-weaker c.matches_told.result _ _ (λ is both casts events reached done matches. (both casts events reached).1 matches) c.matches_told.ensures
+returns-clause-exact g c = IfOk-weaker c.matches_told.result _ _ (λ is both casts events reached done matches. (both casts events reached).1 matches)
+    c.matches_told.ensures

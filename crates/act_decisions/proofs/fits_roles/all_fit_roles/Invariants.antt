@@ -1,7 +1,4 @@
-use Rattle.act_decisions.proofs.Common.{◌≡◌, ◌<◌, ◌==◌, ℕ, map, actor_spec_of}
-use Rattle.std.specs.Prelude.{find}
-use Rattle.act_rules.specs.History.{callers_in}
-use Rattle.act_walks.specs.Fits.{callers_of}
+use Rattle.act_decisions.proofs.Common.{◌≡◌, ◌<◌, ◌==◌, ℕ, map, actor_spec_of, find, callers_in, callers_of}
 use Rattle.act_decisions.proofs.fits_roles.all_fit_roles.Given as goal
 
 -- the actors so far have the callers that their roles name

@@ -1,6 +1,4 @@
-use Rattle.act_decisions.proofs.Common.{ℕ, List, map, sym, ap, ◌∙◌, subst, actor_spec_of}
-use Rattle.std.specs.Prelude.{◌≢◌, AllPairs}
-use Rattle.act_rules.specs.Plans.{first_bad}
+use Rattle.act_decisions.proofs.Common.{ℕ, List, map, sym, ap, ◌∙◌, subst, actor_spec_of, ◌≢◌, AllPairs, first_bad}
 use Rattle.act_rules.proofs.Planned.{actors_of-actor_spec}
 use Rattle.act_decisions.proofs.Fitting.{naming_differ}
 use Rattle.act_decisions.proofs.fits_roles.bad_place.Goals as goal
@@ -13,4 +11,5 @@ bad_step-requires-clause-differ c =
 
 pub returns : goal.returns
 returns c = c.in_ok-bad.ensures
-    ∙ ap (λ (actors : List ℕ). first_bad actors c.args.plan.now) (c.deref.ensures.value ∙ c.in_ok-actors.ensures ∙ actors_of-actor_spec c.args.c c.args.roles.now)
+    ∙ ap (λ (actors : List ℕ). first_bad actors c.args.plan.now) (c.deref.ensures.value ∙ c.in_ok-actors.ensures
+    ∙ actors_of-actor_spec c.args.c c.args.roles.now)

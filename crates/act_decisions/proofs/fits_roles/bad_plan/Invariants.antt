@@ -1,6 +1,4 @@
-use Rattle.act_decisions.proofs.Common.{◌≡◌, ◌≤◌, ℕ, List, map, Some, None, Step, actor_spec_of, bound_of}
-use Rattle.act_rules.specs.History.{actors_naming}
-use Rattle.act_rules.specs.Plans.{first_bad}
+use Rattle.act_decisions.proofs.Common.{◌≡◌, ◌≤◌, ℕ, List, map, Some, None, Step, actor_spec_of, bound_of, actors_naming, first_bad}
 use Rattle.act_decisions.proofs.fits_roles.bad_plan.Given as goal
 
 -- the rules refuse no step of the callers so far

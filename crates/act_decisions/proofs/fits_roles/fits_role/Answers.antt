@@ -1,6 +1,4 @@
-use Rattle.act_decisions.proofs.Common.{◌≤◌, List, length, sym, ◌∙◌, subst, read_is}
-use Rattle.std.specs.Prelude.{option_copied}
-use Rattle.act_walks.specs.declared.told.ToldActor.{ToldActor}
+use Rattle.act_decisions.proofs.Common.{◌≤◌, List, length, sym, ◌∙◌, subst, read_is, option_copied, ToldActor}
 use Rattle.act_decisions.proofs.Fitting.{callers_said, role_found, unsaid}
 use Rattle.act_decisions.proofs.fits_roles.fits_role.Goals as goal
 

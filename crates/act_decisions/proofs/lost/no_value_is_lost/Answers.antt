@@ -1,8 +1,4 @@
-use Rattle.act_decisions.proofs.Common.{◌≡◌, ◌<◌, ℕ, List, length, sym, ap, ◌∙◌, arith, slice_get, ActorSpec}
-use Rattle.act_walks.specs.declared.told.ToldRun.{ToldRun}
-use Rattle.act_walks.specs.Fits.{rans_in}
-use Rattle.act_decisions.specs.Answered.{AreAnswers}
-use Rattle.act_decisions.specs.Placed.{IsRunIn, TakesNone}
+use Rattle.act_decisions.proofs.Common.{◌≡◌, ◌<◌, ℕ, List, length, sym, ap, ◌∙◌, arith, slice_get, ActorSpec, ToldRun, rans_in, AreAnswers, IsRunIn, TakesNone}
 use Rattle.act_decisions.proofs.Fitting.{all_runs, below_more, item_at, runs_said}
 use Rattle.act_decisions.proofs.lost.no_value_is_lost.Goals as goal
 
@@ -14,10 +10,12 @@ loop-b-preserved c =
     let within : b < length end.actors.items = omega arith in
     let runs : c.deref.result.now ≡ rans_in end b =
     c.deref.ensures.value ∙ sym (runs_said end b c.index.result.now (item_at end.actors.items b c.index.result.now within c.index.ensures)) in
-    below_more (λ (a : ℕ). (q : ℕ) (run : ToldRun) → IsRunIn end a q run → (casts : List ActorSpec) → AreAnswers casts end all → TakesNone casts end run) b c.loop-b.invariant
+    below_more (λ (a : ℕ). (q : ℕ) (run : ToldRun) → IsRunIn end a q run → (casts : List ActorSpec) → AreAnswers casts end all
+    → TakesNone casts end run) b c.loop-b.invariant
     (λ q run at casts are. c.take_none.ensures casts are c.if-not-take_none.false q run (ap (λ (l : List ToldRun). slice_get l q) runs ∙ at))
 
 pub returns : goal.returns
 returns c = λ casts are _ a q run at.
-    all_runs c.args.end.now (λ (a q : ℕ) (run : ToldRun). (casts : List ActorSpec) → AreAnswers casts c.args.end.now c.args.all.now → TakesNone casts c.args.end.now run)
+    all_runs c.args.end.now (λ (a q : ℕ) (run : ToldRun). (casts : List ActorSpec) → AreAnswers casts c.args.end.now c.args.all.now
+    → TakesNone casts c.args.end.now run)
     c.loop-b.b (omega arith) c.loop-b.invariant a q run at casts are

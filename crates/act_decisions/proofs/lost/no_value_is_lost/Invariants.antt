@@ -1,7 +1,4 @@
-use Rattle.act_decisions.proofs.Common.{◌<◌, ℕ, List, ActorSpec}
-use Rattle.act_walks.specs.declared.told.ToldRun.{ToldRun}
-use Rattle.act_decisions.specs.Answered.{AreAnswers}
-use Rattle.act_decisions.specs.Placed.{IsRunIn, TakesNone}
+use Rattle.act_decisions.proofs.Common.{◌<◌, ℕ, List, ActorSpec, ToldRun, AreAnswers, IsRunIn, TakesNone}
 use Rattle.act_decisions.proofs.lost.no_value_is_lost.Given as goal
 
 -- the runs of the actors so far take none

@@ -1,7 +1,4 @@
-use Rattle.act_decisions.proofs.Common.{ℕ, List, arith, ActorSpec}
-use Rattle.act_walks.specs.declared.told.ToldRun.{ToldRun}
-use Rattle.act_decisions.specs.Answered.{AreAnswers}
-use Rattle.act_decisions.specs.Placed.{TakesNone}
+use Rattle.act_decisions.proofs.Common.{ℕ, List, arith, ActorSpec, ToldRun, AreAnswers, TakesNone}
 use Rattle.act_decisions.proofs.Fitting.{all_items, item_more}
 use Rattle.act_decisions.proofs.lost.take_none.Goals as goal
 
@@ -10,7 +7,8 @@ loop-q-preserved c =
     let runs = c.args.runs.now in
     let end = c.args.end.now in
     item_more (λ (q : ℕ) (run : ToldRun). (casts : List ActorSpec) → AreAnswers casts end c.args.all.now → TakesNone casts end run)
-    runs c.loop-q.q c.index-runs-q.result (omega arith) c.index-runs-q.is (λ casts are. c.takes_none.ensures casts are c.if-not-takes_none.false) c.loop-q.invariant
+    runs c.loop-q.q c.index-runs-q.result (omega arith) c.index-runs-q.is
+    (λ casts are. c.takes_none.ensures casts are c.if-not-takes_none.false) c.loop-q.invariant
 
 pub returns : goal.returns
 returns c = λ casts are _ q run at.

@@ -1,7 +1,4 @@
-use Rattle.act_decisions.proofs.Common.{◌≡◌, ◌<◌, ◌≤◌, ℕ, List, length, ap, ◌∙◌, get_or, subst, ActorSpec}
-use Rattle.act_types.specs.declared.call.Settled.{Settled}
-use Rattle.act_decisions.specs.Answered.{AreAnswers}
-use Rattle.act_decisions.specs.Placed.{TakesNoValue}
+use Rattle.act_decisions.proofs.Common.{◌≡◌, ◌<◌, ◌≤◌, ℕ, List, length, ap, ◌∙◌, get_or, subst, ActorSpec, Settled, AreAnswers, TakesNoValue}
 use Rattle.act_decisions.proofs.Fitting.{all_items, item_more}
 use Rattle.act_decisions.proofs.lost.takes_none.Goals as goal
 
@@ -11,7 +8,8 @@ loop-i-preserved c =
     let run = c.args.run.now in
     let args = c.as_slice-args.ensures in
     let within : c.loop-i.i < length run.args = subst (λ (l : List Settled). c.loop-i.i < length l) args c.loop-i-test.true in
-    let is : c.index-args-i.result ≡ get_or run.args c.loop-i.i c.index-args-i.result = c.index-args-i.is ∙ ap (λ (l : List Settled). get_or l c.loop-i.i c.index-args-i.result) args in
+    let is : c.index-args-i.result ≡ get_or run.args c.loop-i.i c.index-args-i.result =
+    c.index-args-i.is ∙ ap (λ (l : List Settled). get_or l c.loop-i.i c.index-args-i.result) args in
     item_more (λ (i : ℕ) (arg : Settled). (casts : List ActorSpec) → AreAnswers casts end c.args.all.now → TakesNoValue casts end run.caller arg)
     run.args c.loop-i.i c.index-args-i.result within is (λ casts are. c.takes_no_value.ensures casts are c.if-not-takes_no_value.false) c.loop-i.invariant
 
@@ -19,5 +17,6 @@ pub returns : goal.returns
 returns c = λ casts are _ i arg at.
     let run = c.args.run.now in
     let whole : length run.args ≤ c.loop-i.i = subst (λ (l : List Settled). length l ≤ c.loop-i.i) c.as_slice-args.ensures c.loop-i-test.false in
-    all_items (λ (i : ℕ) (arg : Settled). (casts : List ActorSpec) → AreAnswers casts c.args.end.now c.args.all.now → TakesNoValue casts c.args.end.now run.caller arg)
+    all_items (λ (i : ℕ) (arg : Settled). (casts : List ActorSpec) → AreAnswers casts c.args.end.now c.args.all.now
+    → TakesNoValue casts c.args.end.now run.caller arg)
     run.args c.loop-i.i whole c.loop-i.invariant i arg at casts are

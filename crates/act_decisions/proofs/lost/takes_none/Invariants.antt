@@ -1,7 +1,4 @@
-use Rattle.act_decisions.proofs.Common.{◌≡◌, ◌<◌, ℕ, List, Some, slice_get, ActorSpec}
-use Rattle.act_types.specs.declared.call.Settled.{Settled}
-use Rattle.act_decisions.specs.Answered.{AreAnswers}
-use Rattle.act_decisions.specs.Placed.{TakesNoValue}
+use Rattle.act_decisions.proofs.Common.{◌≡◌, ◌<◌, ℕ, List, Some, slice_get, ActorSpec, Settled, AreAnswers, TakesNoValue}
 use Rattle.act_decisions.proofs.lost.takes_none.Given as goal
 
 -- the arguments so far take none

@@ -1,7 +1,4 @@
-use Rattle.std.proofs.Common.{arith, sym, ◌∙◌, ap, Option, [], length, refl}
-use Rattle.std.specs.Option.{option_map_or}
-use Rattle.std.proofs.lemmas.Option.{slice_get_read}
-use Rattle.act_walks.specs.declared.told.ToldActor.{ToldActor}
+use Rattle.act_decisions.proofs.Common.{arith, sym, ◌∙◌, ap, Option, [], length, refl, option_map_or, slice_get_read, ToldActor}
 use Rattle.act_decisions.proofs.misplaced.has_misplaced.Goals as goal
 
 pub returns-then-has_misplaced_at : goal.returns-then-has_misplaced_at

@@ -1,7 +1,4 @@
-use Rattle.std.proofs.Common.{sym, ◌∙◌, ap, List, slice_get}
-use Rattle.std.proofs.lemmas.Option.{slice_get_read}
-use Rattle.std.proofs.Common.{length, refl}
-use Rattle.act_walks.specs.declared.told.ToldRun.{ToldRun}
+use Rattle.act_decisions.proofs.Common.{sym, ◌∙◌, ap, List, slice_get, slice_get_read, length, refl, ToldRun}
 use Rattle.act_decisions.proofs.misplaced.has_misplaced_at.Goals as goal
 
 pub returns-then-is_misplaced : goal.returns-then-is_misplaced

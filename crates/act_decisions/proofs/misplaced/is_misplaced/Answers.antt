@@ -1,5 +1,4 @@
-use Rattle.std.proofs.Common.{rules, tests}
-use Rattle.act_decisions.specs.Misplaced.{OtherActor}
+use Rattle.act_decisions.proofs.Common.{rules, tests, OtherActor}
 use Rattle.act_decisions.proofs.misplaced.is_misplaced.Goals as goal
 
 pub returns-then-number-a : goal.returns-then-number-a

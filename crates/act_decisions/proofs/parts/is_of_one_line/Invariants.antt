@@ -1,4 +1,4 @@
-use Rattle.std.proofs.Common.{◌≢◌, All, take}
+use Rattle.act_decisions.proofs.Common.{◌≢◌, All, take}
 use Rattle.act_decisions.proofs.parts.is_of_one_line.Given as goal
 
 -- the bytes so far end no line

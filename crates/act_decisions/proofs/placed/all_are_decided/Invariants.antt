@@ -1,5 +1,4 @@
-use Rattle.act_decisions.proofs.Common.{◌≡◌, ◌<◌, ℕ, List, Some, slice_get, caller_in, ActorSpec, ToldCaller, ToldCall, StandsThere, IsDecided}
-use Rattle.act_decisions.specs.Answered.{AreAnswers}
+use Rattle.act_decisions.proofs.Common.{◌≡◌, ◌<◌, ℕ, List, Some, slice_get, caller_in, ActorSpec, ToldCaller, ToldCall, StandsThere, IsDecided, AreAnswers}
 use Rattle.act_decisions.proofs.placed.all_are_decided.Given as goal
 
 -- the callers so far are decided

@@ -1,5 +1,4 @@
-use Rattle.act_decisions.proofs.Common.{◌≡◌, map, take}
-use Rattle.act_told_ends.specs.Untold.{arg_as_run}
+use Rattle.act_decisions.proofs.Common.{◌≡◌, map, take, arg_as_run}
 use Rattle.act_decisions.proofs.placed.are_as_run.Given as goal
 
 -- the arguments so far are

@@ -1,5 +1,4 @@
-use Rattle.act_decisions.proofs.Common.{◌≡◌, ◌<◌, ℕ, List, Some, slice_get, ActorSpec, ToldCall, StandsThere, IsDecided}
-use Rattle.act_decisions.specs.Answered.{AreAnswers}
+use Rattle.act_decisions.proofs.Common.{◌≡◌, ◌<◌, ℕ, List, Some, slice_get, ActorSpec, ToldCall, StandsThere, IsDecided, AreAnswers}
 use Rattle.act_decisions.proofs.placed.are_decided.Given as goal
 
 -- the calls so far are decided

@@ -1,5 +1,4 @@
-use Rattle.act_decisions.proofs.Common.{◌≡◌, ◌<◌, ℕ, Some, slice_get, IsPlacedAt}
-use Rattle.act_walks.specs.declared.told.ToldRun.{ToldRun}
+use Rattle.act_decisions.proofs.Common.{◌≡◌, ◌<◌, ℕ, Some, slice_get, IsPlacedAt, ToldRun}
 use Rattle.act_decisions.proofs.placed.are_placed.Given as goal
 
 -- the runs so far are placed

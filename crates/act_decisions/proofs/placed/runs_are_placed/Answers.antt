@@ -1,7 +1,4 @@
-use Rattle.act_decisions.proofs.Common.{◌≡◌, ◌<◌, ℕ, List, length, sym, ap, ◌∙◌, arith, slice_get, IsPlacedAt}
-use Rattle.act_walks.specs.declared.told.ToldRun.{ToldRun}
-use Rattle.act_walks.specs.Fits.{rans_in}
-use Rattle.act_decisions.specs.Placed.{IsRunIn}
+use Rattle.act_decisions.proofs.Common.{◌≡◌, ◌<◌, ℕ, List, length, sym, ap, ◌∙◌, arith, slice_get, IsPlacedAt, ToldRun, rans_in, IsRunIn}
 use Rattle.act_decisions.proofs.Fitting.{all_runs, below_more, item_at, runs_said}
 use Rattle.act_decisions.proofs.placed.runs_are_placed.Goals as goal
 
@@ -16,4 +13,5 @@ loop-a-preserved c =
     (λ p run at. c.are_placed.ensures c.if-not-are_placed.false p run (ap (λ (l : List ToldRun). slice_get l p) runs ∙ at))
 
 pub returns : goal.returns
-returns c = λ _. all_runs c.args.end.now (λ (a p : ℕ) (run : ToldRun). IsPlacedAt c.args.end.now a p run.caller run.future) c.loop-a.a (omega arith) c.loop-a.invariant
+returns c = λ _. all_runs c.args.end.now (λ (a p : ℕ) (run : ToldRun). IsPlacedAt c.args.end.now a p run.caller run.future) c.loop-a.a
+    (omega arith) c.loop-a.invariant

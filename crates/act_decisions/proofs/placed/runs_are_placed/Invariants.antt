@@ -1,6 +1,4 @@
-use Rattle.act_decisions.proofs.Common.{◌<◌, ℕ, IsPlacedAt}
-use Rattle.act_walks.specs.declared.told.ToldRun.{ToldRun}
-use Rattle.act_decisions.specs.Placed.{IsRunIn}
+use Rattle.act_decisions.proofs.Common.{◌<◌, ℕ, IsPlacedAt, ToldRun, IsRunIn}
 use Rattle.act_decisions.proofs.placed.runs_are_placed.Given as goal
 
 -- the runs of the actors so far are placed

@@ -1,6 +1,4 @@
-use Rattle.act_decisions.proofs.Common.{map, actor_spec_of, inr, sym, subst, List}
-use Rattle.act_decisions.specs.declared.answers.Answered.{Answered}
-use Rattle.act_decisions.specs.Answered.{AreAnswers}
+use Rattle.act_decisions.proofs.Common.{map, actor_spec_of, inr, sym, subst, List, Answered, AreAnswers}
 use Rattle.act_decisions.proofs.refuting.refutes.Goals as goal
 
 pub returns : goal.returns
@@ -9,5 +7,11 @@ returns c = λ is.
     let are : AreAnswers casts c.args.end.now c.deref.result.now =
     subst (λ (l : List Answered). AreAnswers casts c.args.end.now l) (sym c.deref.ensures.value) c.in_ok-all.ensures in (
       c.in_ok-is_lined.ensures c.if-not-branch.false,
-      inr (c.says_enough.ensures.placed is, c.says_enough.ensures.decided casts are is, c.says_enough.ensures.lost casts are is, c.says_enough.ensures.sayable is),
+      inr (
+        c.says_enough.ensures.placed is,
+        c.says_enough.ensures.decided casts are is,
+        c.says_enough.ensures.lost casts are is,
+        c.says_enough.ensures.sayable
+            is,
+      ),
     )

@@ -1,5 +1,4 @@
-use Rattle.act_decisions.proofs.Common.{take}
-use Rattle.act_decisions.specs.Read.{AreSayable}
+use Rattle.act_decisions.proofs.Common.{take, AreSayable}
 use Rattle.act_decisions.proofs.sayable.are_sayable.Given as goal
 
 -- the events so far can be written

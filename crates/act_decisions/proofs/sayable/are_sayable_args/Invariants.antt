@@ -1,6 +1,4 @@
-use Rattle.act_decisions.proofs.Common.{◌≡◌, true, take}
-use Rattle.std.specs.List.{list_all}
-use Rattle.act_rules.specs.Laws.{is_sayable_arg}
+use Rattle.act_decisions.proofs.Common.{◌≡◌, true, take, list_all, is_sayable_arg}
 use Rattle.act_decisions.proofs.sayable.are_sayable_args.Given as goal
 
 -- the arguments so far can be written

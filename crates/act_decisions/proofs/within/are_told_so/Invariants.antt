@@ -1,5 +1,4 @@
-use Rattle.std.proofs.Common.{◌≡◌, ◌<◌, ℕ, false, []}
-use Rattle.act_walks.specs.Fits.{callers_of, rans_in, is_dead_in, is_retired_in}
+use Rattle.act_decisions.proofs.Common.{◌≡◌, ◌<◌, ℕ, false, [], callers_of, rans_in, is_dead_in, is_retired_in}
 use Rattle.act_decisions.proofs.within.are_told_so.Given as goal
 
 -- of the actors so far

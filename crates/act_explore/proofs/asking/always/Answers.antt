@@ -8,8 +8,10 @@ returns-in-Whole-clause-runs g c = λ is.
     let casts = g.O.Opening.casts c.args.opening.now in
     let plans = map plan_view c.args.plans.items in
     let kept = c.in_ok-visit_ends.ensures.keeps (record { check = c.args.check; found = None }) (refl, tt) in
-    each_run_weaker casts plans (HasPassed casts (λ events. g.C.Check.holds c.visit_ends.new.visit.check.now (history casts events))) (g.C.Check.holds c.args.check.now)
-    (λ h p. subst (λ (x : History). g.C.Check.holds c.args.check.now x) (sym p.history_is) (subst (λ d. g.C.Check.holds d (history casts p.events)) kept.0 p.passed))
+    each_run_weaker casts plans (HasPassed casts (λ events. g.C.Check.holds c.visit_ends.new.visit.check.now (history casts events)))
+    (g.C.Check.holds c.args.check.now)
+    (λ h p. subst (λ (x : History). g.C.Check.holds c.args.check.now x) (sym p.history_is)
+    (subst (λ d. g.C.Check.holds d (history casts p.events)) kept.0 p.passed))
     (c.visit_ends.ensures.runs (cc (c.in_ok-visit_ends.was, c.in-Whole.is)))
 
 pub returns-in-Whole-clause-ends : goal.returns-in-Whole-clause-ends
@@ -17,8 +19,10 @@ returns-in-Whole-clause-ends g c = λ is.
     let casts = g.O.Opening.casts c.args.opening.now in
     let plans = map plan_view c.args.plans.items in
     let kept = c.in_ok-visit_ends.ensures.keeps (record { check = c.args.check; found = None }) (refl, tt) in
-    each_end_weaker casts plans (HasPassed casts (λ events. g.C.Check.holds c.visit_ends.new.visit.check.now (history casts events))) (g.C.Check.holds c.args.check.now)
-    (λ h p. subst (λ (x : History). g.C.Check.holds c.args.check.now x) (sym p.history_is) (subst (λ d. g.C.Check.holds d (history casts p.events)) kept.0 p.passed))
+    each_end_weaker casts plans (HasPassed casts (λ events. g.C.Check.holds c.visit_ends.new.visit.check.now (history casts events)))
+    (g.C.Check.holds c.args.check.now)
+    (λ h p. subst (λ (x : History). g.C.Check.holds c.args.check.now x) (sym p.history_is)
+    (subst (λ d. g.C.Check.holds d (history casts p.events)) kept.0 p.passed))
     (c.visit_ends.ensures.ends (cc (c.in_ok-visit_ends.was, c.in-Whole.is)))
 
 pub returns-in-Stopped-clause-runs : goal.returns-in-Stopped-clause-runs

@@ -5,7 +5,8 @@ use Rattle.act_explore.proofs.exploring.explore.Goals as goal
 
 pub returns-in-Whole-clause-sound : goal.returns-in-Whole-clause-sound
 returns-in-Whole-clause-sound g c =
-    let P : Found → Type 0 = λ (found : Found). LeadsToEnd (g.O.Opening.casts c.args.opening.now) (λ d. plan_of d (map plan_view c.args.plans.items)) found.events.items in
+    let P : Found → Type 0 = λ (found : Found). LeadsToEnd (g.O.Opening.casts c.args.opening.now)
+    (λ d. plan_of d (map plan_view c.args.plans.items)) found.events.items in
     c.in_ok-visit_ends.ensures.keeps (record { found = c.new.result }) (subst (All P) (sym c.new.ensures.items) (All-nil P))
 
 pub returns-in-Whole-clause-complete : goal.returns-in-Whole-clause-complete
@@ -24,5 +25,6 @@ returns-in-Whole-clause-threads g c = λ is.
 
 pub returns-in_default-clause-sound : goal.returns-in_default-clause-sound
 returns-in_default-clause-sound g c =
-    let P : Found → Type 0 = λ (found : Found). LeadsToEnd (g.O.Opening.casts c.args.opening.now) (λ d. plan_of d (map plan_view c.args.plans.items)) found.events.items in
+    let P : Found → Type 0 = λ (found : Found). LeadsToEnd (g.O.Opening.casts c.args.opening.now)
+    (λ d. plan_of d (map plan_view c.args.plans.items)) found.events.items in
     c.in_ok-visit_ends.ensures.keeps (record { found = c.new.result }) (subst (All P) (sym c.new.ensures.items) (All-nil P))

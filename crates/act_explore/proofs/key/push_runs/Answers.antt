@@ -12,7 +12,8 @@ loop-choice-preserved c =
     let old = string_bytes c.args.key.now in
     let runs = runs_in actor (take c.loop-choice.choice-index path) in
     let step = runs_step actor path c.loop-choice.choice-index c.choice-item.result c.loop-choice-test.true c.choice-item.is in
-    let more : (o : Option ℕ) → run_at actor c.choice-item.result ≡ o → (old ++ map letter_of runs) ++ map letter_of (option_to_list o) ≡ old ++ map letter_of (runs_in actor (take (c.loop-choice.choice-index + 1) path)) =
+    let more : (o : Option ℕ) → run_at actor c.choice-item.result ≡ o → (old ++ map letter_of runs) ++ map letter_of (option_to_list o) ≡ old ++ map letter_of
+    (runs_in actor (take (c.loop-choice.choice-index + 1) path)) =
     λ o is. letters_more old runs o ∙ ap (λ (l : List ℕ). old ++ map letter_of l) (ap (λ (p : Option ℕ). runs ++ option_to_list p) (sym is) ∙ sym step) in
     elim c.match-run_at.branch [
       | in-Some+in_ok-push_caller w ↦

@@ -14,8 +14,14 @@ loop-choice-preserved g c = λ plans hold.
     let choice = c.choice-item.result in
     let before = c.loop-choice.invariant plans hold in
     let after = c.in_default.ensures (map (actor_spec g.K.Actor.state) c.args.casts.items) plans before.0 before.1 in
-    let more : take (i + 1) path ≡ take i path ++ choice ∷ [] = take_more path i choice c.loop-choice-test.true ∙ ap (λ (x : Choice). take i path ++ x ∷ []) (sym c.choice-item.is) in
-    (after.0, after.1, after.2, subst (λ (l : List Choice). HasMade l after.0.history) (sym more) (made_more (take i path) choice before.0.history after.0.history before.3 after.3))
+    let more : take (i + 1) path ≡ take i path ++ choice ∷ [] =
+    take_more path i choice c.loop-choice-test.true ∙ ap (λ (x : Choice). take i path ++ x ∷ []) (sym c.choice-item.is) in (
+      after.0,
+      after.1,
+      after.2,
+      subst (λ (l : List Choice). HasMade l after.0.history) (sym more)
+          (made_more (take i path) choice before.0.history after.0.history before.3 after.3),
+    )
 
 pub returns : goal.returns
 returns g c = rw (take_all c.loop-choice.choice-index c.args.path.now c.loop-choice-test.false) at c.loop-choice.invariant

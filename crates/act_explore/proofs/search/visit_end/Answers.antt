@@ -10,7 +10,8 @@ returns-then-is_ended-clause-passed g c = λ on casts plans at stands done.
       events = c.into_parts-world.result.1.items;
       history_is = stands.history ∙ ap (λ (l : List Event). history casts l) (sym events);
       passed = c.visit.ensures.passed on casts
-          (moved g.K.Actor.state casts c.args.play.events c.into_parts-world.result.1.items c.args.play.world c.into_parts-world.result.0 c.into_parts-world.ensures.world events stands.world);
+          (moved g.K.Actor.state casts c.args.play.events c.into_parts-world.result.1.items c.args.play.world c.into_parts-world.result.0
+          c.into_parts-world.ensures.world events stands.world);
     }
 
 pub returns-then-is_ended-clause-keeps : goal.returns-then-is_ended-clause-keeps
@@ -26,7 +27,8 @@ returns-then-is_ended-clause-keeps g c =
       play = stands.play;
       done = record { done = λ a. (ended a).0; answered = λ a. (ended a).1 };
     })
-    (moved g.K.Actor.state casts c.args.play.events c.into_parts-world.result.1.items c.args.play.world c.into_parts-world.result.0 c.into_parts-world.ensures.world events stands.world))
+    (moved g.K.Actor.state casts c.args.play.events c.into_parts-world.result.1.items c.args.play.world c.into_parts-world.result.0
+    c.into_parts-world.ensures.world events stands.world))
     c.visit.ensures.keeps
 
 pub returns-else-is_ended-clause-passed : goal.returns-else-is_ended-clause-passed

@@ -1,5 +1,4 @@
-use Rattle.std.proofs.Common.{◌≡◌, take, map, string_bytes}
-use Rattle.act_types.specs.Texts.{shown_byte}
+use Rattle.act_kinds.proofs.Common.{◌≡◌, take, map, string_bytes, shown_byte}
 use Rattle.act_kinds.proofs.own.shown_text.Given as goal
 
 -- the bytes so far are written

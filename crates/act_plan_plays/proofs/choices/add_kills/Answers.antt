@@ -17,7 +17,8 @@ loop-a-preserved g c = elim c.if-is_live.branch [
       record {
         front = front_same c.args.choices.now.items c.loop-a.choices.items c.if-is_live.choices.items same c.loop-a.invariant.front;
         kills = made_same (shows_live (world_view g.K.Actor.state c.args.world.now)) (λ (a : ℕ). Take a) c.args.asked.now
-            c.loop-a.a-index c.a-item.result c.loop-a.choices.items c.if-is_live.choices.items c.loop-a-test.true c.a-item.is same (sym c.is_live.ensures ∙ w.if-is_live.false) c.loop-a.invariant.kills;
+            c.loop-a.a-index c.a-item.result c.loop-a.choices.items c.if-is_live.choices.items c.loop-a-test.true c.a-item.is same (sym c.is_live.ensures
+            ∙ w.if-is_live.false) c.loop-a.invariant.kills;
       }
 ]
 

@@ -7,7 +7,8 @@ pub returns-clause-runs : goal.returns-clause-runs
 returns-clause-runs g c = λ casts plans at stands hold a own may next.
     let refines = subst (λ (h : History). Refines h (world_view g.K.Actor.state c.args.played.now.world)) (sym stands.behind.is) stands.behind.reached in
     has_front c.add_all_runs.new.choices.items c.add_kills.new.choices.items (Run a own) c.add_kills.ensures.front
-    (runs_found casts plans at (parts_of g.K.Actor.state c.args.played.now) c.add_all_runs.new.choices.items stands refines (c.in_ok-add_all_runs.ensures casts plans hold) a own may next)
+    (runs_found casts plans at (parts_of g.K.Actor.state c.args.played.now) c.add_all_runs.new.choices.items stands refines
+    (c.in_ok-add_all_runs.ensures casts plans hold) a own may next)
 
 pub returns-clause-kills : goal.returns-clause-kills
 returns-clause-kills g c = λ casts plans at stands hold a may.

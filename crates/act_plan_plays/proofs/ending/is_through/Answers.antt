@@ -1,4 +1,4 @@
-use Rattle.std.proofs.Common.{◌<◌, ◌≤◌, length, get_or, arith}
+use Rattle.act_plan_plays.proofs.Common.{◌<◌, ◌≤◌, length, get_or, arith}
 use Rattle.act_plan_plays.proofs.Moving.{done_is, next_none}
 use Rattle.act_plan_plays.proofs.Ends.{not_through}
 use Rattle.act_plan_plays.proofs.ending.is_through.Goals as goal
@@ -11,8 +11,11 @@ returns-then-done-len g c = λ casts plans at stands part.
     let done = done_is own c.number.result at c.args.played.now.done c.number.ensures.value below stands.steps in
     let long = c.len.ensures in
     let test = c.if-done-len.true in
-    let left : get_or c.args.played.now.done c.number.result 0 < length c.args.setup.now.plan.items = omega arith in
-    ((λ e. cc), λ through. absurd (not_through plans own (get_or c.args.played.now.done c.number.result 0) at c.args.setup.now.plan.items part.plan done left through))
+    let left : get_or c.args.played.now.done c.number.result 0 < length c.args.setup.now.plan.items = omega arith in (
+      (λ e. cc),
+      λ through. absurd (not_through plans own (get_or c.args.played.now.done c.number.result 0) at c.args.setup.now.plan.items part.plan done left
+          through),
+    )
 
 pub returns : goal.returns
 returns g c = λ casts plans at stands part.
@@ -23,5 +26,8 @@ returns g c = λ casts plans at stands part.
     let long = c.len.ensures in
     let test = c.if-done-len.false in
     let past : length c.args.setup.now.plan.items ≤ get_or c.args.played.now.done c.number.result 0 = omega arith in
-    let tells = c.is_answered.ensures casts at.history c.args.played.now.events.items stands.behind in
-    ((λ e. (next_none plans own (get_or c.args.played.now.done c.number.result 0) at c.args.setup.now.plan.items part.plan done past, tells.0 e)), λ through. tells.1 through.1)
+    let tells = c.is_answered.ensures casts at.history c.args.played.now.events.items stands.behind in (
+      (λ e. (next_none plans own (get_or c.args.played.now.done c.number.result 0) at c.args.setup.now.plan.items part.plan done past, tells.0 e)),
+      λ through.
+          tells.1 through.1,
+    )

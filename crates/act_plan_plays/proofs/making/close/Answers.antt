@@ -12,5 +12,6 @@ returns g c = λ casts plans at stands part.
     let test = c.if-done-len.false in
     let past : length c.args.setup.now.plan.items ≤ get_or c.args.played.now.done c.number.result 0 = omega arith in
     let posted = c.in_ok-post.ensures casts at.history stands.behind in
-    close_comes casts plans own c.args.a at (parts_of g.K.Actor.state c.args.played.now) (world_view g.K.Actor.state c.post.new.world) c.post.new.events.items stands
+    close_comes casts plans own c.args.a at (parts_of g.K.Actor.state c.args.played.now)
+    (world_view g.K.Actor.state c.post.new.world) c.post.new.events.items stands
     (next_none plans own _ at c.args.setup.now.plan.items part.plan done past) posted.0 posted.1

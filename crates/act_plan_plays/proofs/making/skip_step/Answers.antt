@@ -16,6 +16,9 @@ returns g c = λ casts plans at stands part.
     let next = next_is plans own n at c.args.setup.now.plan.items (Some c.in-Some.step.now) part.plan done there in
     let refines = subst (λ (h : History). Refines h (world_view g.K.Actor.state c.args.played.now.world)) (sym stands.behind.is) stands.behind.reached in
     let is : IsOwnerOf at.history own c.in-Some-owner.owner.now =
-    subst (λ (h : History). IsOwnerOf h own c.in-Some-owner.owner.now) (sym stands.behind.is) (c.in-Some-owner.ensures.reached casts c.args.played.now.events.items stands.behind.reached).1 in
-    let out = left_out at.history (world_view g.K.Actor.state c.args.played.now.world) own c.in-Some-owner.owner.now c.in-Some.step.now refines is (sym c.is_left_out.ensures ∙ c.if-not-is_left_out.false) in
-    skip_comes casts plans own out.0 at (parts_of g.K.Actor.state c.args.played.now) c.number-slot.result n below stands (next ∙ ap (λ (s : Step). Some s) out.1) out.2 out.3 c.number-slot.ensures.value done
+    subst (λ (h : History). IsOwnerOf h own c.in-Some-owner.owner.now) (sym stands.behind.is)
+    (c.in-Some-owner.ensures.reached casts c.args.played.now.events.items stands.behind.reached).1 in
+    let out = left_out at.history (world_view g.K.Actor.state c.args.played.now.world) own c.in-Some-owner.owner.now c.in-Some.step.now refines is
+    (sym c.is_left_out.ensures ∙ c.if-not-is_left_out.false) in
+    skip_comes casts plans own out.0 at (parts_of g.K.Actor.state c.args.played.now) c.number-slot.result n below stands (next
+    ∙ ap (λ (s : Step). Some s) out.1) out.2 out.3 c.number-slot.ensures.value done

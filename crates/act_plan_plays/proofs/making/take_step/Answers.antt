@@ -12,5 +12,6 @@ returns g c = λ casts plans at stands part.
     let there : slice_get c.args.setup.now.plan.items n ≡ Some c.in-Some.step.now =
     read_is c.deref.result.now c.args.setup.now.plan.items n c.in-Some.step.now c.deref.ensures.value c.in-Some.ensures.lookup.0 c.in-Some.ensures.lookup.1 in
     let next = next_is plans own n at c.args.setup.now.plan.items (Some c.in-Some.step.now) part.plan done there in
-    step_comes casts plans own c.in-Some.step.now at (parts_of g.K.Actor.state c.args.played.now) (parts_of g.K.Actor.state c.do_step.new.played) c.number-slot.result n below stands next
+    step_comes casts plans own c.in-Some.step.now at (parts_of g.K.Actor.state c.args.played.now)
+    (parts_of g.K.Actor.state c.do_step.new.played) c.number-slot.result n below stands next
     (c.in_ok-do_step.ensures.does casts at.history stands.behind stands.asked) c.in_ok-do_step.ensures.done c.number-slot.ensures.value done

@@ -3,9 +3,11 @@ use Rattle.act_plan_plays.proofs.Loops.{none_more, none_whole}
 use Rattle.act_plan_plays.proofs.moves.first_untold.Goals as goal
 
 pub loop-a-preserved : goal.loop-a-preserved
-loop-a-preserved g c = none_more (λ (a : ℕ). shows_dead (world_view g.K.Actor.state c.args.world.now) a && not (is_known_dead c.args.owner.now a)) c.args.actors.now c.loop-a.a-index
+loop-a-preserved g c = none_more (λ (a : ℕ). shows_dead (world_view g.K.Actor.state c.args.world.now) a && not (is_known_dead c.args.owner.now a))
+    c.args.actors.now c.loop-a.a-index
     c.a-item.result c.loop-a-test.true c.a-item.is (sym c.is_untold.ensures ∙ c.if-is_untold.false) c.loop-a.invariant
 
 pub returns : goal.returns
-returns g c = none_whole (λ (a : ℕ). shows_dead (world_view g.K.Actor.state c.args.world.now) a && not (is_known_dead c.args.owner.now a)) c.args.actors.now c.loop-a.a-index
+returns g c = none_whole (λ (a : ℕ). shows_dead (world_view g.K.Actor.state c.args.world.now) a && not (is_known_dead c.args.owner.now a)) c.args.actors.now
+    c.loop-a.a-index
     c.loop-a-test.false c.loop-a.invariant

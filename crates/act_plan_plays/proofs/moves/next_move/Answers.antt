@@ -14,7 +14,10 @@ returns g c = λ none casts plans at stands part.
     let next = next_is plans own n at c.args.setup.now.plan.items (slice_get c.args.setup.now.plan.items n) part.plan done refl in
     let refines = subst (λ (h : History). Refines h (world_view g.K.Actor.state c.args.played.now.world)) (sym stands.behind.is) stands.behind.reached in
     let owned = c.in-Some.ensures.reached casts c.args.played.now.events.items stands.behind.reached in
-    let here : IsHere at.history own c.in-Some.owner.now = subst (λ (h : History). IsHere h own c.in-Some.owner.now) (sym stands.behind.is) (record { caller = owned.0; is = owned.1 }) in
-    done_of casts plans at (parts_of g.K.Actor.state c.args.played.now) own c.in-Some.owner.now c.args.setup.now.actors.items (slice_get c.args.setup.now.plan.items n) stands refines here next part.actors
+    let here : IsHere at.history own c.in-Some.owner.now =
+    subst (λ (h : History). IsHere h own c.in-Some.owner.now) (sym stands.behind.is) (record { caller = owned.0; is = owned.1 }) in
+    done_of casts plans at (parts_of g.K.Actor.state c.args.played.now) own c.in-Some.owner.now c.args.setup.now.actors.items
+    (slice_get c.args.setup.now.plan.items n) stands refines here next part.actors
     c.in_default-own_move.ensures (sym c.in_default-ready.ensures)
-    (subst (λ (l : List ℕ). find (λ (a : ℕ). shows_dead (world_view g.K.Actor.state c.args.played.now.world) a && not (is_known_dead c.in-Some.owner.now a)) l ≡ None) c.as_slice.ensures.value c.in_default-first_untold.ensures)
+    (subst (λ (l : List ℕ). find (λ (a : ℕ). shows_dead (world_view g.K.Actor.state c.args.played.now.world) a && not (is_known_dead c.in-Some.owner.now a))
+    l ≡ None) c.as_slice.ensures.value c.in_default-first_untold.ensures)

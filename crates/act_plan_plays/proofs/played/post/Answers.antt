@@ -14,5 +14,6 @@ pub returns-in_default : goal.returns-in_default
 returns-in_default g c = λ casts h behind.
     let done = c.in_ok-told.ensures.behind casts h behind in (
       done.0,
-      post_none casts h c.args.event c.in_ok-told.told (world_view g.K.Actor.state c.do_event.new.world) c.do_event.new.events.items done.1 c.in_default.not-Mail done.2,
+      post_none casts h c.args.event c.in_ok-told.told (world_view g.K.Actor.state c.do_event.new.world) c.do_event.new.events.items done.1
+          c.in_default.not-Mail done.2,
     )

@@ -11,12 +11,16 @@ returns-clause-behind g c = λ casts h behind.
       told ∙ ap (λ (k : History). outcome_of k c.args.event) (sym behind.is),
       elim c.if-is_ok.branch [
         | then-is_ok+in_ok-push w ↦
-            subst (λ (l : List Event). IsBehind casts (after h c.args.event) (world_view g.K.Actor.state c.apply-outcome.new.self) l) (sym (ap (λ (v : Vec Event). v.items) w.events-is ∙ w.in_ok-push.ensures.items))
-            (behind_more casts h c.args.event (world_view g.K.Actor.state c.args.world.now) (world_view g.K.Actor.state c.apply-outcome.new.self) c.args.events.now.items c.apply-outcome.result
+            subst (λ (l : List Event). IsBehind casts (after h c.args.event) (world_view g.K.Actor.state c.apply-outcome.new.self) l)
+            (sym (ap (λ (v : Vec Event). v.items) w.events-is ∙ w.in_ok-push.ensures.items))
+            (behind_more casts h c.args.event (world_view g.K.Actor.state c.args.world.now)
+            (world_view g.K.Actor.state c.apply-outcome.new.self) c.args.events.now.items c.apply-outcome.result
             behind told reached (sym c.is_ok.ensures.value ∙ w.if-is_ok.true))
         | else-is_ok w ↦
-            subst (λ (l : List Event). IsBehind casts (after h c.args.event) (world_view g.K.Actor.state c.apply-outcome.new.self) l) (sym (ap (λ (v : Vec Event). v.items) w.events-is))
-            (behind_same casts h c.args.event (world_view g.K.Actor.state c.args.world.now) (world_view g.K.Actor.state c.apply-outcome.new.self) c.args.events.now.items c.apply-outcome.result
+            subst (λ (l : List Event). IsBehind casts (after h c.args.event) (world_view g.K.Actor.state c.apply-outcome.new.self) l)
+            (sym (ap (λ (v : Vec Event). v.items) w.events-is))
+            (behind_same casts h c.args.event (world_view g.K.Actor.state c.args.world.now)
+            (world_view g.K.Actor.state c.apply-outcome.new.self) c.args.events.now.items c.apply-outcome.result
             behind told reached (sym c.is_ok.ensures.value ∙ w.if-is_ok.false))
       ],
     )

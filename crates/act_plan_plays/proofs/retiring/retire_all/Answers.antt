@@ -8,11 +8,19 @@ loop-before-init g c = λ casts plans at r. (at, r, λ a from upto some. absurd 
 pub loop-before-preserved : goal.loop-before-preserved
 loop-before-preserved g c = λ casts plans at r.
     let before = c.loop-before.invariant casts plans at r in
-    let goes = c.in_ok-retire_one.ensures casts plans at before.0 before.1 in
-    (goes.next, goes.is, over_more casts plans at before.0 c.loop-before.before (world_view g.K.Actor.state c.retire_one.new.world) c.retire_one.new.events.items before.2 goes)
+    let goes = c.in_ok-retire_one.ensures casts plans at before.0 before.1 in (
+      goes.next,
+      goes.is,
+      over_more casts plans at before.0 c.loop-before.before
+          (world_view g.K.Actor.state c.retire_one.new.world) c.retire_one.new.events.items before.2 goes,
+    )
 
 pub returns : goal.returns
 returns g c = λ casts plans at r.
     let all = c.loop-before.invariant casts plans at r in
-    let test = c.loop-before-test.false in
-    (all.0, all.1, over_all casts plans at all.0 c.loop-before.before (world_view g.K.Actor.state c.loop-before.world) c.loop-before.events.items all.1 (omega arith) all.2)
+    let test = c.loop-before-test.false in (
+      all.0,
+      all.1,
+      over_all casts plans at all.0 c.loop-before.before (world_view g.K.Actor.state c.loop-before.world) c.loop-before.events.items all.1
+          (omega arith) all.2,
+    )

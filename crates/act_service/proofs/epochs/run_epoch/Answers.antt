@@ -16,7 +16,8 @@ returns-in_err-shapes-clause-fault g c =
     let gave = g.S.Service.gave c.args.service.now in
     let later = IsUnderWay (g.S.Service.knows c.args.service.now) gave in
     let here = map (actor_spec g.K.Actor.state) c.args.casts.items in
-    err_only c.from_residual.result (λ (f : EpochFault _). f ≡ fault.Run run.NoMemory) (IsFaultAt tells (gave (Some codes)) later here) c.from_residual.ensures.1
+    err_only c.from_residual.result (λ (f : EpochFault _). f ≡ fault.Run run.NoMemory)
+    (IsFaultAt tells (gave (Some codes)) later here) c.from_residual.ensures.1
     (want_of_memory tells (gave (Some codes)) later here here (carried tells (gave (Some codes)) later here (λ casts epochs is known. inr (codes, known))))
 
 pub returns-in_err-joined-clause-fault : goal.returns-in_err-joined-clause-fault
@@ -28,7 +29,8 @@ returns-in_err-joined-clause-fault g c =
     let here = map (actor_spec g.K.Actor.state) c.args.casts.items in
     let e = c.in_err-joined.field-0.0 in
     let thread = without_plans here (map plan_view c.new-plans.result.items) e (ap (map plan_view) c.new-plans.ensures.items) c.in_err-joined.ensures.fault in
-    err_only c.from_residual-in_err-joined.result (λ (f : EpochFault _). f ≡ fault.Run e) (IsFaultAt tells (gave (Some codes)) later here) c.from_residual-in_err-joined.ensures.1
+    err_only c.from_residual-in_err-joined.result (λ (f : EpochFault _). f ≡ fault.Run e)
+    (IsFaultAt tells (gave (Some codes)) later here) c.from_residual-in_err-joined.ensures.1
     (of_run tells (gave (Some codes)) later here here (carried tells (gave (Some codes)) later here (λ casts epochs is known. inr (codes, known))) e thread)
 
 pub returns-in_err-look-clause-fault : goal.returns-in_err-look-clause-fault
@@ -54,10 +56,13 @@ returns-in_err-left-clause-fault g c =
     let knows = g.S.Service.knows c.look.new.service in
     let later = IsUnderWay knows (g.S.Service.gave c.look.new.service) in
     let left = casts_left (epoch tells state casts codes joined) in
-    let is = is_epoch tells state casts codes joined (map plan_view c.new-plans.result.items) (ap (map plan_view) c.new-plans.ensures.items) c.in_ok-joined.ensures.joined c.in_ok-joined.ensures.played c.in_ok-joined.ensures.planned in
+    let is = is_epoch tells state casts codes joined (map plan_view c.new-plans.result.items)
+    (ap (map plan_view) c.new-plans.ensures.items) c.in_ok-joined.ensures.joined c.in_ok-joined.ensures.played c.in_ok-joined.ensures.planned in
     let on = leads tells state casts codes joined gave knows is c.in_ok-look.ensures.known in
-    err_only c.from_residual-in_err-left.result (λ (f : EpochFault _). f ≡ fault.Run run.NoMemory) (IsFaultAt tells (gave (Some codes)) later here) c.from_residual-in_err-left.ensures.1
-    (want_of_memory tells (gave (Some codes)) later here left (λ first led. carried tells knows later left (λ casts epochs after known. inl known) first (on first led)))
+    err_only c.from_residual-in_err-left.result (λ (f : EpochFault _). f ≡ fault.Run run.NoMemory)
+    (IsFaultAt tells (gave (Some codes)) later here) c.from_residual-in_err-left.ensures.1
+    (want_of_memory tells (gave (Some codes)) later here left (λ first led. carried tells knows later left (λ casts epochs after known. inl known) first
+    (on first led)))
 
 pub returns-clause-led : goal.returns-clause-led
 returns-clause-led g c =
@@ -69,9 +74,11 @@ returns-clause-led g c =
     let here = map (actor_spec state) casts in
     let gave = g.S.Service.gave c.args.service.now in
     let knows = g.S.Service.knows c.look.new.service in
-    let is = is_epoch tells state casts codes joined (map plan_view c.new-plans.result.items) (ap (map plan_view) c.new-plans.ensures.items) c.in_ok-joined.ensures.joined c.in_ok-joined.ensures.played c.in_ok-joined.ensures.planned in
+    let is = is_epoch tells state casts codes joined (map plan_view c.new-plans.result.items)
+    (ap (map plan_view) c.new-plans.ensures.items) c.in_ok-joined.ensures.joined c.in_ok-joined.ensures.played c.in_ok-joined.ensures.planned in
     let on = leads tells state casts codes joined gave knows is c.in_ok-look.ensures.known in
-    let same = left_is tells state casts codes joined c.deref-2.result.now c.in_ok-left.left.items (c.deref-2.ensures.value ∙ c.in_ok-shapes.ensures ∙ ap (map shape_of) c.deref.ensures.value) c.in_ok-left.ensures in
+    let same = left_is tells state casts codes joined c.deref-2.result.now c.in_ok-left.left.items (c.deref-2.ensures.value ∙ c.in_ok-shapes.ensures
+    ∙ ap (map shape_of) c.deref.ensures.value) c.in_ok-left.ensures in
     subst (λ (l : List ActorSpec). LeadsOn tells (gave (Some codes)) knows here l) (sym same) on
 
 pub returns-clause-fit : goal.returns-clause-fit
@@ -81,5 +88,6 @@ returns-clause-fit g c =
     let casts = c.args.casts.items in
     let codes = c.args.codes.items in
     let joined = c.in_ok-joined.joined in
-    let same = left_is tells state casts codes joined c.deref-2.result.now c.in_ok-left.left.items (c.deref-2.ensures.value ∙ c.in_ok-shapes.ensures ∙ ap (map shape_of) c.deref.ensures.value) c.in_ok-left.ensures in
+    let same = left_is tells state casts codes joined c.deref-2.result.now c.in_ok-left.left.items (c.deref-2.ensures.value ∙ c.in_ok-shapes.ensures
+    ∙ ap (map shape_of) c.deref.ensures.value) c.in_ok-left.ensures in
     left_fits state casts c.in_ok-left.left.items (epoch tells state casts codes joined).ends c.requires.fit c.in_ok-joined.ensures.joined.joined.actors same

@@ -16,7 +16,8 @@ returns-in_err-next_codes-clause-fault g c =
     let e = c.in_err-next_codes.field-0.0 in
     let fault = subst (λ (l : List (Cast _)). IsFaultOfCodes state before gave l e) c.deref.ensures.value c.in_err-next_codes.ensures.fault in
     err_only c.from_residual.result (λ (f : EpochFault _). f ≡ e) (IsEpochFault state tells gave knows casts) c.from_residual.ensures.1
-    (λ f is. of_codes state tells gave knows casts before here c.loop.invariant.led f (subst (λ (h : EpochFault _). IsFaultOfCodes state before gave here h) (sym is) fault))
+    (λ f is. of_codes state tells gave knows casts before here c.loop.invariant.led f
+    (subst (λ (h : EpochFault _). IsFaultOfCodes state before gave here h) (sym is) fault))
 
 pub returns-in_err-casts-in-Some-2-clause-fault : goal.returns-in_err-casts-in-Some-2-clause-fault
 returns-in_err-casts-in-Some-2-clause-fault g c =
@@ -31,5 +32,7 @@ returns-in_err-casts-in-Some-2-clause-fault g c =
     let e = c.in_err-casts-in-Some-2.field-0.0 in
     let carries : CarriesOver known given (map (actor_spec state) c.deref.result.now) = rw c.in-Some-2.is at c.in_ok-next_codes.ensures.gave in
     let on : CarriesOver known given here = subst (λ (l : List (Cast _)). CarriesOver known given (map (actor_spec state) l)) c.deref.ensures.value carries in
-    err_only c.from_residual-in_err-casts-in-Some-2.result (λ (f : EpochFault _). f ≡ e) (IsEpochFault state tells gave knows casts) c.from_residual-in_err-casts-in-Some-2.ensures.1
-    (λ f is. of_epoch state tells gave knows casts given here (carried tells known given here on casts c.loop.invariant.led) f (subst (λ (h : EpochFault _). IsFaultAt tells given (IsUnderWay knows gave) here h) (sym is) c.in_err-casts-in-Some-2.ensures.fault))
+    err_only c.from_residual-in_err-casts-in-Some-2.result (λ (f : EpochFault _). f ≡ e)
+    (IsEpochFault state tells gave knows casts) c.from_residual-in_err-casts-in-Some-2.ensures.1
+    (λ f is. of_epoch state tells gave knows casts given here (carried tells known given here on casts c.loop.invariant.led) f
+    (subst (λ (h : EpochFault _). IsFaultAt tells given (IsUnderWay knows gave) here h) (sym is) c.in_err-casts-in-Some-2.ensures.fault))

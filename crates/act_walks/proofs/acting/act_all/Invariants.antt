@@ -1,4 +1,4 @@
-use Rattle.act_walks.specs.Walking.{Moves, NoActs, parts_of}
+use Rattle.act_walks.proofs.Common.{Moves, NoActs, parts_of}
 use Rattle.act_walks.proofs.acting.act_all.Given as goal
 
 -- the callers so far went on as far as they could

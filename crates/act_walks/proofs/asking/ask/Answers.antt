@@ -1,8 +1,5 @@
-use Rattle.act_early.proofs.Common.{◌≡◌, ℕ, false, List, [], Option, Some, None, ap, sym, ◌∙◌, find, is_none}
-use Rattle.act_plan_plays.proofs.Common.{option_map_or}
-use Rattle.act_walks.specs.declared.told.ToldActor.{ToldActor}
-use Rattle.act_walks.specs.Fits.{bound_of, actor_in, callers_of}
-use Rattle.act_walks.specs.Walking.{parts_of}
+use Rattle.act_walks.proofs.Common.{◌≡◌, ℕ, false, List, [], Option, Some, None, ap, sym, ◌∙◌, find, is_none, option_map_or, ToldActor, bound_of, actor_in}
+use Rattle.act_walks.proofs.Common.{callers_of, parts_of}
 use Rattle.act_walks.proofs.Asks.{asks_one, not_told, all_bound}
 use Rattle.act_walks.proofs.Shown.{read_at, read_none}
 use Rattle.act_walks.proofs.asking.ask.Goals as goal

@@ -1,6 +1,4 @@
-use Rattle.act_early.proofs.Common.{◌≡◌, ℕ, ◌+◌, subst, arith}
-use Rattle.act_walks.specs.Walking.{parts_of}
-use Rattle.act_walks.specs.Asking.{AsksFrom}
+use Rattle.act_walks.proofs.Common.{◌≡◌, ℕ, ◌+◌, subst, arith, parts_of, AsksFrom}
 use Rattle.act_walks.proofs.Asks.{asks_start, asks_next, sets_out}
 use Rattle.act_walks.proofs.asking.ask_all.Goals as goal
 

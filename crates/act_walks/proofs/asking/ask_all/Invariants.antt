@@ -1,6 +1,4 @@
-use Rattle.act_early.proofs.Common.{◌+◌}
-use Rattle.act_walks.specs.Walking.{parts_of}
-use Rattle.act_walks.specs.Asking.{AsksFrom}
+use Rattle.act_walks.proofs.Common.{◌+◌, parts_of, AsksFrom}
 use Rattle.act_walks.proofs.asking.ask_all.Given as goal
 
 -- the actors so far were asked

@@ -1,5 +1,4 @@
-use Rattle.act_early.proofs.Common.{Bool, subst}
-use Rattle.act_walks.specs.Walking.{Moves, NoMove, parts_of}
+use Rattle.act_walks.proofs.Common.{Bool, subst, Moves, NoMove, parts_of}
 use Rattle.act_walks.proofs.Onward.{goes_same, goes_trans}
 use Rattle.act_walks.proofs.Rounds.{comes_through}
 use Rattle.act_walks.proofs.going.go.Goals as goal
@@ -8,8 +7,11 @@ pub loop-init : goal.loop-init
 loop-init g c = goes_same c.args.end.now (parts_of g.K.Actor.state c.args.walk.now)
 
 pub loop-preserved : goal.loop-preserved
-loop-preserved g c = goes_trans c.args.end.now (parts_of g.K.Actor.state c.args.walk.now) (parts_of g.K.Actor.state c.loop.walk) (parts_of g.K.Actor.state c.round.new.walk) c.loop.invariant c.in_ok-round.ensures.goes
+loop-preserved g c = goes_trans c.args.end.now (parts_of g.K.Actor.state c.args.walk.now) (parts_of g.K.Actor.state c.loop.walk)
+    (parts_of g.K.Actor.state c.round.new.walk) c.loop.invariant c.in_ok-round.ensures.goes
 
 pub returns-then-not-branch : goal.returns-then-not-branch
-returns-then-not-branch g c = comes_through c.args.end.now (parts_of g.K.Actor.state c.args.walk.now) (parts_of g.K.Actor.state c.loop.walk) (parts_of g.K.Actor.state c.round.new.walk) c.loop.invariant
-    (subst (λ (b : Bool). Moves c.args.end.now (NoMove c.args.end.now) (parts_of g.K.Actor.state c.loop.walk) (parts_of g.K.Actor.state c.round.new.walk) b) c.if-not-branch.true c.in_ok-round.ensures)
+returns-then-not-branch g c = comes_through c.args.end.now (parts_of g.K.Actor.state c.args.walk.now) (parts_of g.K.Actor.state c.loop.walk)
+    (parts_of g.K.Actor.state c.round.new.walk) c.loop.invariant
+    (subst (λ (b : Bool). Moves c.args.end.now (NoMove c.args.end.now) (parts_of g.K.Actor.state c.loop.walk) (parts_of g.K.Actor.state c.round.new.walk) b)
+    c.if-not-branch.true c.in_ok-round.ensures)

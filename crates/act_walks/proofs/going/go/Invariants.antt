@@ -1,4 +1,4 @@
-use Rattle.act_walks.specs.Walking.{GoesOn, parts_of}
+use Rattle.act_walks.proofs.Common.{GoesOn, parts_of}
 use Rattle.act_walks.proofs.going.go.Given as goal
 
 -- the walk went on

@@ -1,21 +1,22 @@
-use Rattle.act_early.proofs.Common.{◌≡◌, ℕ, true, false, Some, refl, ap, sym, ◌∙◌, arith, slice_get, slice_get_within}
-use Rattle.act_plan_plays.proofs.Common.{slice_get-get_or}
-use Rattle.act_walks.specs.declared.told.ToldCall.{ToldCall}
-use Rattle.act_walks.specs.Walking.{lets_hear}
+use Rattle.act_walks.proofs.Common.{◌≡◌, ℕ, true, false, Some, refl, ap, sym, ◌∙◌, arith, slice_get, slice_get_within, slice_get-get_or, ToldCall, lets_hear}
 use Rattle.act_walks.proofs.Deaths.{one_more}
 use Rattle.act_walks.proofs.hearing.all_let_hear.Goals as goal
 
 pub loop-place-preserved : goal.loop-place-preserved
-loop-place-preserved c = one_more (λ (k : ℕ) (call : ToldCall). lets_hear c.args.a c.args.owner.now.kept k call) c.args.calls.now c.loop-place.place c.index-calls-place.result c.index-calls-place.is
-    (ap (λ (k : ℕ). lets_hear c.args.a c.args.owner.now.kept k c.index-calls-place.result) (sym c.new.ensures) ∙ sym c.lets_hear.ensures ∙ c.if-not-lets_hear.false) c.loop-place.invariant
+loop-place-preserved c = one_more (λ (k : ℕ) (call : ToldCall). lets_hear c.args.a c.args.owner.now.kept k call) c.args.calls.now c.loop-place.place
+    c.index-calls-place.result c.index-calls-place.is
+    (ap (λ (k : ℕ). lets_hear c.args.a c.args.owner.now.kept k c.index-calls-place.result) (sym c.new.ensures) ∙ sym c.lets_hear.ensures
+    ∙ c.if-not-lets_hear.false) c.loop-place.invariant
 
 pub returns-then-not-lets_hear : goal.returns-then-not-lets_hear
 returns-then-not-lets_hear c = λ few. (
   (λ e. cc),
   λ all.
       let at : slice_get c.args.calls.now c.loop-place.place ≡ Some c.index-calls-place.result =
-      slice_get-get_or c.args.calls.now c.loop-place.place c.index-calls-place.result c.loop-place-test.true ∙ ap (λ (x : ToldCall). Some x) (sym c.index-calls-place.is) in
-      let bad : true ≡ false = sym (all c.loop-place.place c.index-calls-place.result at) ∙ ap (λ (k : ℕ). lets_hear c.args.a c.args.owner.now.kept k c.index-calls-place.result) (sym c.new.ensures)
+      slice_get-get_or c.args.calls.now c.loop-place.place c.index-calls-place.result c.loop-place-test.true
+      ∙ ap (λ (x : ToldCall). Some x) (sym c.index-calls-place.is) in
+      let bad : true ≡ false = sym (all c.loop-place.place c.index-calls-place.result at)
+      ∙ ap (λ (k : ℕ). lets_hear c.args.a c.args.owner.now.kept k c.index-calls-place.result) (sym c.new.ensures)
       ∙ sym c.lets_hear.ensures ∙ c.if-not-lets_hear.true in
       cc,
 )

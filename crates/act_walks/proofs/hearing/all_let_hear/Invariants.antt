@@ -1,6 +1,4 @@
-use Rattle.act_early.proofs.Common.{◌≡◌, ℕ, ◌<◌, true, Some, slice_get}
-use Rattle.act_walks.specs.declared.told.ToldCall.{ToldCall}
-use Rattle.act_walks.specs.Walking.{lets_hear}
+use Rattle.act_walks.proofs.Common.{◌≡◌, ℕ, ◌<◌, true, Some, slice_get, ToldCall, lets_hear}
 use Rattle.act_walks.proofs.hearing.all_let_hear.Given as goal
 
 -- each of the calls so far does

@@ -1,5 +1,4 @@
-use Rattle.act_early.proofs.Common.{Bool, subst}
-use Rattle.act_walks.specs.Walking.{parts_of, Hears}
+use Rattle.act_walks.proofs.Common.{Bool, subst, parts_of, Hears}
 use Rattle.act_walks.proofs.Deaths.{hear_none, hear_moves}
 use Rattle.act_walks.proofs.hearing.hear.Goals as goal
 
@@ -8,5 +7,6 @@ returns-then-not-may_tell g c = hear_none c.args.end.now c.args.c c.args.a (part
     subst (λ (b : Bool). Hears c.args.end.now c.args.c c.args.a h b) c.if-not-may_tell.true (c.may_tell.ensures casts h before behind))
 
 pub returns : goal.returns
-returns g c = hear_moves c.args.end.now c.args.c c.args.a (parts_of g.K.Actor.state c.args.walk.now) (parts_of g.K.Actor.state c.tell.new.walk) (λ casts h before behind.
+returns g c = hear_moves c.args.end.now c.args.c c.args.a (parts_of g.K.Actor.state c.args.walk.now) (parts_of g.K.Actor.state c.tell.new.walk)
+    (λ casts h before behind.
     subst (λ (b : Bool). Hears c.args.end.now c.args.c c.args.a h b) c.if-not-may_tell.false (c.may_tell.ensures casts h before behind)) c.in_ok-tell.ensures

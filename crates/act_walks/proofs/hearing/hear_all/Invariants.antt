@@ -1,4 +1,4 @@
-use Rattle.act_walks.specs.Walking.{Moves, NoTells, parts_of}
+use Rattle.act_walks.proofs.Common.{Moves, NoTells, parts_of}
 use Rattle.act_walks.proofs.hearing.hear_all.Given as goal
 
 -- the deaths of the actors so far were heard

@@ -1,4 +1,4 @@
-use Rattle.act_walks.specs.Walking.{Moves, NoTellsOf, parts_of}
+use Rattle.act_walks.proofs.Common.{Moves, NoTellsOf, parts_of}
 use Rattle.act_walks.proofs.hearing.hear_of.Given as goal
 
 -- the callers so far heard of the death, if they may

@@ -1,14 +1,11 @@
-use Rattle.act_early.proofs.Common.{◌≡◌, true, ap, sym, ◌∙◌, subst, History, is_caller, List, length}
-use Rattle.act_plan_plays.proofs.Common.{◌≤◌}
-use Rattle.act_plan_plays.proofs.Common.{IsOwnerOf, world_view}
-use Rattle.act_walks.specs.declared.told.ToldCall.{ToldCall}
-use Rattle.act_walks.specs.Walking.{Hears, AllLetHear}
+use Rattle.act_walks.proofs.Common.{◌≡◌, true, ap, sym, ◌∙◌, subst, History, is_caller, List, length, ◌≤◌, IsOwnerOf, world_view, ToldCall, AllLetHear}
 use Rattle.act_walks.proofs.Deaths.{not_shown, no_caller, not_named, knows, hears_by}
 use Rattle.act_walks.proofs.hearing.may_tell.Goals as goal
 
 pub returns-then-not-is_dead : goal.returns-then-not-is_dead
 returns-then-not-is_dead g c = λ casts h before behind.
-    not_shown c.args.end.now c.args.c c.args.a casts h (world_view g.K.Actor.state c.args.world.now) before behind (sym c.is_dead.ensures ∙ c.if-not-is_dead.true)
+    not_shown c.args.end.now c.args.c c.args.a casts h (world_view g.K.Actor.state c.args.world.now) before behind (sym c.is_dead.ensures
+    ∙ c.if-not-is_dead.true)
 
 pub returns-in_default : goal.returns-in_default
 returns-in_default g c = λ casts h before behind.
@@ -31,5 +28,6 @@ returns g c = λ casts h before behind.
     let is : IsOwnerOf h c.args.c c.in-Some.owner.now =
     subst (λ (h : History). IsOwnerOf h c.args.c c.in-Some.owner.now) (sym behind.is) (c.in-Some.ensures.reached casts before behind.reached).1 in
     hears_by c.args.end.now c.args.c c.args.a h c.in-Some.owner.now c.all_let_hear.result is (sym c.is_dead-2.ensures ∙ c.if-is_dead.false)
-    (subst (λ (l : List ToldCall). length l ≤ 65536 → (c.all_let_hear.result ≡ true → AllLetHear c.args.a c.in-Some.owner.now.kept l) × (AllLetHear c.args.a c.in-Some.owner.now.kept l → c.all_let_hear.result ≡ true))
+    (subst (λ (l : List ToldCall). length l ≤ 65536 → (c.all_let_hear.result ≡ true → AllLetHear c.args.a c.in-Some.owner.now.kept l)
+    × (AllLetHear c.args.a c.in-Some.owner.now.kept l → c.all_let_hear.result ≡ true))
     c.calls_of.ensures c.all_let_hear.ensures)

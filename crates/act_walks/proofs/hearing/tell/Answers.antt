@@ -1,7 +1,5 @@
-use Rattle.act_early.proofs.Common.{subst}
+use Rattle.act_walks.proofs.Common.{subst, Did, Parts, parts_of, Does}
 use Rattle.act_rules.specs.declared.event.Event.TheVariants as event
-use Rattle.act_rules.specs.declared.outcome.Did.{Did}
-use Rattle.act_walks.specs.Walking.{Parts, parts_of, Does}
 use Rattle.act_walks.proofs.Deaths.{hears_now}
 use Rattle.act_walks.proofs.hearing.tell.Goals as goal
 

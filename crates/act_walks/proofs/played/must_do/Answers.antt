@@ -1,4 +1,4 @@
-use Rattle.act_early.proofs.Common.{refl}
+use Rattle.act_walks.proofs.Common.{refl}
 use Rattle.act_walks.proofs.played.must_do.Goals as goal
 
 pub returns : goal.returns

@@ -1,9 +1,4 @@
-use Rattle.std.proofs.Common.{refl, sym, subst}
-use Rattle.act_rules.specs.declared.event.Event.TheVariants.{Deliver}
-use Rattle.act_rules.specs.declared.outcome.Did.{Did}
-use Rattle.act_rules.specs.History.{History}
-use Rattle.act_world.specs.View.{world_view}
-use Rattle.act_plan_plays.specs.Parts.{IsBehind, after_mail}
+use Rattle.act_walks.proofs.Common.{refl, sym, subst, Deliver, Did, History, world_view, IsBehind, after_mail}
 use Rattle.act_walks.proofs.Rested.{only_none, only_tried, no_mail}
 use Rattle.act_walks.proofs.resting.bring_told.Goals as goal
 

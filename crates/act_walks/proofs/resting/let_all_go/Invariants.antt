@@ -1,6 +1,4 @@
-use Rattle.std.proofs.Common.{◌≡◌, false, take}
-use Rattle.act_world.specs.View.{world_view}
-use Rattle.act_walks.specs.Rested.{RestsOn, IsToldRetired, HoldNone}
+use Rattle.act_walks.proofs.Common.{◌≡◌, false, take, world_view, RestsOn, IsToldRetired, HoldNone}
 use Rattle.act_walks.proofs.resting.let_all_go.Given as goal
 
 -- the callers so far let all go, or had none

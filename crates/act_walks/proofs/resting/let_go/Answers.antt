@@ -1,4 +1,4 @@
-use Rattle.std.proofs.Common.{◌∙◌, arith}
+use Rattle.act_walks.proofs.Common.{◌∙◌, arith}
 use Rattle.act_walks.proofs.Rested.{rests_trans, told_false, not_first}
 use Rattle.act_walks.proofs.resting.let_go.Goals as goal
 

@@ -1,6 +1,4 @@
-use Rattle.std.proofs.Common.{◌≡◌}
-use Rattle.act_world.specs.View.{world_view}
-use Rattle.act_walks.specs.Rested.{RestsOn, IsToldRetired}
+use Rattle.act_walks.proofs.Common.{◌≡◌, world_view, RestsOn, IsToldRetired}
 use Rattle.act_walks.proofs.resting.let_go.Given as goal
 
 -- some copies were let go, or none yet

@@ -1,7 +1,4 @@
-use Rattle.std.proofs.Common.{ap}
-use Rattle.std.specs.Global.{Vec}
-use Rattle.act_rules.specs.declared.event.Event.{Event}
-use Rattle.act_world.specs.View.{world_view}
+use Rattle.act_walks.proofs.Common.{ap, Vec, Event, world_view}
 use Rattle.act_walks.proofs.Rested.{rests_trans, told_false, hold_same}
 use Rattle.act_walks.proofs.resting.retire.Goals as goal
 

@@ -1,4 +1,4 @@
-use Rattle.act_world.specs.View.{world_view}
+use Rattle.act_walks.proofs.Common.{world_view}
 use Rattle.act_walks.proofs.Paced.{paced_rests}
 use Rattle.act_walks.proofs.Rested.{rests_trans, told_false, all_retired}
 use Rattle.act_walks.proofs.resting.retire_all.Goals as goal

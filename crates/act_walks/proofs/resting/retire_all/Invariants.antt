@@ -1,6 +1,4 @@
-use Rattle.act_world.specs.View.{world_view}
-use Rattle.act_walks.specs.Fits.{Fits}
-use Rattle.act_walks.specs.Rested.{RestsOn}
+use Rattle.act_walks.proofs.Common.{world_view, Fits, RestsOn}
 use Rattle.act_walks.proofs.resting.retire_all.Given as goal
 
 -- it still rests

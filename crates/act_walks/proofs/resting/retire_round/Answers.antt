@@ -1,8 +1,4 @@
-use Rattle.std.proofs.Common.{◌≡◌, ◌∙◌, length, get_or, ap, sym, subst, List, arith}
-use Rattle.std.specs.Global.{Vec}
-use Rattle.act_rules.specs.declared.event.Event.{Event}
-use Rattle.act_world.specs.View.{world_view}
-use Rattle.act_walks.specs.declared.told.ToldActor.{ToldActor}
+use Rattle.act_walks.proofs.Common.{◌≡◌, ◌∙◌, length, get_or, ap, sym, subst, List, arith, Vec, Event, world_view, ToldActor}
 use Rattle.act_walks.proofs.Rested.{rests_trans, rests_for, told_false, tells_none, says_retired, item_there, settled_more, settled_same, settled_all}
 use Rattle.act_walks.proofs.resting.retire_round.Goals as goal
 use Rattle.act_walks.proofs.resting.retire_round.Goals.{then-branch, else-branch}

@@ -1,7 +1,4 @@
-use Rattle.std.proofs.Common.{◌≡◌, false}
-use Rattle.act_world.specs.View.{world_view}
-use Rattle.act_walks.specs.Fits.{Fits}
-use Rattle.act_walks.specs.Rested.{RestsOn}
+use Rattle.act_walks.proofs.Common.{◌≡◌, false, world_view, Fits, RestsOn}
 use Rattle.act_walks.proofs.Rested.{SettledBelow}
 use Rattle.act_walks.proofs.resting.retire_round.Given as goal
 

@@ -1,9 +1,4 @@
-use Rattle.std.proofs.Common.{sym, ◌∙◌, ap}
-use Rattle.std.specs.Global.{Vec}
-use Rattle.act_rules.specs.declared.event.Event.{Event}
-use Rattle.act_rules.specs.declared.event.Event.TheVariants.{Retire}
-use Rattle.act_world.specs.View.{world_view}
-use Rattle.act_walks.specs.Rested.{IsToldRetired}
+use Rattle.act_walks.proofs.Common.{sym, ◌∙◌, ap, Vec, Event, Retire, world_view, IsToldRetired}
 use Rattle.act_walks.proofs.Rested.{rests_same, refused_same, retire_rests}
 use Rattle.act_walks.proofs.resting.try_retire.Goals as goal
 

@@ -1,5 +1,4 @@
-use Rattle.act_early.proofs.Common.{ap, sym, subst, ◌∙◌, length, List, History, Submission, is_caller}
-use Rattle.act_plan_plays.proofs.Common.{IsOwnerOf, world_view}
+use Rattle.act_walks.proofs.Common.{ap, sym, subst, ◌∙◌, length, List, History, Submission, is_caller, IsOwnerOf, world_view}
 use Rattle.act_walks.proofs.Shown.{no_calls}
 use Rattle.act_walks.proofs.seen.count_calls.Goals as goal
 

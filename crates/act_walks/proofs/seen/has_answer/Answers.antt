@@ -1,5 +1,4 @@
-use Rattle.act_early.proofs.Common.{ap, sym, subst, ◌∙◌, is_some, kept_at, List, Option, Answer, History, is_caller}
-use Rattle.act_plan_plays.proofs.Common.{IsOwnerOf, world_view}
+use Rattle.act_walks.proofs.Common.{ap, sym, subst, ◌∙◌, is_some, kept_at, List, Option, Answer, History, is_caller, IsOwnerOf, world_view}
 use Rattle.act_walks.proofs.Shown.{no_answer, copied_some}
 use Rattle.act_walks.proofs.seen.has_answer.Goals as goal
 
@@ -12,4 +11,5 @@ pub returns-in-Some : goal.returns-in-Some
 returns-in-Some g c = λ casts h before behind.
     let is : IsOwnerOf h c.args.c c.in-Some.owner.now =
     subst (λ (h : History). IsOwnerOf h c.args.c c.in-Some.owner.now) (sym behind.is) (c.in-Some.ensures.reached casts before behind.reached).1 in
-    c.is_some.ensures ∙ copied_some c.answer.result ∙ ap (λ (o : Option Answer). is_some o) c.answer.ensures ∙ ap (λ (l : List (Option Answer)). is_some (kept_at l c.args.k)) is.kept
+    c.is_some.ensures ∙ copied_some c.answer.result ∙ ap (λ (o : Option Answer). is_some o) c.answer.ensures
+    ∙ ap (λ (l : List (Option Answer)). is_some (kept_at l c.args.k)) is.kept

@@ -1,6 +1,5 @@
-use Rattle.act_early.proofs.Common.{Bool, Option, ℕ, sym, ◌∙◌, subst}
+use Rattle.act_walks.proofs.Common.{Bool, Option, ℕ, sym, ◌∙◌, subst, Parts, parts_of, TriesPost}
 use Rattle.act_rules.specs.declared.event.Event.TheVariants as event
-use Rattle.act_walks.specs.Walking.{Parts, parts_of, TriesPost}
 use Rattle.act_walks.proofs.Runs.{IsSaid, runs_none, runs_next, sends_next, send_waits}
 use Rattle.act_walks.proofs.serving.run_next.Goals as goal
 
@@ -29,4 +28,5 @@ returns g c =
     let new : Parts = parts_of g.K.Actor.state c.try_post.new.walk in
     sends_next c.args.end.now c.args.a c.in-Some.next.0 c.in-Some.next.1 old new c.may_run-2.result
     (subst (λ (o : Option (ℕ × ℕ)). IsSaid c.args.end.now c.args.a old o) c.in-Some.is c.next_run.ensures)
-    (subst (λ (b : Bool). TriesPost (event.Send c.in-Some.next.0 c.in-Some.next.1) old new b) c.if-not-branch.false c.in_ok-try_post.ensures) c.may_run-2.ensures
+    (subst (λ (b : Bool). TriesPost (event.Send c.in-Some.next.0 c.in-Some.next.1) old new b) c.if-not-branch.false c.in_ok-try_post.ensures)
+    c.may_run-2.ensures

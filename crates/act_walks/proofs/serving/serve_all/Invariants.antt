@@ -1,4 +1,4 @@
-use Rattle.act_walks.specs.Walking.{Moves, NoServings, parts_of}
+use Rattle.act_walks.proofs.Common.{Moves, NoServings, parts_of}
 use Rattle.act_walks.proofs.serving.serve_all.Given as goal
 
 -- the actors so far went on as far as they could

@@ -1,12 +1,12 @@
-use Rattle.act_early.proofs.Common.{Bool, subst}
-use Rattle.act_walks.specs.Walking.{Moves, parts_of, NoServing}
+use Rattle.act_walks.proofs.Common.{Bool, subst, Moves, parts_of, NoServing}
 use Rattle.act_walks.proofs.Onward.{goes_trans, moves_last}
 use Rattle.act_walks.proofs.serving.serve_far.Goals as goal
 
 pub returns-then-not-branch : goal.returns-then-not-branch
 returns-then-not-branch g c = moves_last c.args.end.now (NoServing c.args.a) (parts_of g.K.Actor.state c.args.walk.now) (parts_of g.K.Actor.state c.loop.walk)
     (parts_of g.K.Actor.state c.serve.new.walk) c.loop.moved c.loop.invariant.goes c.loop.invariant.same
-    (subst (λ (b : Bool). Moves c.args.end.now (NoServing c.args.a) (parts_of g.K.Actor.state c.loop.walk) (parts_of g.K.Actor.state c.serve.new.walk) b) c.if-not-branch.true c.in_ok-serve.ensures)
+    (subst (λ (b : Bool). Moves c.args.end.now (NoServing c.args.a) (parts_of g.K.Actor.state c.loop.walk) (parts_of g.K.Actor.state c.serve.new.walk) b)
+    c.if-not-branch.true c.in_ok-serve.ensures)
 
 pub loop-preserved : goal.loop-preserved
 loop-preserved g c = record {

@@ -1,5 +1,4 @@
-use Rattle.act_early.proofs.Common.{◌≡◌, false}
-use Rattle.act_walks.specs.Walking.{GoesOn, parts_of}
+use Rattle.act_walks.proofs.Common.{◌≡◌, false, GoesOn, parts_of}
 use Rattle.act_walks.proofs.serving.serve_far.Given as goal
 
 -- the walk went on, or is as it was

@@ -1,4 +1,4 @@
-use Rattle.act_early.proofs.Common.{◌≡◌, length, arith}
+use Rattle.act_walks.proofs.Common.{◌≡◌, length, arith}
 use Rattle.act_walks.proofs.Wholly.{has_done_all}
 use Rattle.act_walks.proofs.walks.has_done.Goals as goal
 

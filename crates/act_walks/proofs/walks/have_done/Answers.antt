@@ -1,6 +1,4 @@
-use Rattle.act_early.proofs.Common.{◌≡◌, ◌<◌, ◌≤◌, true, false, List, length, refl, ap, sym, ◌∙◌, subst, arith}
-use Rattle.act_plan_plays.proofs.Common.{get_or}
-use Rattle.act_walks.specs.declared.told.ToldCaller.{ToldCaller}
+use Rattle.act_walks.proofs.Common.{◌≡◌, ◌<◌, ◌≤◌, true, false, List, length, refl, ap, sym, ◌∙◌, subst, arith, get_or, ToldCaller}
 use Rattle.act_walks.proofs.Wholly.{have_done_more, have_done_all, not_done}
 use Rattle.act_walks.proofs.walks.have_done.Goals as goal
 
@@ -19,7 +17,8 @@ returns-then-not-has_done c = (
   λ have.
       let bad : true ≡ false = sym (c.has_done.ensures.1 (not_done c.args.end.now c.args.done.now c.loop-number.number c.caller-item.result
       (subst (λ (l : List ToldCaller). c.loop-number.number < length l) c.deref-caller-items.ensures.value c.loop-number-test.true)
-      (c.caller-item.is ∙ ap (λ (l : List ToldCaller). get_or l c.loop-number.number c.caller-item.result) c.deref-caller-items.ensures.value) have)) ∙ c.if-not-has_done.true in
+      (c.caller-item.is ∙ ap (λ (l : List ToldCaller). get_or l c.loop-number.number c.caller-item.result) c.deref-caller-items.ensures.value) have))
+      ∙ c.if-not-has_done.true in
       cc,
 )
 

@@ -23,7 +23,8 @@ loop-at-preserved c =
     record {
       at = c.next_run-at.ensures.at;
       text = each_next (run_line_of told c.args.names.now c.args.actor) i (string_bytes c.args.text.now) (string_bytes c.loop-at.text)
-          (string_bytes c.push_run.new.text) inv.text (c.in_ok-push_run.ensures ∙ ap (λ t. string_bytes c.loop-at.text ++ t) (sym (mine told c.args.names.now c.args.actor i here)))
+          (string_bytes c.push_run.new.text) inv.text (c.in_ok-push_run.ensures
+          ∙ ap (λ t. string_bytes c.loop-at.text ++ t) (sym (mine told c.args.names.now c.args.actor i here)))
           ∙ ap (λ k. string_bytes c.args.text.now ++ of_each (run_line_of told c.args.names.now c.args.actor) k) (sym next);
       before = λ j lt. passed_one told c.args.actor i inv.before here j (omega (arith, lt, next));
       after = λ j le. inv.after j (omega (arith, le, next));

@@ -1,6 +1,5 @@
-use Rattle.std.proofs.lemmas.List.{take_rest}
+use Rattle.act_written.proofs.Common.{take_rest, appends_more}
 use Rattle.act_written.proofs.written.write_whole.Goals as goal
-use Rattle.act_written.proofs.Common.{appends_more}
 
 pub loop-rest-preserved : goal.loop-rest-preserved
 loop-rest-preserved g c =

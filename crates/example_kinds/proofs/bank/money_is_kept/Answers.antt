@@ -1,8 +1,5 @@
-use Rattle.std.proofs.Common.{replicate}
-use Rattle.actors.specs.Kinds.{Left, told_in}
-use Rattle.actors.proofs.Lemmas.{holds_in_each_run}
-use Rattle.example_kinds.specs.Bank.{bank_step, bank_text, empty_bank, HoldsItsMoney, paid_in, paid_out}
-use Rattle.actors.specs.Actors.{state_after}
+use Rattle.example_kinds.proofs.Common.{replicate, Left, told_in, holds_in_each_run, bank_step, bank_text, empty_bank, HoldsItsMoney, paid_in, paid_out}
+use Rattle.example_kinds.proofs.Common.{state_after}
 use Rattle.example_kinds.proofs.Keeps.{keeps, empty, asked_total}
 use Rattle.example_kinds.proofs.bank.money_is_kept.Goals as goal
 

@@ -1,7 +1,5 @@
-use Rattle.std.specs.Prelude.{option_map, replicate}
+use Rattle.example_kinds.proofs.Common.{option_map, replicate, slot_keeps, bank_step, bank_text, HoldsItsMoney}
 use Rattle.actors.specs.Worlds.{stage_view}
-use Rattle.actors.proofs.Lemmas.{slot_keeps}
-use Rattle.example_kinds.specs.Bank.{bank_step, bank_text, HoldsItsMoney}
 use Rattle.example_kinds.proofs.Keeps.{keeps, empty}
 use Rattle.example_kinds.proofs.kept.bank_stage.Goals as goal
 

@@ -1,8 +1,4 @@
-use Rattle.std.proofs.Common.{map, replicate}
-use Rattle.actors.specs.Actors.{actor_spec}
-use Rattle.actors.specs.Threads.{end_view, plan_view}
-use Rattle.actors.proofs.Lemmas.{run_keeps}
-use Rattle.example_kinds.specs.Bank.{bank_step, bank_text, HoldsItsMoney}
+use Rattle.example_kinds.proofs.Common.{map, replicate, actor_spec, end_view, plan_view, run_keeps, bank_step, bank_text, HoldsItsMoney}
 use Rattle.example_kinds.proofs.Keeps.{keeps, empty}
 use Rattle.example_kinds.proofs.kept.run_banks.Goals as goal
 

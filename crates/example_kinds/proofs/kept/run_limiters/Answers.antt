@@ -1,5 +1,4 @@
-use Rattle.std.proofs.Common.{map}
-use Rattle.actors.specs.Threads.{end_view, log_in}
+use Rattle.example_kinds.proofs.Common.{map, end_view, log_in}
 use Rattle.example_kinds.proofs.Rates.{never_above_its_rate}
 use Rattle.example_kinds.proofs.kept.run_limiters.Goals as goal
 

@@ -1,4 +1,4 @@
-use Rattle.std.proofs.Common.{[], refl}
+use Rattle.example_kinds.proofs.Common.{[], refl}
 use Rattle.example_kinds.proofs.Orders.{order_is_kept}
 use Rattle.example_kinds.proofs.queue.first_in_first_out.Goals as goal
 

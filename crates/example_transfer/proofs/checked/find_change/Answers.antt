@@ -1,5 +1,4 @@
-use Rattle.std.proofs.Common.{Ok, map, ap}
-use Rattle.actors.specs.Threads.{plan_view}
+use Rattle.example_transfer.proofs.Common.{Ok, map, ap, plan_view}
 use Rattle.example_transfer.proofs.Threads.{answered}
 use Rattle.example_transfer.proofs.checked.find_change.Goals as goal
 

@@ -11,8 +11,10 @@ returns-clause-after g c =
     let arrived = world_view g.K.Actor.state c.step-2.new.world in
     let ran = world_view g.K.Actor.state c.step-3.new.world in
     let new = world_view g.K.Actor.state c.step-4.new.world in
-    stands_both (submission_of call one_more ∷ []) (event_of Send call ∷ event_of Deliver call ∷ event_of Run call ∷ event_of Collect call ∷ []) old submitted new
+    stands_both (submission_of call one_more ∷ []) (event_of Send call ∷ event_of Deliver call ∷ event_of Run call ∷ event_of Collect call ∷ []) old submitted
+    new
     (subst (λ (args : List Arg). StandsAfter (submission_of call args ∷ []) old submitted) c.requires.args c.in_ok-submit.ensures.after)
-    (stands_both (event_of Send call ∷ []) (event_of Deliver call ∷ event_of Run call ∷ event_of Collect call ∷ []) submitted sent new c.in_ok-step.ensures.after
+    (stands_both (event_of Send call ∷ []) (event_of Deliver call ∷ event_of Run call ∷ event_of Collect call ∷ []) submitted sent new
+    c.in_ok-step.ensures.after
     (stands_both (event_of Deliver call ∷ []) (event_of Run call ∷ event_of Collect call ∷ []) sent arrived new c.in_ok-step-2.ensures.after
     (stands_both (event_of Run call ∷ []) (event_of Collect call ∷ []) arrived ran new c.in_ok-step-3.ensures.after c.in_ok-step-4.ensures.after)))

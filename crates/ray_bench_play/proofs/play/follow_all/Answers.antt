@@ -13,7 +13,8 @@ loop-number-preserved g c = record {
   after =
       let mid = world_view g.K.Actor.state c.loop-number.world in
       let new = world_view g.K.Actor.state c.follow.new.world in
-      several_next (λ number. way_of (call_at c.args.work.now number)) c.loop-number.number (world_view g.K.Actor.state c.args.world.now) mid new c.loop-number.invariant.after
+      several_next (λ number. way_of (call_at c.args.work.now number)) c.loop-number.number
+      (world_view g.K.Actor.state c.args.world.now) mid new c.loop-number.invariant.after
       (subst (λ (call : Call). StandsAfter (way_of call) mid new) c.call_at.ensures c.in_ok-follow.ensures.after);
   grown =
       let before = c.loop-number.invariant.grown in
@@ -23,7 +24,8 @@ loop-number-preserved g c = record {
 
 pub returns : goal.returns
 returns g c = record {
-  after = subst (λ (n : ℕ). StandsAfter (ways c.args.work.now n) (world_view g.K.Actor.state c.args.world.now) (world_view g.K.Actor.state c.loop-number.world)) ended c.loop-number.invariant.after;
+  after = subst (λ (n : ℕ). StandsAfter (ways c.args.work.now n) (world_view g.K.Actor.state c.args.world.now) (world_view g.K.Actor.state c.loop-number.world))
+      ended c.loop-number.invariant.after;
 }
   where
     ended : c.loop-number.number ≡ c.args.calls

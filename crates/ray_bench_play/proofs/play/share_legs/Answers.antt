@@ -14,7 +14,8 @@ returns g c =
     let new = world_view g.K.Actor.state c.step_all-4.new.world in
     record {
       after =
-          stands_both (submissions work n) (legs Send work n ++ (legs Deliver work n ++ (legs Run work n ++ legs Collect work n))) old submitted new c.in_ok-submit_all.ensures.after
+          stands_both (submissions work n) (legs Send work n ++ (legs Deliver work n ++ (legs Run work n ++ legs Collect work n))) old submitted new
+          c.in_ok-submit_all.ensures.after
           (stands_both (legs Send work n) (legs Deliver work n ++ (legs Run work n ++ legs Collect work n)) submitted sent new c.in_ok-step_all.ensures.after
           (stands_both (legs Deliver work n) (legs Run work n ++ legs Collect work n) sent arrived new c.in_ok-step_all-2.ensures.after
           (stands_both (legs Run work n) (legs Collect work n) arrived ran new c.in_ok-step_all-3.ensures.after c.in_ok-step_all-4.ensures.after)));

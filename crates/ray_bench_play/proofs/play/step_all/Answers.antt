@@ -13,7 +13,8 @@ loop-number-preserved g c = record {
   after =
       let mid = world_view g.K.Actor.state c.loop-number.world in
       let new = world_view g.K.Actor.state c.step.new.world in
-      each_next (λ number. event_of c.args.leg (call_at c.args.work.now number)) c.loop-number.number (world_view g.K.Actor.state c.args.world.now) mid new c.loop-number.invariant.after
+      each_next (λ number. event_of c.args.leg (call_at c.args.work.now number)) c.loop-number.number
+      (world_view g.K.Actor.state c.args.world.now) mid new c.loop-number.invariant.after
       (subst (λ (call : Call). StandsAfter (event_of c.args.leg call ∷ []) mid new) c.call_at.ensures c.in_ok-step.ensures.after);
   grown =
       let before = c.loop-number.invariant.grown in
@@ -22,7 +23,8 @@ loop-number-preserved g c = record {
 }
 
 pub returns-clause-after : goal.returns-clause-after
-returns-clause-after g c = subst (λ (n : ℕ). StandsAfter (legs c.args.leg c.args.work.now n) (world_view g.K.Actor.state c.args.world.now) (world_view g.K.Actor.state c.loop-number.world)) ended c.loop-number.invariant.after
+returns-clause-after g c = subst (λ (n : ℕ). StandsAfter (legs c.args.leg c.args.work.now n) (world_view g.K.Actor.state c.args.world.now)
+    (world_view g.K.Actor.state c.loop-number.world)) ended c.loop-number.invariant.after
   where
     ended : c.loop-number.number ≡ c.args.calls
     ended =

@@ -13,7 +13,8 @@ loop-number-preserved g c = record {
   after =
       let mid = world_view g.K.Actor.state c.loop-number.world in
       let new = world_view g.K.Actor.state c.submit.new.world in
-      each_next (λ number. submission_of (call_at c.args.work.now number) one_more) c.loop-number.number (world_view g.K.Actor.state c.args.world.now) mid new c.loop-number.invariant.after
+      each_next (λ number. submission_of (call_at c.args.work.now number) one_more) c.loop-number.number
+      (world_view g.K.Actor.state c.args.world.now) mid new c.loop-number.invariant.after
       (subst (λ (call : Call). StandsAfter (submission_of call one_more ∷ []) mid new) c.call_at.ensures
       (subst (λ (args : List Arg). StandsAfter (submission_of c.call_at.result args ∷ []) mid new) c.in_ok-take.ensures c.in_ok-submit.ensures.after));
   grown =
@@ -23,7 +24,8 @@ loop-number-preserved g c = record {
 }
 
 pub returns-clause-after : goal.returns-clause-after
-returns-clause-after g c = subst (λ (n : ℕ). StandsAfter (submissions c.args.work.now n) (world_view g.K.Actor.state c.args.world.now) (world_view g.K.Actor.state c.loop-number.world)) ended c.loop-number.invariant.after
+returns-clause-after g c = subst (λ (n : ℕ). StandsAfter (submissions c.args.work.now n) (world_view g.K.Actor.state c.args.world.now)
+    (world_view g.K.Actor.state c.loop-number.world)) ended c.loop-number.invariant.after
   where
     ended : c.loop-number.number ≡ c.args.calls
     ended =

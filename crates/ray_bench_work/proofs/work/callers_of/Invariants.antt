@@ -1,7 +1,4 @@
-use Rattle.std.proofs.Common.{◌≡◌}
-use Rattle.std.specs.Prelude.{filter}
-use Rattle.act_rules.specs.Report.{one_to}
-use Rattle.ray_bench_work.specs.Work.{actor_at, is_reached}
+use Rattle.ray_bench_work.proofs.Common.{◌≡◌, filter, one_to, actor_at, is_reached}
 use Rattle.ray_bench_work.proofs.work.callers_of.Given as goal
 
 -- each caller so far that calls the actor

@@ -1,6 +1,4 @@
-use Rattle.std.proofs.Common.{◌≡◌, map, All, None, pos}
-use Rattle.act_rules.specs.Report.{one_to}
-use Rattle.ray_bench_work.specs.Work.{cast_in_work, cast_view}
+use Rattle.ray_bench_work.proofs.Common.{◌≡◌, map, All, None, pos, one_to, cast_in_work, cast_view}
 use Rattle.ray_bench_work.proofs.work.casts_of.Given as goal
 
 -- the cast of each actor so far, without a limit and at 0

@@ -1,5 +1,4 @@
-use Rattle.std.proofs.Common.{◌≡◌, ℕ, List, Option, ◌∙◌, subst}
-use Rattle.ray_explore.specs.Told.{TellsMore}
+use Rattle.ray_explore.proofs.Common.{◌≡◌, ℕ, List, Option, ◌∙◌, subst, TellsMore}
 use Rattle.ray_explore.proofs.Written.{more, at_most}
 use Rattle.ray_explore.proofs.exploring.tell_ends.Goals as goal
 

@@ -1,5 +1,4 @@
-use Rattle.std.specs.Prelude.{◌≡◌, ◌≤◌}
-use Rattle.ray_explore.specs.Told.{TellsCount}
+use Rattle.ray_explore.proofs.Common.{◌≡◌, ◌≤◌, TellsCount}
 use Rattle.ray_explore.proofs.exploring.tell_ends.Given as goal
 
 -- so many ends are written so far, all of the same script

@@ -1,7 +1,5 @@
-use Rattle.std.proofs.Common.{string_bytes, true}
+use Rattle.ray_explore.proofs.Common.{string_bytes, true, history, told_at_rest}
 use Rattle.std.proofs.lemmas.Map.Text.{btree_set_updates_text}
-use Rattle.act_rules.specs.Laws.{history}
-use Rattle.act_early.specs.Told.{told_at_rest}
 use Rattle.ray_explore.proofs.Known.{known_now, known_still, told_new, told_before}
 use Rattle.ray_explore.proofs.telling.tell_world.Goals as goal
 

@@ -1,6 +1,4 @@
-use Rattle.std.proofs.Common.{refl, ap, ◌∙◌}
-use denote.Param.Object.{read_made}
-use Rattle.act_types.specs.KindState.{KindState, CounterAt, AccountAt}
+use Rattle.tests_of_plays.proofs.Common.{refl, ap, ◌∙◌, read_made, KindState, CounterAt, AccountAt}
 use Rattle.tests_of_plays.proofs.checked.checked.OwnLists.{own-1, at-1-1, at-1-3}
 use Rattle.tests_of_plays.proofs.checked.checked.Goals as goal
 

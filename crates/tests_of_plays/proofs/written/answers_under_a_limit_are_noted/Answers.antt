@@ -1,6 +1,4 @@
-use Rattle.std.proofs.Common.{refl, ap, sym, ◌∙◌}
-use denote.Param.Object.{read_made}
-use Rattle.act_types.specs.KindState.{KindState, CounterAt}
+use Rattle.tests_of_plays.proofs.Common.{refl, ap, sym, ◌∙◌, read_made, KindState, CounterAt}
 use Rattle.tests_of_plays.proofs.written.answers_under_a_limit_are_noted.OwnLists.{own-1, at-1-1}
 use Rattle.tests_of_plays.proofs.written.answers_under_a_limit_are_noted.Goals as goal
 

@@ -1,6 +1,4 @@
-use Rattle.std.proofs.Common.{refl, ap, sym, ◌∙◌}
-use denote.Param.Object.{read_made}
-use Rattle.act_types.specs.KindState.{KindState, CounterAt}
+use Rattle.tests_of_plays.proofs.Common.{refl, ap, sym, ◌∙◌, read_made, KindState, CounterAt}
 use Rattle.tests_of_plays.proofs.written.gate_of_a_recorded_run.OwnLists.{own-1, at-1-1}
 use Rattle.tests_of_plays.proofs.written.gate_of_a_recorded_run.Goals as goal
 

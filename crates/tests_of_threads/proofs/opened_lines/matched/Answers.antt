@@ -1,4 +1,4 @@
-use Rattle.std.proofs.Common.{rules, ◌≡◌, List, [], ◌∷◌, sym, subst}
+use Rattle.tests_of_threads.proofs.Common.{rules, ◌≡◌, List, [], ◌∷◌, sym, subst}
 use Rattle.act_actor.specs.declared.cast.Cast.{Cast}
 use Rattle.act_plans.specs.declared.rising.CallerSetup.{CallerSetup}
 use Rattle.act_plans.specs.Setups.{AreMatched}

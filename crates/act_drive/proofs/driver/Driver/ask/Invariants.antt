@@ -1,4 +1,4 @@
-use Rattle.act_drive.specs.CallerTraces.{caller_clock}
+use Rattle.act_drive.proofs.Common.{caller_clock}
 use Rattle.act_drive.proofs.driver.Driver.ask.Given as goal
 
 abbrev pub ghosts-ask_at : goal.ghosts-ask_at

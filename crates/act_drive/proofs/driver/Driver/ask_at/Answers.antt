@@ -1,5 +1,5 @@
-use Rattle.act_drive.proofs.Common.{refl, rules, ◌≡◌, ℕ, ◌∙◌, ap, sym, subst, get_or, length, List, All, length_push, ControlView, PutterView, Asked}
-use Rattle.act_drive.proofs.Common.{Endpoint, AreKillEndpoints, bare_ask, HasNamed}
+use Rattle.act_drive.proofs.Common.{refl, rules, ◌≡◌, ℕ, ◌∙◌, ap, sym, subst, get_or, length, List, All, length_push, ControlView, PutterView, Asked, Endpoint}
+use Rattle.act_drive.proofs.Common.{AreKillEndpoints, bare_ask, HasNamed}
 use Rattle.act_drive.proofs.Kills.{kills_asked, ask_refused, asked_stays, calling_asked, named_more}
 use Rattle.act_drive.proofs.Tracing.{traces_asked, traces_kept}
 use Rattle.act_drive.proofs.driver.Driver.ask_at.Goals as goal

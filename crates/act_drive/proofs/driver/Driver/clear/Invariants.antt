@@ -1,4 +1,4 @@
-use Rattle.act_drive.specs.Tracing.{OnlyWaits}
+use Rattle.act_drive.proofs.Common.{OnlyWaits}
 use Rattle.act_drive.proofs.driver.Driver.clear.Given as goal
 
 abbrev pub invariant-loop : goal.invariant-loop

@@ -1,4 +1,4 @@
-use Rattle.std.proofs.Common.{refl, rules, inl, inr, ap}
+use Rattle.act_drive.proofs.Common.{refl, rules, inl, inr, ap}
 use Rattle.act_drive.proofs.Drivers.{calling_heard}
 use Rattle.act_drive.proofs.Tracing.{traces_heard, traces_kept}
 use Rattle.act_drive.proofs.driver.Driver.collect.Goals as goal

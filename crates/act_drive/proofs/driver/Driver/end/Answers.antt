@@ -1,4 +1,4 @@
-use Rattle.std.proofs.Common.{refl}
+use Rattle.act_drive.proofs.Common.{refl}
 use Rattle.act_drive.proofs.Drivers.{waits_same}
 use Rattle.act_drive.proofs.driver.Driver.end.Goals as goal
 

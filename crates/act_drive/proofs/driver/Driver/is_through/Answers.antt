@@ -1,5 +1,4 @@
-use Rattle.act_drive.proofs.Common.{not-true}
-use Rattle.std.proofs.Common.{rules, ◌≡◌, true, false, sym, ◌∙◌, get_or}
+use Rattle.act_drive.proofs.Common.{not-true, rules, ◌≡◌, true, false, sym, ◌∙◌, get_or}
 use Rattle.act_drive.proofs.Through.{through_answered}
 use Rattle.act_drive.proofs.driver.Driver.is_through.Goals as goal
 

@@ -1,7 +1,6 @@
-use Rattle.std.proofs.Common.{refl}
+use Rattle.act_drive.proofs.Common.{refl, rules}
 use Rattle.act_drive.proofs.Drivers.{waits_same}
 use Rattle.act_drive.proofs.driver.Driver.kill.Goals as goal
-use Rattle.act_drive.proofs.Common.{rules}
 
 pub returns-in-None : goal.returns-in-None
 returns-in-None g c = record {

@@ -1,6 +1,6 @@
+use Rattle.act_drive.proofs.Common.{rules}
 use Rattle.act_drive.proofs.Drivers.{stays_trans}
 use Rattle.act_drive.proofs.driver.Driver.run.Goals as goal
-use Rattle.act_drive.proofs.Common.{rules}
 
 pub returns-in-Ok : goal.returns-in-Ok
 returns-in-Ok g c = record {

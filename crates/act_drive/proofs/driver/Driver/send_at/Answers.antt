@@ -1,4 +1,4 @@
-use Rattle.std.proofs.Common.{refl}
+use Rattle.act_drive.proofs.Common.{refl}
 use Rattle.act_drive.proofs.Drivers.{stays_same}
 use Rattle.act_drive.proofs.driver.Driver.send_at.Goals as goal
 

@@ -1,4 +1,4 @@
-use Rattle.act_drive.specs.CallerTraces.{caller_clock}
+use Rattle.act_drive.proofs.Common.{caller_clock}
 use Rattle.act_drive.proofs.driver.Driver.send_next.Given as goal
 
 abbrev pub ghosts-post_letter : goal.ghosts-post_letter

@@ -1,4 +1,4 @@
-use Rattle.act_drive.specs.Driven.{IsCalling, Stays}
+use Rattle.act_drive.proofs.Common.{IsCalling, Stays}
 use Rattle.act_drive.proofs.driver.Driver.starve.Given as goal
 
 abbrev pub invariant-loop : goal.invariant-loop

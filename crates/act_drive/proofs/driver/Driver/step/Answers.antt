@@ -1,8 +1,7 @@
-use Rattle.act_rules.specs.declared.script.Step.TheVariants.{Copy}
+use Rattle.act_drive.proofs.Common.{Copy, rules}
 use Rattle.act_drive.proofs.PlanSteps.{step_of}
 use Rattle.act_drive.proofs.Tracing.{traced_step_of, unchanged}
 use Rattle.act_drive.proofs.driver.Driver.step.Goals as goal
-use Rattle.act_drive.proofs.Common.{rules}
 
 pub returns-in-Copy : goal.returns-in-Copy
 returns-in-Copy g c = record {

@@ -1,4 +1,4 @@
-use Rattle.act_rules.specs.declared.script.Step.TheVariants.{Submit}
+use Rattle.act_drive.proofs.Common.{Submit}
 use Rattle.act_drive.proofs.PlanSteps.{waited_step}
 use Rattle.act_drive.proofs.Tracing.{traced_waited, unchanged_waited}
 use Rattle.act_drive.proofs.Drivers.{stays_trans}

@@ -1,5 +1,5 @@
-use Rattle.act_drive.proofs.Drivers.{only_waits_trans}
 use Rattle.act_drive.proofs.Common.{rules, ◌≡◌, is_some, false, kept_at}
+use Rattle.act_drive.proofs.Drivers.{only_waits_trans}
 use Rattle.act_drive.proofs.CodeSteps.{kept_still}
 use Rattle.act_drive.proofs.driver.Driver.wait_for.Goals as goal
 

@@ -1,4 +1,4 @@
-use Rattle.std.proofs.Common.{◌∙◌}
+use Rattle.act_drive.proofs.Common.{◌∙◌}
 use Rattle.act_drive.proofs.Drivers.{stays_trans}
 use Rattle.act_drive.proofs.PlanSteps.{follows_waits}
 use Rattle.act_drive.proofs.Done.{done_of}

@@ -1,4 +1,4 @@
-use Rattle.std.proofs.Common.{rules, refl, ◌<◌, length}
+use Rattle.act_drive.proofs.Common.{rules, refl, ◌<◌, length}
 use Rattle.act_drive.proofs.AtWork.{work_waits, work_awaits, later_seen, hears_seen}
 use Rattle.act_drive.proofs.lent.LentSession.wait.Goals as goal
 

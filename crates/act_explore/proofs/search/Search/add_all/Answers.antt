@@ -9,5 +9,6 @@ pub loop-choice-preserved : goal.loop-choice-preserved
 loop-choice-preserved c =
     let mid = left_of c.loop-choice.self in
     let new = left_of c.put.new.self in
-    added_more c.args.path.now c.args.choices.now c.loop-choice.choice-index c.choice-item.result (left_of c.args.self.now) mid new c.loop-choice-test.true c.choice-item.is
+    added_more c.args.path.now c.args.choices.now c.loop-choice.choice-index c.choice-item.result
+    (left_of c.args.self.now) mid new c.loop-choice-test.true c.choice-item.is
     c.loop-choice.invariant (subst (λ (l : List Choice). HasPut l mid new) c.in_ok-after.ensures c.in_ok-put.ensures)

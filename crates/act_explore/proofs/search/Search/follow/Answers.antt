@@ -6,7 +6,8 @@ pub returns-in-Ok-clause-on : goal.returns-in-Ok-clause-on
 returns-in-Ok-clause-on g c = λ on plans seen hold searched.
     let casts = g.O.Opening.casts c.args.opening.now in
     let stood : (at : At) × StandsAt casts plans at (play_view g.K.Actor.state c.in-Ok.play) × IsQuiescent plans at × HasMade c.args.path.now at.history =
-    subst (λ (l : List ActorSpec). HoldPlans l plans c.args.setups.now → (at : At) × StandsAt l plans at (play_view g.K.Actor.state c.in-Ok.play) × IsQuiescent plans at × HasMade c.args.path.now at.history)
+    subst (λ (l : List ActorSpec). HoldPlans l plans c.args.setups.now → (at : At) × StandsAt l plans at (play_view g.K.Actor.state c.in-Ok.play)
+    × IsQuiescent plans at × HasMade c.args.path.now at.history)
     c.in_ok-casts.ensures.casts (c.in-Ok.ensures plans) hold in
     c.look.ensures.on on casts plans stood.0 seen stood.1 stood.2 stood.3 searched
 
@@ -16,7 +17,8 @@ returns-in-Ok-clause-keeps g c =
     ok_weaker _ _ c.look.result
     (λ looked keeps first plans hold.
     let stood : (at : At) × StandsAt casts plans at (play_view g.K.Actor.state c.in-Ok.play) × IsQuiescent plans at × HasMade c.args.path.now at.history =
-    subst (λ (l : List ActorSpec). HoldPlans l plans c.args.setups.now → (at : At) × StandsAt l plans at (play_view g.K.Actor.state c.in-Ok.play) × IsQuiescent plans at × HasMade c.args.path.now at.history)
+    subst (λ (l : List ActorSpec). HoldPlans l plans c.args.setups.now → (at : At) × StandsAt l plans at (play_view g.K.Actor.state c.in-Ok.play)
+    × IsQuiescent plans at × HasMade c.args.path.now at.history)
     c.in_ok-casts.ensures.casts (c.in-Ok.ensures plans) hold in
     keeps first casts plans stood.0 stood.1)
     c.look.ensures.keeps

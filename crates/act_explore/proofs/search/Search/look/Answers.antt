@@ -10,7 +10,8 @@ returns-clause-on g c = λ is casts plans at seen stands quiescent made searched
     let choices = c.in_ok-choices.choices.items in
     let added : HasAdded path choices old new = subst (λ (l : List Choice). HasAdded path l old new) c.as_slice.ensures.value c.in_ok-add_all.ensures in (
       at ∷ seen,
-      looked_more casts plans (g.V.Visit.passed c.args.visit.now casts) (g.V.Visit.passed c.visit_end.new.visit casts) (λ events before. c.in_ok-visit_end.ensures.earlier casts events before)
+      looked_more casts plans (g.V.Visit.passed c.args.visit.now casts) (g.V.Visit.passed c.visit_end.new.visit casts)
+          (λ events before. c.in_ok-visit_end.ensures.earlier casts events before)
           old new path choices at seen searched added c.know_numbers.ensures
           (record { play = stands.play; quiescent = quiescent; made = made })
           (c.in_ok-choices.ensures.runs casts plans at stands)

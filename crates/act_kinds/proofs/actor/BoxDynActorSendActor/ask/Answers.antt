@@ -1,4 +1,4 @@
-use Rattle.std.proofs.Common.{rules}
+use Rattle.act_kinds.proofs.Common.{rules}
 use Rattle.act_kinds.proofs.Boxes.{back_on_err}
 use Rattle.act_kinds.proofs.actor.BoxDynActorSendActor.ask.Goals as goal
 

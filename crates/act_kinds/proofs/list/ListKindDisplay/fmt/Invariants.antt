@@ -1,6 +1,4 @@
-use Rattle.std.proofs.Common.{map, take}
-use Rattle.std.specs.Fmt.{HasWritten, IsPlainFormatter}
-use Rattle.act_types.specs.Texts.{with_spaces, value_text}
+use Rattle.act_kinds.proofs.Common.{map, take, HasWritten, IsPlainFormatter, with_spaces, value_text}
 use Rattle.act_kinds.proofs.list.ListKindDisplay.fmt.Given as goal
 
 -- the items so far are written

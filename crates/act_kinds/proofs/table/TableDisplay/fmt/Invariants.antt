@@ -1,7 +1,5 @@
-use Rattle.std.proofs.Common.{map}
-use Rattle.std.specs.Fmt.{HasWritten, IsPlainFormatter}
+use Rattle.act_kinds.proofs.Common.{map, HasWritten, IsPlainFormatter, with_spaces, pair_text}
 use Rattle.std.specs.Map.Iter.{deref_pair}
-use Rattle.act_types.specs.Texts.{with_spaces, pair_text}
 use Rattle.act_kinds.proofs.table.TableDisplay.fmt.Given as goal
 
 -- the pairs so far are written

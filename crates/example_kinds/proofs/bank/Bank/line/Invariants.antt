@@ -1,5 +1,4 @@
-use Rattle.std.proofs.Common.{◌≡◌, ◌++◌, codes, decimal, map, string_bytes, take}
-use Rattle.actors.specs.Texts.{with_spaces}
+use Rattle.example_kinds.proofs.Common.{◌≡◌, ◌++◌, codes, decimal, map, string_bytes, take, with_spaces}
 use Rattle.example_kinds.proofs.bank.Bank.line.Given as goal
 
 -- the balances so far are written

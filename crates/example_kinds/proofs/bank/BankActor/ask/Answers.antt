@@ -1,5 +1,4 @@
-use Rattle.std.proofs.Common.{ap, sym, ◌∙◌}
-use Rattle.example_kinds.specs.Bank.{bank_at}
+use Rattle.example_kinds.proofs.Common.{ap, sym, ◌∙◌, bank_at}
 use Rattle.example_kinds.proofs.Keeps.{own_moved}
 use Rattle.example_kinds.proofs.bank.BankActor.ask.Goals as goal
 

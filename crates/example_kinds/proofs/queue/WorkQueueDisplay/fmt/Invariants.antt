@@ -1,6 +1,5 @@
-use Rattle.std.proofs.Common.{map}
+use Rattle.example_kinds.proofs.Common.{map, with_spaces, value_text}
 use Rattle.std.specs.Fmt.{HasWritten, IsPlainFormatter}
-use Rattle.actors.specs.Texts.{with_spaces, value_text}
 use Rattle.example_kinds.proofs.queue.WorkQueueDisplay.fmt.Given as goal
 
 -- the values so far are written

@@ -1,4 +1,4 @@
-use Rattle.actors.specs.Rules.{history}
+use Rattle.example_transfer.proofs.Common.{history}
 use Rattle.example_transfer.proofs.SamePurse.{kept_if, none_kept}
 use Rattle.example_transfer.proofs.together.Together.is_kept.Goals as goal
 

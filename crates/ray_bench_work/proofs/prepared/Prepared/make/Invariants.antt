@@ -1,6 +1,4 @@
-use Rattle.std.proofs.Common.{◌≡◌, length}
-use Rattle.std.specs.Prelude.{All}
-use Rattle.ray_bench_work.specs.Work.{one_more}
+use Rattle.ray_bench_work.proofs.Common.{◌≡◌, length, All, one_more}
 use Rattle.ray_bench_work.proofs.prepared.Prepared.make.Given as goal
 
 -- as many as were made, each for a call that adds 1

@@ -1,6 +1,4 @@
-use Rattle.std.proofs.Common.{◌≡◌, All}
-use Rattle.act_rules.specs.Consistent.{IsPrefix}
-use Rattle.act_mailbox.specs.Notices.{IsNoDeath}
+use Rattle.tests_of_threads.proofs.Common.{◌≡◌, All, IsPrefix, IsNoDeath}
 use Rattle.tests_of_threads.proofs.drive.executor.act_all.Given as goal
 
 abbrev pub invariant-loop-one : goal.invariant-loop-one

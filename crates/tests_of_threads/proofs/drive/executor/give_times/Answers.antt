@@ -1,12 +1,8 @@
-use Rattle.std.proofs.Common.{◌≡◌, ◌∙◌, List, [], ◌∷◌, ◌++◌, All, Ok, Err, Result, ap, subst, sym, append-nil}
-use Rattle.std.specs.Prelude.{OnOk, OnErr}
-use Rattle.std.proofs.lemmas.List.Elements.{All-push}
+use Rattle.tests_of_threads.proofs.Common.{◌≡◌, ◌∙◌, List, [], ◌∷◌, ◌++◌, All, Ok, Err, Result, ap, subst, sym, append-nil, OnOk, OnErr, All-push, RunItem}
+use Rattle.tests_of_threads.proofs.Common.{IsPrefix, ReplyExecView, IsNoDeath}
 use Rattle.act_types.specs.declared.call.Reply.{Reply}
 use Rattle.act_types.specs.declared.call.Notice.{Notice}
 use Rattle.act_types.specs.declared.call.Notice.TheVariants.{Answered}
-use Rattle.act_rules.specs.declared.history.RunItem.{RunItem}
-use Rattle.act_rules.specs.Consistent.{IsPrefix}
-use Rattle.act_mailbox.specs.Notices.{ReplyExecView, IsNoDeath}
 use Rattle.tests_of_threads.proofs.drive.executor.give_times.Goals as goal
 
 -- a reply more was given, or none was and nothing changed

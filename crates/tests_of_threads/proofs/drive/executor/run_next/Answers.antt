@@ -1,4 +1,4 @@
-use Rattle.act_drive.proofs.Alone.{run_named}
+use Rattle.tests_of_threads.proofs.Common.{run_named}
 use Rattle.tests_of_threads.proofs.drive.executor.run_next.Goals as goal
 
 pub returns-clause-id : goal.returns-clause-id

@@ -1,5 +1,4 @@
-use Rattle.std.proofs.Common.{◌≢◌, ◌∷◌, [], ◌∙◌}
-use Rattle.act_drive.proofs.Alone.{unused_pair}
+use Rattle.tests_of_threads.proofs.Common.{◌≢◌, ◌∷◌, [], ◌∙◌, unused_pair}
 use Rattle.tests_of_threads.proofs.drive.pair.paired.Goals as goal
 
 pub returns-clause-caller : goal.returns-clause-caller

@@ -1,6 +1,4 @@
-use Rattle.std.proofs.Common.{sym, subst, refl, ◌∙◌}
-use Rattle.act_rules.specs.Consistent.{IsPrefix}
-use Rattle.act_mailbox.specs.Notices.{ReplyExecView}
+use Rattle.tests_of_threads.proofs.Common.{sym, subst, refl, ◌∙◌, IsPrefix, ReplyExecView}
 use Rattle.tests_of_threads.proofs.mailbox.executor.give_death.Goals as goal
 
 pub give-requires-clause-grown : goal.give-requires-clause-grown

@@ -1,4 +1,4 @@
-use Rattle.std.proofs.Common.{◌≡◌}
+use Rattle.tests_of_threads.proofs.Common.{◌≡◌}
 use Rattle.tests_of_threads.proofs.mailbox.full_control.accepted.Given as goal
 
 abbrev pub invariant-loop-number : goal.invariant-loop-number

@@ -1,4 +1,4 @@
-use Rattle.std.proofs.Common.{◌≡◌}
+use Rattle.tests_of_threads.proofs.Common.{◌≡◌}
 use Rattle.tests_of_threads.proofs.mailbox.full_control.assert_kills_taken.Given as goal
 
 abbrev pub invariant-loop-count : goal.invariant-loop-count

@@ -1,6 +1,4 @@
-use Rattle.std.proofs.Common.{sym, subst, refl}
-use Rattle.act_rules.specs.Consistent.{IsPrefix}
-use Rattle.act_mailbox.specs.Notices.{ReplyExecView}
+use Rattle.tests_of_threads.proofs.Common.{sym, subst, refl, IsPrefix, ReplyExecView}
 use Rattle.tests_of_threads.proofs.mailbox.full_replies.assert_fills.Goals as goal
 
 pub assert_filled-requires-clause-grown : goal.assert_filled-requires-clause-grown

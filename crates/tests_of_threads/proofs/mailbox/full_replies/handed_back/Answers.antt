@@ -1,6 +1,4 @@
-use Rattle.std.proofs.Common.{List, sym, subst}
-use Rattle.act_rules.specs.declared.history.RunItem.{RunItem}
-use Rattle.act_mailbox.specs.Notices.{NamesPlace}
+use Rattle.tests_of_threads.proofs.Common.{List, sym, subst, RunItem, NamesPlace}
 use Rattle.tests_of_threads.proofs.mailbox.full_replies.handed_back.Goals as goal
 
 pub give-requires-clause-place : goal.give-requires-clause-place

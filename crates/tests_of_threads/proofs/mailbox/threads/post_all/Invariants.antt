@@ -1,4 +1,4 @@
-use Rattle.std.proofs.Common.{◌≡◌}
+use Rattle.tests_of_threads.proofs.Common.{◌≡◌}
 use Rattle.tests_of_threads.proofs.mailbox.threads.post_all.Given as goal
 
 abbrev pub invariant-loop-number : goal.invariant-loop-number

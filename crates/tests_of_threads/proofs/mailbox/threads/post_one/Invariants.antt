@@ -1,4 +1,4 @@
-use Rattle.std.proofs.Common.{◌≡◌}
+use Rattle.tests_of_threads.proofs.Common.{◌≡◌}
 use Rattle.tests_of_threads.proofs.mailbox.threads.post_one.Given as goal
 
 abbrev pub invariant-loop : goal.invariant-loop

@@ -1,8 +1,6 @@
-use Rattle.std.proofs.Common.{rules, ◌≡◌, ◌≢◌, ℕ, ◌<◌, List, [], ◌∷◌, ◌++◌, length, map, All, AllPairs, refl, ap, sym, ◌∙◌, subst, arith}
-use Rattle.std.specs.Prelude.{slice_index_or}
-use Rattle.std.proofs.lemmas.List.Elements.{All-nil}
+use Rattle.tests_of_threads.proofs.Common.{rules, ◌≡◌, ◌≢◌, ℕ, ◌<◌, List, [], ◌∷◌, ◌++◌, length, map, All, AllPairs, refl, ap, sym, ◌∙◌, subst, arith}
+use Rattle.tests_of_threads.proofs.Common.{slice_index_or, All-nil, RepliesView, ReplyExecView, IsNoDeath, new_exec}
 use Rattle.act_rules.proofs.Lists.{All-two}
-use Rattle.act_mailbox.specs.Notices.{RepliesView, ReplyExecView, IsNoDeath, new_exec}
 use Rattle.act_mailbox.specs.declared.thread.Endpoint.{Endpoint}
 use Rattle.act_plans.proofs.Matching.{numbers_differ}
 use Rattle.act_serve.specs.Served.{caller_at}
