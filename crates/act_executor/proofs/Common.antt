@@ -46,7 +46,7 @@ pub use Rattle.act_executor.specs.Work.{cast_start, driving_start, serving_start
 pub use Rattle.act_executor.specs.declared.joined.Joined.{Joined}
 pub use Rattle.act_executor.specs.declared.open.Lines.{Lines}
 pub use Rattle.act_executor.specs.declared.open.Opened.{Opened}
-pub use Rattle.act_executor.specs.declared.open.Opening.{Opening}
+pub use Rattle.act_executor.specs.declared.open.OpenedLines.{OpenedLines}
 pub use Rattle.act_executor.specs.declared.run.RunFault.{RunFault}
 pub use Rattle.act_executor.specs.declared.work.Driving.{Driving}
 pub use Rattle.act_executor.specs.declared.work.Serving.{Serving}

@@ -50,7 +50,7 @@ fn has_starved_caller(callers: &[Driven]) -> bool
 }
 
 /// Compares the two sides of each line, where nobody was refused memory.
-pub(crate) fn settle<K: Actor, R: Wait, L: RunLog>(
+pub(crate) fn compare_ends<K: Actor, R: Wait, L: RunLog>(
     rt: &R,
     alloc: Global,
     lines: &Lines,
@@ -84,7 +84,7 @@ pub(crate) fn settle<K: Actor, R: Wait, L: RunLog>(
 }
 
 /// A line with a pass on it, whose other side a `T` has.
-trait Audits<T> {
+trait Compares<T> {
     ghost use Rattle.std.specs.Prelude.{◌≡◌};
     ghost use Rattle.atomic_table.specs.Seated.{TableId};
 
@@ -106,7 +106,7 @@ trait Audits<T> {
         ensures told { Told end.old pass.old };
 }
 
-impl<K, L: RunLog> Audits<Finished<K, L>> for Mail {
+impl<K, L: RunLog> Compares<Finished<K, L>> for Mail {
     ghost use Rattle.act_executor.specs.Audits.{IsLetterTold};
 
     type Pass = MailCaller;
@@ -124,7 +124,7 @@ impl<K, L: RunLog> Audits<Finished<K, L>> for Mail {
     }
 }
 
-impl<K, L: RunLog> Audits<Finished<K, L>> for Control {
+impl<K, L: RunLog> Compares<Finished<K, L>> for Control {
     ghost use Rattle.act_executor.specs.Audits.{IsKillTold};
 
     type Pass = ControlCaller;
@@ -142,7 +142,7 @@ impl<K, L: RunLog> Audits<Finished<K, L>> for Control {
     }
 }
 
-impl Audits<Driven> for Replies {
+impl Compares<Driven> for Replies {
     ghost use Rattle.act_executor.specs.Audits.{IsNoticeTold};
 
     type Pass = ReplyExec;
@@ -161,7 +161,7 @@ impl Audits<Driven> for Replies {
 }
 
 /// Compares what was put with these passes with what was taken at the other ends of their lines.
-fn audit_all<T, A: Audits<T>, R: Wait>(
+fn audit_all<T, A: Compares<T>, R: Wait>(
     rt: &R,
     lines: &[A],
     endpoints: &mut Vec<Endpoint<A::Pass>>,

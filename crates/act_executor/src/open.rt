@@ -164,7 +164,7 @@ impl Opens<CallerSetup> for Replies {
 
 /// Lines, the passes of those whose they are, and the other passes by whom they are for.
 #[derive(Drop)]
-struct Opening<L, E, P> {
+struct OpenedLines<L, E, P> {
     lines: Vec<L>,
     ends: Vec<E>,
     hands: Vec<Vec<Endpoint<P>>>,
@@ -175,14 +175,14 @@ fn open_all<F, L: Opens<F>>(
     alloc: Global,
     given: &[F],
     numbers: &[u8],
-) -> Result<Opening<L, L::End, L::Pass>, NoMemory>
+) -> Result<OpenedLines<L, L::End, L::Pass>, NoMemory>
     requires names { All (λ one. CallersDiffer (L.names one)) given.now }
     requires numbers { AllPairs (λ one other. one ≢ other) numbers.now }
     ensures { IfOk result (λ opened.
         AreMade L.id L.line L.end L.pass L.Pass.number L.names given.now numbers.now opened) }
 {
     let hands = empty_hands(alloc, numbers)?;
-    let mut opened = Opening {
+    let mut opened = OpenedLines {
         lines: Vec::new(alloc),
         ends: Vec::new(alloc),
         hands,

@@ -19,7 +19,7 @@ ghost use Rattle.act_executor.specs.Work.{CanServe, IsServedBy, CanDrive, IsDriv
 ghost use Rattle.act_executor.specs.Runs.{plan_view, HasRunPlans, HasRun, IsFault, IsThreadFault, fault_of};
 ghost use Rattle.act_executor.specs.Audits.{SitsAtControl};
 
-use crate::joined::{Ends, Joined, settle};
+use crate::joined::{Ends, Joined, compare_ends};
 use crate::open::{Opened, open_lines, unzip};
 use crate::work::{ByPlan, Conduct, Conducts, Driving, Serving, calls_of_all, drivings, servings};
 use act_actor::{Cast, RunItem, RunLog};
@@ -196,7 +196,7 @@ fn run_opened<
     let drivings = drivings(alloc, setups, conducts, &lines, callers)?;
     let starter = starter_at(alloc, lines.controls.as_slice(), starters)?;
     let (ends, pages) = run_tasks(rt, alloc, servings, drivings, starter)?;
-    let joined = settle(rt, alloc, &lines, ends)?;
+    let joined = compare_ends(rt, alloc, &lines, ends)?;
     drop(lines);
     Ok((joined, pages))
 }

@@ -1,7 +1,7 @@
 -- Lines that are opened, each for one of a list.
 use Rattle.act_executor.proofs.Common.{◌≡◌, ℕ, suc, ◌+◌, List, [], ◌∷◌, ◌++◌, All, length, map, refl, ap, sym, ◌∙◌, subst, arith, length-append, length-map}
 use Rattle.act_executor.proofs.Common.{map-append, map-map, All-nil, All-cons, TableId, Endpoint, endpoint_at, endpoints_from, AreHands, AreGrown, made_of}
-use Rattle.act_executor.proofs.Common.{AreMade, Opening}
+use Rattle.act_executor.proofs.Common.{AreMade, OpenedLines}
 use Rattle.act_executor.proofs.OpenLines.Endpoints.{endpoints_push, next_pushed}
 use Rattle.act_executor.proofs.OpenLines.Gathered.{dealt_more}
 
@@ -56,13 +56,13 @@ module _ {F X : Type 0} (make : TableId → F → X) where
         go (id ∷ ids) (one ∷ given) = All-cons P (make id one) (made_of make ids given) (each id one) (go ids given)
 
 -- each line has its id
-pub ids_long : {F L E P : Type 0} {id : L → TableId} {line : TableId → F → L} {end : TableId → F → E} {pass : TableId → ℕ → P} {number : P → ℕ} {names : F → List ℕ} {given : List F} {numbers : List ℕ} {opened : Opening L E P} →
+pub ids_long : {F L E P : Type 0} {id : L → TableId} {line : TableId → F → L} {end : TableId → F → E} {pass : TableId → ℕ → P} {number : P → ℕ} {names : F → List ℕ} {given : List F} {numbers : List ℕ} {opened : OpenedLines L E P} →
     AreMade id line end pass number names given numbers opened → length (map id opened.lines.items) ≡ length given
 ids_long {id = id} {opened = opened} made = length-map opened.lines.items id ∙ made.long
 
 -- the turn of the loop that opens lines
 pub one_made : {F L E P : Type 0} (id : L → TableId) (line : TableId → F → L) (end : TableId → F → E) (pass : TableId → ℕ → P) (number : P → ℕ) (names : F → List ℕ) (given : List F) (numbers : List ℕ)
-    (was now : Opening L E P) (one : F) (l : L) (e : E) (passes : List P) (place : ℕ) → AreMade id line end pass number names given numbers was → length given ≡ place
+    (was now : OpenedLines L E P) (one : F) (l : L) (e : E) (passes : List P) (place : ℕ) → AreMade id line end pass number names given numbers was → length given ≡ place
     → l ≡ line (id l) one → e ≡ end (id l) one → passes ≡ map (pass (id l)) (names one) → now.lines.items ≡ was.lines.items ++ l ∷ [] → now.ends.items ≡ was.ends.items ++ e ∷ []
     → AreGrown number numbers (map (endpoint_at place) passes) was.hands.items now.hands.items → AreMade id line end pass number names (given ++ one ∷ []) numbers now
 one_made {P = P} id line end pass number names given numbers was now one l e passes place made at l_is e_is passes_are to_lines to_ends grown =

@@ -8,21 +8,21 @@ one_now P all now i x each same lt at = subst P (sym (at ∙ ap (λ l. get_or l 
 
 pub audit_end-requires-clause-pass : goal.audit_end-requires-clause-pass
 audit_end-requires-clause-pass g c =
-    let line = g.A.Audits in
+    let line = g.A.Compares in
     let inv = c.loop-at.invariant in
     let sits = one_now (SitsAt line.id line.pass_id c.args.lines.now) c.args.endpoints.now.items c.loop-at.endpoints.items c.loop-at.at c.index_mut-endpoint.result.now c.requires.sit inv.same_endpoints (omega (arith, c.len-at-end.ensures, c.args.endpoints.now.ok)) c.index_mut-endpoint.ensures.value in
     sym (sits.1 c.index-lines-place.result) ∙ ap line.id (sym c.index-lines-place.is)
 
 pub audit_end-requires-clause-end : goal.audit_end-requires-clause-end
 audit_end-requires-clause-end g c =
-    let line = g.A.Audits in
+    let line = g.A.Compares in
     let inv = c.loop-at.invariant in
     let sits = one_now (SitsAt line.id line.pass_id c.args.lines.now) c.args.endpoints.now.items c.loop-at.endpoints.items c.loop-at.at c.index_mut-endpoint.result.now c.requires.sit inv.same_endpoints (omega (arith, c.len-at-end.ensures, c.args.endpoints.now.ok)) c.index_mut-endpoint.ensures.value in
     same_at line.id line.end_id c.args.lines.now c.loop-at.ends.items c.index_mut-endpoint.result.now.place _ _ (c.requires.lines ∙ ap (map line.end_id) (sym inv.same)) sits.0 c.index-lines-place.is c.index_mut.ensures.value
 
 pub loop-at-preserved : goal.loop-at-preserved
 loop-at-preserved g c =
-    let line = g.A.Audits in
+    let line = g.A.Compares in
     let inv = c.loop-at.invariant in
     let i = c.loop-at.at in
     let endpoints = c.args.endpoints.now.items in

@@ -1,5 +1,5 @@
 use Rattle.act_executor.proofs.Common.{rules, ◌≡◌, ◌<◌, ◌+◌, ◌++◌, [], ◌∷◌, List, length, take, ap, sym, ◌∙◌, subst, arith, length-take-le, take_all, AreMade}
-use Rattle.act_executor.proofs.Common.{take_more, Opening}
+use Rattle.act_executor.proofs.Common.{take_more, OpenedLines}
 use Rattle.act_executor.proofs.OpenLines.Gathered.{hands_long}
 use Rattle.act_executor.proofs.OpenLines.Made.{one_made}
 use Rattle.act_executor.proofs.open.open_all.Goals as goal
@@ -18,7 +18,7 @@ loop-place-preserved g c =
     let one = c.index-given-place.result in
     let below : place < length given = omega (arith, c.loop-place-test.true) in
     let made = c.in_ok-line.ensures in
-    let now : Opening _ _ _ = record { lines = c.push.new.self; ends = c.push-in-loop-place.new.self; hands = c.deal.new.hands } in
+    let now : OpenedLines _ _ _ = record { lines = c.push.new.self; ends = c.push-in-loop-place.new.self; hands = c.deal.new.hands } in
     let more : take place given ++ one ∷ [] ≡ take (place + 1) given = ap (λ x. take place given ++ x ∷ []) c.index-given-place.is ∙ sym (take_more given place one below) in
     subst (λ (l : List _). AreMade line.id line.line line.end line.pass g.L.Pass.Numbered.number line.names l c.args.numbers.now now) more
     (one_made line.id line.line line.end line.pass g.L.Pass.Numbered.number line.names (take place given) c.args.numbers.now c.loop-place.opened now one c.in_ok-line.line c.in_ok-line.end c.in_ok-line.passes.items place

@@ -18,8 +18,8 @@ run_tasks-requires-clause-servings g c κs within = c.in_ok-servings.ensures.rea
 pub run_tasks-requires-clause-drivings : goal.run_tasks-requires-clause-drivings
 run_tasks-requires-clause-drivings g c κs within = c.in_ok-drivings.ensures.ready
 
-pub settle-requires : goal.settle-requires
-settle-requires g c =
+pub compare_ends-requires : goal.compare_ends-requires
+compare_ends-requires g c =
     let state = g.K.Actor.state in
     let casts = c.args.prepared.casts.items in
     let setups = c.args.prepared.setups.items in

@@ -1,7 +1,7 @@
 use Rattle.act_executor.proofs.Common.{rules, List, map, All, ap, sym, ◌∙◌, subst, ControlView, RepliesView, Finished, Driven, SitsAtReplies, SitsAtControl}
 use Rattle.act_executor.proofs.Common.{HasEndpoints, KillTold, CallerTold, ActorLeft, left_of, end_view, is_starved}
 use Rattle.act_executor.proofs.OpenLines.Settled.{seen_through, none_any}
-use Rattle.act_executor.proofs.joined.settle.Goals as goal
+use Rattle.act_executor.proofs.joined.compare_ends.Goals as goal
 
 pub audit_actors-requires-clause-lines : goal.audit_actors-requires-clause-lines
 audit_actors-requires-clause-lines g c = ap (map (λ (line : RepliesView). line.line)) c.as_slice-2.ensures.value ∙ c.requires.replies
