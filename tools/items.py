@@ -339,9 +339,14 @@ def indent_of(line):
     return len(line) - len(line.lstrip())
 
 
+def on_one_line(found):
+    return re.sub(r"\n +", " ", found[0])
+
+
 def statement_of(path, name):
     """A lemma with the parameters of the modules around it and its type, and the words of these that it names."""
-    text = path.read_text()
+    # A module's parameters may go on over several lines.
+    text = re.sub(r"^ *module _ [^\n]*(?:\n +[({][^\n]*)* where$", on_one_line, path.read_text(), flags=re.M)
     lines, around = text.split("\n"), []
     for number, line in enumerate(lines):
         around = [each for each in around if indent_of(each) < indent_of(line) or not line.strip()]

@@ -99,7 +99,7 @@ pub use Rattle.act_world.specs.View.{Died, Ended, Runs, SlotView, Vacant, WorldV
 pub use Rattle.act_world.specs.declared.network.CallKey.{CallKey}
 pub use Rattle.act_world.specs.declared.network.MailEntry.{MailEntry}
 pub use Rattle.act_world.specs.declared.network.MailEntry.TheVariants.{Call as CallEntry, Note as NoteEntry}
-pub use Rattle.act_world.specs.declared.network.Posted.{Posted}
+pub use Rattle.act_world.specs.declared.network.MailedNotice.{MailedNotice}
 pub use Rattle.std.proofs.Common.{All, AllPairs, Bool, Contains, IfSome, IsOk, List, None, Ok, Option, Some, [], ap, arith, cond, false, filter, filter_map}
 pub use Rattle.std.proofs.Common.{find, get_or, inl, inr, is_some, length, map, nat_le, nat_lt, option_and_then, option_map, pos, position, refl, replicate}
 pub use Rattle.std.proofs.Common.{slice_get, slice_index_or, slice_set, subst, suc, sym, true, unwrap_or, zero, ℕ, ◌&&◌, ◌++◌, ◌+◌, ◌-◌, ◌<◌, ◌==◌, ◌||◌, ◌∙◌}

@@ -74,16 +74,18 @@ only_one c e = go (1 == c) refl e
     go false is e = cc
 
 -- what the caller does, and what an actor does
-alone : {before : List (Site × Action)} (action : Action) → CallerMayDo (owner_by casts 1 before) action → IsGiven casts before (Caller 1, action) → IsCaused casts before (Caller 1, action)
+alone : {before : List (Site × Action)} (action : Action) → CallerMayDo (owner_by casts 1 before) action → IsGiven casts before (Caller 1, action) →
+    IsCaused casts before (Caller 1, action)
 alone action may given = record { may = (refl, may); given = given }
 
-takes : {before : List (Site × Action)} (a : ℕ) (action : Action) → cast_at a casts ≡ Some (counter a) → ActorMayDo a (1 ∷ []) (actions_of (Actor a) before) action
-    → IsGiven casts before (Actor a, action) → IsCaused casts before (Actor a, action)
+takes : {before : List (Site × Action)} (a : ℕ) (action : Action) → cast_at a casts ≡ Some (counter a) →
+    ActorMayDo a (1 ∷ []) (actions_of (Actor a) before) action → IsGiven casts before (Actor a, action) → IsCaused casts before (Actor a, action)
 takes a action at may given = record { may = (counter a, at, may); given = given }
 
 -- the counter has the note of each caller that it knows
 all_noted : (c : ℕ) → contains c (1 ∷ []) ≡ true → Contains (actions_of (Actor 1) front) (NoteTaken ((note_after_calls c 1 (length (items_of c (item ∷ []))))))
-all_noted c named = subst (λ (x : ℕ). Contains (actions_of (Actor 1) front) (NoteTaken ((note_after_calls x 1 (length (items_of x (item ∷ []))))))) (only_one c named) (2, omega arith, refl)
+all_noted c named = subst (λ x. Contains (actions_of (Actor 1) front) (NoteTaken ((note_after_calls x 1 (length (items_of x (item ∷ []))))))) (only_one c named)
+    (2, omega arith, refl)
 
 -- one deed is caused, and the others after it
 then : {A B : Type 0} → A → B → A × B
@@ -91,12 +93,9 @@ then one others = (one, others)
 
 pub caused : AreCaused casts [] deeds
 caused =
-    then (alone _ refl tt) (then (alone _ refl tt) (then (alone _ refl tt) (then (alone _ refl tt)
-    (then (takes 1 _ refl refl (record { to = refl; sent = (3, omega arith, refl); is = refl }))
-    (then (takes 2 _ refl refl (1, (2, omega arith, refl)))
-    (then (takes 1 _ refl (refl, (0, omega arith, refl), refl) tt)
-    (then (takes 2 _ refl (refl, refl) tt)
+    then (alone _ refl tt) (then (alone _ refl tt)
+    (then (alone _ refl tt) (then (alone _ refl tt) (then (takes 1 _ refl refl (record { to = refl; sent = (3, omega arith, refl); is = refl })) (then
+    (takes 2 _ refl refl (1, (2, omega arith, refl))) (then (takes 1 _ refl (refl, (0, omega arith, refl), refl) tt) (then (takes 2 _ refl (refl, refl) tt)
     (then (alone _ tt (record { caller = refl; item = item; ran = refl; for_caller = refl; future = refl; cast = counter 1; at = refl; answered = refl }))
     (then (alone _ refl tt) (then (alone _ refl tt) (then (alone _ tt (7, omega arith, refl))
-    (then (takes 1 _ refl refl (record { to = refl; named = refl; gone = refl; counts = refl }))
-    (then (takes 1 _ refl (refl, all_noted) tt) tt)))))))))))))
+    (then (takes 1 _ refl refl (record { to = refl; named = refl; gone = refl; counts = refl })) (then (takes 1 _ refl (refl, all_noted) tt) tt)))))))))))))

@@ -15,7 +15,7 @@ pub found_from : {S X : Type 0} (part : S → Option X) (m : ℕ) (xs : List (�
 found_from part m [] from = tt
 found_from {X = X} part m (x ∷ xs) from = go (part x.1) (found_from part m xs from.1)
   where
-    go : (o : Option X) → IsLeast m (found_in part xs) → IsLeast m (cons_option (option_map (λ (found : X). (x.0, found)) o) (found_in part xs))
+    go : (o : Option X) → IsLeast m (found_in part xs) → IsLeast m (cons_option (option_map (λ found. (x.0, found)) o) (found_in part xs))
     go None rest = rest
     go (Some found) rest = (from.0, rest)
 
@@ -25,12 +25,13 @@ found_is part [] = refl
 found_is {X = X} part (x ∷ xs) = go (part x.1) (found_is part xs)
   where
     go : (o : Option X) → map (λ (x : ℕ × X). x.1) (found_in part xs) ≡ filter_map part (steps_in xs)
-        → map (λ (x : ℕ × X). x.1) (cons_option (option_map (λ (found : X). (x.0, found)) o) (found_in part xs)) ≡ cons_option o (filter_map part (steps_in xs))
+        → map (λ (x : ℕ × X). x.1) (cons_option (option_map (λ found. (x.0, found)) o) (found_in part xs)) ≡ cons_option o (filter_map part (steps_in xs))
     go None rest = rest
-    go (Some found) rest = ap (λ (l : List X). found ∷ l) rest
+    go (Some found) rest = ap (λ l. found ∷ l) rest
 
 -- what is below the rest stands in the front
-pub place_in_front : {A : Type 0} (xs ys : List (ℕ × A)) (k m n : ℕ) (x : A) → IsLeast m ys → slice_get (xs ++ ys) k ≡ Some (n, x) → n < m → slice_get xs k ≡ Some (n, x)
+pub place_in_front : {A : Type 0} (xs ys : List (ℕ × A)) (k m n : ℕ) (x : A) → IsLeast m ys → slice_get (xs ++ ys) k ≡ Some (n, x) → n < m →
+    slice_get xs k ≡ Some (n, x)
 place_in_front {A = A} [] ys k m n x least at lt = absurd (behind ys k least at)
   where
     behind : (ys : List (ℕ × A)) (k : ℕ) → IsLeast m ys → slice_get ys k ≡ Some (n, x) → ⊥

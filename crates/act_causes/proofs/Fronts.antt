@@ -10,8 +10,7 @@ use Rattle.act_causes.proofs.Keeping.{Keeps, told_of, owner_of, is_named}
 -- each caller's answers are kept as the deeds leave them, and of each actor that it knows to be dead it collected that
 pub record KeepsAnswers (casts : List ActorSpec) (deeds : List (Site × Action)) (events : List Event) : Type 0 where
   pub kept : (c : ℕ) → kept_of c (history casts events) ≡ (owner_by casts c deeds).kept
-  pub deaths : (c a : ℕ) → is_known_dead (owner_by casts c deeds) a ≡ true →
-      list_any (is_death_to c a) (history casts events).collected ≡ true
+  pub deaths : (c a : ℕ) → is_known_dead (owner_by casts c deeds) a ≡ true → list_any (is_death_to c a) (history casts events).collected ≡ true
 
 -- what is collected in a deed
 abbrev pub post_of : Site × Action → Option Post
@@ -54,32 +53,32 @@ none_known a e = go 9 a e
     go (suc n) zero e = cc
     go (suc n) (suc k) e = go n k e
 
-pub keeps_answers : (casts : List ActorSpec) (deeds : List (Site × Action)) (events : List Event) → Keeps casts deeds (history casts events) → KeepsAnswers casts deeds events
-keeps_answers casts deeds events keeps = record {
+pub keeps_answers : (casts : List ActorSpec) {deeds : List (Site × Action)} (events : List Event) → Keeps casts deeds (history casts events) →
+    KeepsAnswers casts deeds events
+keeps_answers casts {deeds} events keeps = record {
   kept = λ c. (told_of casts deeds (history casts events) c keeps).kept;
   deaths = λ c a known. go c a known (is_named casts c) refl;
 }
   where
-    go : (c a : ℕ) → is_known_dead (owner_by casts c deeds) a ≡ true → (b : Bool) → is_named casts c ≡ b → list_any (is_death_to c a) (history casts events).collected ≡ true
-    go c a known true named =
-        let is = owner_of casts deeds (history casts events) c keeps named in
-        sym (is.deaths a) ∙ known
+    go : (c a : ℕ) → is_known_dead (owner_by casts c deeds) a ≡ true → (b : Bool) → is_named casts c ≡ b →
+        list_any (is_death_to c a) (history casts events).collected ≡ true
+    go c a known true named = let is = owner_of casts deeds (history casts events) c keeps named in sym (is.deaths a) ∙ known
     go c a known false stranger =
         let same = keeps.strangers c stranger in
-        let bad : is_known_dead (opened_of c casts) a ≡ true = sym (ap (λ (steps : List Action). is_known_dead (left_by casts c steps) a) same) ∙ known in
+        let bad : is_known_dead (opened_of c casts) a ≡ true = sym (ap (λ steps. is_known_dead (left_by casts c steps) a) same) ∙ known in
         absurd (none_known a bad)
 
-pub one_front : (casts : List ActorSpec) (before : List (Site × Action)) (first : List Event) (deeds : List (Site × Action)) (events : List Event) (deed : Site × Action) (event : Event)
-    → EachFront casts before first deeds events → KeepsAnswers casts (before ++ (deeds ++ deed ∷ [])) (first ++ (events ++ event ∷ []))
-    → EachFront casts before first (deeds ++ deed ∷ []) (events ++ event ∷ [])
-one_front casts before first [] [] deed event fronts last = (fronts, last)
-one_front casts before first [] (other ∷ events) deed event fronts last = absurd fronts
-one_front casts before first (one ∷ deeds) [] deed event fronts last = absurd fronts
-one_front casts before first (one ∷ deeds) (other ∷ events) deed event fronts last = (
+pub one_front : {casts : List ActorSpec} (before : List (Site × Action)) (first : List Event) (deeds : List (Site × Action)) (events : List Event)
+    (deed : Site × Action) (event : Event) → EachFront casts before first deeds events → KeepsAnswers casts (before ++ (deeds ++ deed ∷ []))
+    (first ++ (events ++ event ∷ [])) → EachFront casts before first (deeds ++ deed ∷ []) (events ++ event ∷ [])
+one_front before first [] [] deed event fronts last = (fronts, last)
+one_front before first [] (other ∷ events) deed event fronts last = absurd fronts
+one_front before first (one ∷ deeds) [] deed event fronts last = absurd fronts
+one_front {casts} before first (one ∷ deeds) (other ∷ events) deed event fronts last = (
   fronts.0,
-  one_front casts (before ++ one ∷ []) (first ++ other ∷ []) deeds events deed event fronts.1
-      (subst (λ (l : List (Site × Action)). KeepsAnswers casts l ((first ++ other ∷ []) ++ (events ++ event ∷ []))) (sym (append_assoc before (one ∷ []) (deeds ++ deed ∷ [])))
-      (subst (λ (l : List Event). KeepsAnswers casts (before ++ (one ∷ (deeds ++ deed ∷ []))) l) (sym (append_assoc first (other ∷ []) (events ++ event ∷ []))) last)),
+  one_front (before ++ one ∷ []) (first ++ other ∷ []) deeds events deed event fronts.1
+      (subst (λ l. KeepsAnswers casts l ((first ++ other ∷ []) ++ (events ++ event ∷ []))) (sym (append_assoc before (one ∷ []) (deeds ++ deed ∷ [])))
+      (subst (λ l. KeepsAnswers casts (before ++ (one ∷ (deeds ++ deed ∷ []))) l) (sym (append_assoc first (other ∷ []) (events ++ event ∷ []))) last)),
 )
 
 -- ---- what is collected and what arrives
@@ -89,7 +88,8 @@ pub record IsToldMore (h : History) (deed : Site × Action) (event : Event) : Ty
   pub collected : (add_event h event).collected ≡ h.collected ++ cons_option (post_of deed) []
   pub arrived : (add_event h event).arrived ≡ h.arrived ++ cons_option (letter_of deed) []
 
-told_by : (h : History) (deed : Site × Action) (event one : Event) → event ≡ one → (add_event h one).collected ≡ h.collected ++ cons_option (post_of deed) [] → (add_event h one).arrived ≡ h.arrived ++ cons_option (letter_of deed) [] → IsToldMore h deed event
+told_by : (h : History) (deed : Site × Action) (event one : Event) → event ≡ one → (add_event h one).collected ≡ h.collected ++ cons_option (post_of deed) [] →
+    (add_event h one).arrived ≡ h.arrived ++ cons_option (letter_of deed) [] → IsToldMore h deed event
 told_by h deed event one is collected arrived = subst (IsToldMore h deed) (sym is) (record { collected = collected; arrived = arrived })
 
 run_arrived : (a c : ℕ) (h : History) (o : Option RunItem) → (after_run a c h o).arrived ≡ h.arrived
@@ -97,18 +97,26 @@ run_arrived a c h None = refl
 run_arrived a c h (Some item) = refl
 
 pub told_more : (h : History) (deed : Site × Action) (event : Event) → IsEventOf h deed event → IsToldMore h deed event
-told_more h (Caller c, Noticed (Answered reply)) event is = told_by h (Caller c, Noticed (Answered reply)) event (Collect is.0) is.1 (ap (and_also h.collected) is.2) (sym (append-nil h.arrived))
-told_more h (Caller c, Noticed (Death a)) event is = told_by h (Caller c, Noticed (Death a)) event (Collect is.0) is.1 (ap (and_also h.collected) is.2) (sym (append-nil h.arrived))
-told_more h (Actor a, CallTaken packet) event is = told_by h (Actor a, CallTaken packet) event (Deliver is.0) is.1 (sym (append-nil h.collected)) (ap (and_also h.arrived) is.2)
-told_more h (Actor a, NoteTaken note) event is = told_by h (Actor a, NoteTaken note) event (Deliver is.0) is.1 (sym (append-nil h.collected)) (ap (and_also h.arrived) is.2)
-told_more h (Actor a, CallRun item) event is = told_by h (Actor a, CallRun item) event (Run a item.caller) is
-    (run_collected a item.caller h (next_item a item.caller h) ∙ sym (append-nil h.collected)) (run_arrived a item.caller h (next_item a item.caller h) ∙ sym (append-nil h.arrived))
+told_more h (Caller c, Noticed (Answered reply)) event is =
+    told_by h (Caller c, Noticed (Answered reply)) event (Collect is.0) is.1 (ap (and_also h.collected) is.2) (sym (append-nil h.arrived))
+told_more h (Caller c, Noticed (Death a)) event is =
+    told_by h (Caller c, Noticed (Death a)) event (Collect is.0) is.1 (ap (and_also h.collected) is.2) (sym (append-nil h.arrived))
+told_more h (Actor a, CallTaken packet) event is =
+    told_by h (Actor a, CallTaken packet) event (Deliver is.0) is.1 (sym (append-nil h.collected)) (ap (and_also h.arrived) is.2)
+told_more h (Actor a, NoteTaken note) event is =
+    told_by h (Actor a, NoteTaken note) event (Deliver is.0) is.1 (sym (append-nil h.collected)) (ap (and_also h.arrived) is.2)
+told_more h (Actor a, CallRun item) event is = told_by h (Actor a, CallRun item) event (Run a item.caller) is (run_collected a item.caller h
+    (next_item a item.caller h) ∙ sym (append-nil h.collected)) (run_arrived a item.caller h (next_item a item.caller h) ∙ sym (append-nil h.arrived))
 told_more h (Caller c, Copied a) event is = told_by h (Caller c, Copied a) event (Copy c a) is (sym (append-nil h.collected)) (sym (append-nil h.arrived))
-told_more h (Caller c, Released a) event is = told_by h (Caller c, Released a) event (Release c a) is (sym (append-nil h.collected)) (sym (append-nil h.arrived))
-told_more h (Caller c, Submitted a method args) event is = told_by h (Caller c, Submitted a method args) event (Submit c a method args) is (sym (append-nil h.collected)) (sym (append-nil h.arrived))
+told_more h (Caller c, Released a) event is =
+    told_by h (Caller c, Released a) event (Release c a) is (sym (append-nil h.collected)) (sym (append-nil h.arrived))
+told_more h (Caller c, Submitted a method args) event is =
+    told_by h (Caller c, Submitted a method args) event (Submit c a method args) is (sym (append-nil h.collected)) (sym (append-nil h.arrived))
 told_more h (Caller c, Sent k) event is = told_by h (Caller c, Sent k) event (Send c k) is (sym (append-nil h.collected)) (sym (append-nil h.arrived))
-told_more h (Caller c, KillAsked a) event is = told_by h (Caller c, KillAsked a) event (AskKill c a) is (sym (append-nil h.collected)) (sym (append-nil h.arrived))
-told_more h (Actor a, KillTaken asker note) event is = told_by h (Actor a, KillTaken asker note) event (TakeKill a) is (sym (append-nil h.collected)) (sym (append-nil h.arrived))
+told_more h (Caller c, KillAsked a) event is =
+    told_by h (Caller c, KillAsked a) event (AskKill c a) is (sym (append-nil h.collected)) (sym (append-nil h.arrived))
+told_more h (Actor a, KillTaken asker note) event is =
+    told_by h (Actor a, KillTaken asker note) event (TakeKill a) is (sym (append-nil h.collected)) (sym (append-nil h.arrived))
 told_more h (Actor a, DeathTold c) event is = told_by h (Actor a, DeathTold c) event (Tell a c) is (sym (append-nil h.collected)) (sym (append-nil h.arrived))
 told_more h (Actor a, Retirement) event is = told_by h (Actor a, Retirement) event (Retire a) is (sym (append-nil h.collected)) (sym (append-nil h.arrived))
 told_more h deed event is = absurd is

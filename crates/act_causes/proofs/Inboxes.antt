@@ -29,7 +29,8 @@ holds_more inbox packet is_new sound = record {
   numbered = All-cons (λ (each : Packet). each.number < 65536) packet inbox.held (new_tells inbox packet is_new).0 sound.numbered;
 }
 
-takes : (live : ActorView) (packet : Packet) (arrival : Arrival) → arrival_at live.id live.inbox packet ≡ arrival → IsInbox live.inbox.lanes live.inbox.held → Takes live packet
+takes : (live : ActorView) (packet : Packet) (arrival : Arrival) → arrival_at live.id live.inbox packet ≡ arrival → IsInbox live.inbox.lanes live.inbox.held →
+    Takes live packet
 takes live packet New is sound =
     let is_new = new_inside live.id live.inbox packet is in
     record {
@@ -62,21 +63,15 @@ pub takes_call : (owners : List OwnerView) (call : CallKey) (live : ActorView) �
 takes_call owners call live sound = go (packet_in owners call) refl
   where
     go : (o : Option Packet) → packet_in owners call ≡ o → TakesCall owners call live
-    go None none = record {
-      arrival = Repeat;
-      next = live;
-      taken = λ packet e. let bad : None ≡ Some packet = sym none ∙ e in cc;
-      inbox = sound;
-    }
+    go None none = record { arrival = Repeat; next = live; taken = λ packet e. let bad : None ≡ Some packet = sym none ∙ e in cc; inbox = sound }
     go (Some found) is =
         let t = takes live (named_as call found) (arrival_at live.id live.inbox (named_as call found)) refl sound in
         record {
           arrival = t.arrival;
           next = t.next;
           taken = λ packet e.
-              let both : Some found ≡ Some packet = sym is ∙ e in
-              let same : found ≡ packet = cc in
-              subst (λ (p : Packet). HasTakenPacket (named_as call p) t.arrival live t.next) same t.taken;
+              let both : Some found ≡ Some packet = sym is ∙ e in let same : found ≡ packet = cc in
+              subst (λ p. HasTakenPacket (named_as call p) t.arrival live t.next) same t.taken;
           inbox = t.inbox;
         }
 
@@ -107,8 +102,8 @@ put_other (suc c) n (suc d) (x ∷ xs) apart = put_other c n d xs (λ same. apar
 
 put_is : (c n d : ℕ) (xs : List (Option ℕ)) → slice_index_or (put c n xs) d None ≡ cond (d == c) (Some n) (slice_index_or xs d None)
 put_is c n d xs = elim (eqb_tells d c) [
-  | inl t ↦ ap (λ (x : ℕ). slice_index_or (put c n xs) x None) t.1 ∙ put_same c n xs ∙ ap (λ (b : Bool). cond b (Some n) (slice_index_or xs d None)) (sym t.0)
-  | inr f ↦ put_other c n d xs f.1 ∙ ap (λ (b : Bool). cond b (Some n) (slice_index_or xs d None)) (sym f.0)
+  | inl t ↦ ap (λ x. slice_index_or (put c n xs) x None) t.1 ∙ put_same c n xs ∙ ap (λ b. cond b (Some n) (slice_index_or xs d None)) (sym t.0)
+  | inr f ↦ put_other c n d xs f.1 ∙ ap (λ b. cond b (Some n) (slice_index_or xs d None)) (sym f.0)
 ]
 
 -- the actor after a note came
@@ -118,11 +113,13 @@ pub record TakesNote (live : ActorView) (note : ReleaseNote) : Type 0 where
   pub noted : HasNoted note arrival live next
   pub inbox : IsInbox next.inbox.lanes next.inbox.held
 
-notes : (live : ActorView) (note : ReleaseNote) (arrival : Arrival) → note_arrival_at live.id live.inbox note ≡ arrival → IsInbox live.inbox.lanes live.inbox.held → TakesNote live note
+notes : (live : ActorView) (note : ReleaseNote) (arrival : Arrival) → note_arrival_at live.id live.inbox note ≡ arrival →
+    IsInbox live.inbox.lanes live.inbox.held → TakesNote live note
 notes live note New is sound = record {
   arrival = New;
   next = record live { inbox = record live.inbox { notes = put note.caller note.after live.inbox.notes } };
-  noted = record { arrival_is = sym is; same = refl; noted = record { lanes = refl; held = refl; notes = λ c. put_is note.caller note.after c live.inbox.notes } };
+  noted =
+      record { arrival_is = sym is; same = refl; noted = record { lanes = refl; held = refl; notes = λ c. put_is note.caller note.after c live.inbox.notes } };
   inbox = sound;
 }
 notes live note Repeat is sound = record {

@@ -50,15 +50,15 @@ arrived_stays : (h : History) (event : Event) (letter : Letter) → has_letter l
 arrived_stays h event letter has = has_front letter h.arrived (add_event h event).arrived (added_grows h event).arrived has
 
 -- what a deed has left stays
-left_stays : (casts : List ActorSpec) (deeds : List (Site × Action)) (deed : Site × Action) (h : History) (event : Event) (one : Site × Action) → HasLeft casts deeds h one → HasLeft casts (deeds ++ deed ∷ []) (add_event h event) one
+left_stays : (casts : List ActorSpec) (deeds : List (Site × Action)) (deed : Site × Action) (h : History) (event : Event) (one : Site × Action) →
+    HasLeft casts deeds h one → HasLeft casts (deeds ++ deed ∷ []) (add_event h event) one
 left_stays casts deeds deed h event (Caller c, Sent k) has = record {
   named = has.named;
   known = (known_on casts c k deeds (deed ∷ []) has.known).0;
   sent = sent_on casts c k deeds (deed ∷ []) has.sent;
 }
 left_stays casts deeds deed h event (Caller c, KillAsked a) has =
-    let front = asked_grows h event in
-    (has.0, subst (λ (l : List ℕ). contains a l ≡ true) front.1 (contains_more a h.asked front.0 has.1))
+    let front = asked_grows h event in (has.0, subst (λ l. contains a l ≡ true) front.1 (contains_more a h.asked front.0 has.1))
 left_stays casts deeds deed h event (Actor a, CallTaken packet) has =
     let stays = known_on casts packet.caller packet.future deeds (deed ∷ []) has.known in
     record {
@@ -70,7 +70,7 @@ left_stays casts deeds deed h event (Actor a, CallTaken packet) has =
       listed = has.listed;
     }
 left_stays casts deeds deed h event (Actor a, NoteTaken note) has = arrived_stays h event (NoteLetter note.caller a note.after) has
-left_stays casts deeds deed h event (Actor a, DeathTold c) has = post_stays h (add_event h event) (DeathPost c a) (added_grows h event).posts has
+left_stays casts deeds deed h event (Actor a, DeathTold c) has = post_stays h (add_event h event) (added_grows h event).posts has
 left_stays casts deeds deed h event one has = tt
 
 -- ---- who is no caller does nothing
@@ -83,10 +83,10 @@ abbrev pub IsByNamed : List ActorSpec → Site × Action → Type 0
 IsByNamed casts (Caller c, step) = IsNamed casts c
 IsByNamed casts (Actor a, step) = Unit {0}
 
-strangers_on : (casts : List ActorSpec) (deeds : List (Site × Action)) (deed : Site × Action) → IsByNamed casts deed → ((c : ℕ) → is_named casts c ≡ false → actions_of (Caller c) deeds ≡ [])
-    → (c : ℕ) → is_named casts c ≡ false → actions_of (Caller c) (deeds ++ deed ∷ []) ≡ []
+strangers_on : (casts : List ActorSpec) (deeds : List (Site × Action)) (deed : Site × Action) → IsByNamed casts deed → ((c : ℕ) → is_named casts c ≡ false →
+    actions_of (Caller c) deeds ≡ []) → (c : ℕ) → is_named casts c ≡ false → actions_of (Caller c) (deeds ++ deed ∷ []) ≡ []
 strangers_on casts deeds deed named none c stranger =
-    filter_map-append (action_at (Caller c)) deeds (deed ∷ []) ∙ ap (λ (steps : List Action). steps ++ actions_of (Caller c) (deed ∷ [])) (none c stranger) ∙ by_deed deed named
+    filter_map-append (action_at (Caller c)) deeds (deed ∷ []) ∙ ap (λ steps. steps ++ actions_of (Caller c) (deed ∷ [])) (none c stranger) ∙ by_deed deed named
   where
     by_step : (d : ℕ) (step : Action) → IsNamed casts d → (b : Bool) → (d == c) ≡ b → cons_option (cond b (Some step) None) [] ≡ []
     by_step d step named true is = let bad : true ≡ false = sym named ∙ ap (is_named casts) (eqb-true d c is) ∙ stranger in cc
@@ -138,12 +138,11 @@ told_done h event told e = go (refusal_of h event) refl e
     go (Some refusal) is e = cc
 
 -- an accepted event stands for the deed that it is, if that leaves world and history as the deeds then tell
-pub go_on : (casts : List ActorSpec) (deeds : List (Site × Action)) (h : History) (deed : Site × Action) (event : Event) (told : Did) (world : WorldView) → Keeps casts deeds h → IsEventOf h deed event → IsByNamed casts deed
-    → (Ok told ≡ outcome_of h event) × Refines (after h event) world
-    → ((c : ℕ) → IsNamed casts c → find (is_owner c) world.network.owners ≡ Some (owner_by casts c (deeds ++ deed ∷ [])))
-    → ((a : ℕ) → HasInbox (slice_get world.slots a)) → 9 ≤ length world.network.asked
-    → AreActorsOf (deeds ++ deed ∷ []) (add_event h event) → HasLeft casts (deeds ++ deed ∷ []) (add_event h event) deed
-    → GoesOn casts deeds h deed
+pub go_on : (casts : List ActorSpec) (deeds : List (Site × Action)) (h : History) (deed : Site × Action) (event : Event) (told : Did) (world : WorldView) →
+    Keeps casts deeds h → IsEventOf h deed event → IsByNamed casts deed → (Ok told ≡ outcome_of h event) × Refines (after h event) world →
+    ((c : ℕ) → IsNamed casts c → find (is_owner c) world.network.owners ≡ Some (owner_by casts c (deeds ++ deed ∷ []))) →
+    ((a : ℕ) → HasInbox (slice_get world.slots a)) → 9 ≤ length world.network.asked → AreActorsOf (deeds ++ deed ∷ []) (add_event h event) →
+    HasLeft casts (deeds ++ deed ∷ []) (add_event h event) deed → GoesOn casts deeds h deed
 go_on casts deeds h deed event told world keeps is named follows owners inboxes room actors new =
     let accepted = told_done h event told follows.0 in
     record {
@@ -156,12 +155,7 @@ go_on casts deeds h deed event told world keeps is named follows owners inboxes 
         noted = noted_step h event keeps.noted accepted;
         casts_are = (added_grows h event).casts ∙ keeps.casts_are;
         world = world;
-        reached = record {
-          refines = subst (λ (r : Option WorldRefusal). Refines (after_by h event r) world) accepted follows.1;
-          owners = owners;
-          inboxes = inboxes;
-          room = room;
-        };
+        reached = record { refines = subst (λ r. Refines (after_by h event r) world) accepted follows.1; owners = owners; inboxes = inboxes; room = room };
         actors = actors;
         left = λ one has. elim (Contains-push_cases deeds deed one has) [
           | inl was ↦ left_stays casts deeds deed h event one (keeps.left one was)
@@ -173,18 +167,18 @@ go_on casts deeds h deed event told world keeps is named follows owners inboxes 
 
 -- ---- what such a history tells
 
-pub named_is : (casts : List ActorSpec) (h : History) (c : ℕ) → h.casts ≡ casts → IsNamed casts c → is_caller c h ≡ true
-named_is casts h c same named = subst (λ (l : List ActorSpec). IsNamed l c) (sym same) named
+pub named_is : {casts : List ActorSpec} (h : History) (c : ℕ) → h.casts ≡ casts → IsNamed casts c → is_caller c h ≡ true
+named_is h c same named = subst (λ l. IsNamed l c) (sym same) named
 
 -- an actor's cast in a history of these casts is its cast among them
 pub cast_is : (casts : List ActorSpec) (h : History) (a : ℕ) → h.casts ≡ casts → cast_of a h ≡ cast_at a casts
 cast_is casts h a same = ap (cast_at a) same
 
 -- the caller, as the history tells
-pub owner_of : (casts : List ActorSpec) (deeds : List (Site × Action)) (h : History) (c : ℕ) → Keeps casts deeds h → IsNamed casts c → IsOwnerOf h c (owner_by casts c deeds)
+pub owner_of : (casts : List ActorSpec) (deeds : List (Site × Action)) (h : History) (c : ℕ) → Keeps casts deeds h → IsNamed casts c →
+    IsOwnerOf h c (owner_by casts c deeds)
 owner_of casts deeds h c keeps named =
-    let at : IsOwnerAt h c (Some (owner_by casts c deeds)) = subst (IsOwnerAt h c) (keeps.reached.owners c named) (keeps.reached.refines.owners c) in
-    at.1
+    let at : IsOwnerAt h c (Some (owner_by casts c deeds)) = subst (IsOwnerAt h c) (keeps.reached.owners c named) (keeps.reached.refines.owners c) in at.1
 
 -- who is no caller has no calls and no answers
 stranger_calls : (h : History) (c : ℕ) → AllNamed h → is_caller c h ≡ false → calls_of c h ≡ []
@@ -193,7 +187,7 @@ stranger_calls h c all stranger = go (calls_of c h) refl
     go : (calls : List Submission) → calls_of c h ≡ calls → calls_of c h ≡ []
     go [] e = e
     go (call ∷ calls) e =
-        let named = named_call h c 0 call all (ap (λ (l : List Submission). slice_get l 0) e) in
+        let named = named_call h c 0 all (ap (λ l. slice_get l 0) e) in
         let bad : true ≡ false = sym (named_caller c call.actor h named) ∙ stranger in cc
 
 -- each caller's calls and answers, as the deeds leave them
@@ -208,9 +202,9 @@ told_of casts deeds h c keeps = go (is_named casts c) refl
     go : (b : Bool) → is_named casts c ≡ b → IsToldOf casts deeds h c
     go true named = let is = owner_of casts deeds h c keeps named in record { calls = sym is.calls; kept = sym is.kept }
     go false stranger =
-        let none = stranger_calls h c keeps.lawful.retires.named (ap (λ (l : List ActorSpec). is_named l c) keeps.casts_are ∙ stranger) in
+        let none = stranger_calls h c keeps.lawful.retires.named (ap (λ l. is_named l c) keeps.casts_are ∙ stranger) in
         let same = keeps.strangers c stranger in
         record {
-          calls = none ∙ sym (ap (λ (steps : List Action). (left_by casts c steps).calls) same);
-          kept = ap (λ (calls : List Submission). map (first_answer h c) (enumerate_from 0 calls)) none ∙ sym (ap (λ (steps : List Action). (left_by casts c steps).kept) same);
+          calls = none ∙ sym (ap (λ steps. (left_by casts c steps).calls) same);
+          kept = ap (λ calls. map (first_answer h c) (enumerate_from 0 calls)) none ∙ sym (ap (λ steps. (left_by casts c steps).kept) same);
         }

@@ -2,11 +2,11 @@
 use Rattle.act_causes.proofs.Common.{◌≡◌, ℕ, zero, suc, ◌+◌, ◌-◌, ◌<◌, Bool, true, false, cond, List, [], ◌∷◌, ◌++◌, length, Some, None, inl, inr, refl, ap}
 use Rattle.act_causes.proofs.Common.{sym, ◌∙◌, subst, arith, Option, ◌==◌, ◌&&◌, slice_get, option_map, is_some, nat_lt, eqb-true, eq-eqb, ltb-true, and_parts}
 use Rattle.act_causes.proofs.Common.{eqb_tells, Event, Submit, Copy, Release, Send, Deliver, Run, Collect, AskKill, TakeKill, Tell, Retire, Letter, Post}
-use Rattle.act_causes.proofs.Common.{RunItem, Submission, NoActor, NoHandle, TooManyCopies, NoCaller, Handle, IsPrefix, calls_to, needs, copies_held}
-use Rattle.act_causes.proofs.Common.{copy_refusal, handle_refusal, ActorSpec, History, opening, is_caller, cast_of, names, count_pairs, calls_of, copies_of}
-use Rattle.act_causes.proofs.Common.{runs_of, has_letter, next_item, refusal_of, add_event, after_run, is_last, and_also, slice_get_front, option_map-none}
-use Rattle.act_causes.proofs.Common.{added_grows, IsKept, needs-none, next_item_caller, times-push, gone_step, has_last, ran_on, runs_here, runs_other}
-use Rattle.act_causes.proofs.Common.{slice_get_pushed, has_front, NoteLetter, ReplyPost}
+use Rattle.act_causes.proofs.Common.{RunItem, NoActor, NoHandle, TooManyCopies, NoCaller, Handle, IsPrefix, calls_to, needs, copies_held, copy_refusal}
+use Rattle.act_causes.proofs.Common.{handle_refusal, ActorSpec, History, opening, is_caller, cast_of, names, count_pairs, calls_of, copies_of, runs_of}
+use Rattle.act_causes.proofs.Common.{has_letter, next_item, refusal_of, add_event, after_run, is_last, and_also, slice_get_front, option_map-none, added_grows}
+use Rattle.act_causes.proofs.Common.{IsKept, needs-none, next_item_caller, times-push, gone_step, has_last, ran_on, runs_here, runs_other, slice_get_pushed}
+use Rattle.act_causes.proofs.Common.{has_front, NoteLetter, ReplyPost}
 
 -- ---- each call that ran was replied to
 
@@ -17,8 +17,8 @@ HasPost h post = (j : ℕ) × (slice_get h.posts j ≡ Some post)
 abbrev pub AreReplied : History → Type 0
 AreReplied h = (a place : ℕ) (item : RunItem) → slice_get (runs_of a h) place ≡ Some item → HasPost h (ReplyPost item.caller a place)
 
-pub post_stays : (h g : History) (post : Post) → IsPrefix h.posts g.posts → HasPost h post → HasPost g post
-post_stays h g post front has = (has.0, slice_get_front h.posts g.posts has.0 post front has.1)
+pub post_stays : (h g : History) {post : Post} → IsPrefix h.posts g.posts → HasPost h post → HasPost g post
+post_stays h g {post} front has = (has.0, slice_get_front h.posts g.posts has.0 front has.1)
 
 pub last_post : (posts : List Post) (post : Post) → (j : ℕ) × (slice_get (posts ++ post ∷ []) j ≡ Some post)
 last_post [] post = (zero, refl)
@@ -26,26 +26,26 @@ last_post (x ∷ posts) post = let rest = last_post posts post in (suc rest.0, r
 
 replied_stays : (h : History) (event : Event) → (add_event h event).ran ≡ h.ran → AreReplied h → AreReplied (add_event h event)
 replied_stays h event ran replied a place item e =
-    let was : slice_get (runs_of a h) place ≡ Some item = rw ran at e in
-    post_stays h (add_event h event) (ReplyPost item.caller a place) (added_grows h event).posts (replied a place item was)
+    let was : slice_get (runs_of a h) place ≡ Some item = rw ran at e in post_stays h (add_event h event) (added_grows h event).posts (replied a place item was)
 
 replied_run : (h : History) (b d : ℕ) (item : RunItem) → item.caller ≡ d → AreReplied h → AreReplied (ran_on h b d item)
 replied_run h b d item mine replied a place x e = elim (eqb_tells b a) [
   | inl t ↦
-      elim (slice_get_pushed (runs_of b h) item place x (sym (ap (λ (items : List RunItem). slice_get items place) (runs_here h b d item)) ∙ subst (λ (n : ℕ). slice_get (runs_of n (ran_on h b d item)) place ≡ Some x) (sym t.1) e)) [
-        | inl was ↦ front (replied a place x (subst (λ (n : ℕ). slice_get (runs_of n h) place ≡ Some x) t.1 was))
+      elim (slice_get_pushed (runs_of b h) item place (sym (ap (λ items. slice_get items place) (runs_here h b d item)) ∙
+      subst (λ n. slice_get (runs_of n (ran_on h b d item)) place ≡ Some x) (sym t.1) e)) [
+        | inl was ↦ front (replied a place x (subst (λ n. slice_get (runs_of n h) place ≡ Some x) t.1 was))
         | inr last ↦
             let post : ReplyPost d b (length (runs_of b h)) ≡ ReplyPost x.caller a place =
-            ap (λ (c : ℕ). ReplyPost c b (length (runs_of b h))) (sym mine ∙ ap (λ (i : RunItem). i.caller) last.1)
-            ∙ ap (λ (n : ℕ). ReplyPost x.caller b n) (sym last.0)
-            ∙ ap (λ (n : ℕ). ReplyPost x.caller n place) t.1 in
+            ap (λ c. ReplyPost c b (length (runs_of b h))) (sym mine ∙ ap (λ (i : RunItem). i.caller) last.1)
+            ∙ ap (λ n. ReplyPost x.caller b n) (sym last.0)
+            ∙ ap (λ n. ReplyPost x.caller n place) t.1 in
             subst (HasPost (ran_on h b d item)) post (last_post h.posts (ReplyPost d b (length (runs_of b h))))
       ]
-  | inr f ↦ front (replied a place x (sym (ap (λ (items : List RunItem). slice_get items place) (runs_other h b a d item f.1)) ∙ e))
+  | inr f ↦ front (replied a place x (sym (ap (λ items. slice_get items place) (runs_other h b a d item f.1)) ∙ e))
 ]
   where
     front : HasPost h (ReplyPost x.caller a place) → HasPost (ran_on h b d item) (ReplyPost x.caller a place)
-    front has = post_stays h (ran_on h b d item) (ReplyPost x.caller a place) (ReplyPost d b (length (runs_of b h)) ∷ [], refl) has
+    front has = post_stays h (ran_on h b d item) (ReplyPost d b (length (runs_of b h)) ∷ [], refl) has
 
 pub replied_step : IsKept AreReplied
 replied_step h (Submit c a method args) replied accepted = replied_stays h (Submit c a method args) refl replied
@@ -57,7 +57,7 @@ replied_step h (Run a c) replied accepted = go (next_item a c h) refl
   where
     go : (o : Option RunItem) → next_item a c h ≡ o → AreReplied (after_run a c h o)
     go None e = replied
-    go (Some item) e = replied_run h a c item (next_item_caller a c h item e) replied
+    go (Some item) e = replied_run h a c item (next_item_caller a c h e) replied
 replied_step h (Collect j) replied accepted = replied_stays h (Collect j) refl replied
 replied_step h (AskKill c a) replied accepted = replied_stays h (AskKill c a) refl replied
 replied_step h (TakeKill a) replied accepted = replied_stays h (TakeKill a) refl replied
@@ -73,10 +73,11 @@ abbrev pub AreNoted : History → Type 0
 AreNoted h = (c a : ℕ) → copies_of c a h ≡ Some 0 → has_letter (last_letter h c a) h.mail ≡ true
 
 -- a note that was sent stays, and counts the calls still
-noted_on : (h : History) (event : Event) → refusal_of h event ≡ None → AreNoted h → (c a : ℕ) → copies_of c a h ≡ Some 0 → has_letter (last_letter (add_event h event) c a) (add_event h event).mail ≡ true
+noted_on : (h : History) (event : Event) → refusal_of h event ≡ None → AreNoted h → (c a : ℕ) → copies_of c a h ≡ Some 0 →
+    has_letter (last_letter (add_event h event) c a) (add_event h event).mail ≡ true
 noted_on h event accepted noted c a none =
     let stays = gone_step c a h event (ap copies_held none) accepted in
-    subst (λ (calls : List (ℕ × Submission)). has_letter (NoteLetter c a (length calls)) (add_event h event).mail ≡ true) (sym stays.calls)
+    subst (λ calls. has_letter (NoteLetter c a (length calls)) (add_event h event).mail ≡ true) (sym stays.calls)
     (has_front (last_letter h c a) h.mail (add_event h event).mail (added_grows h event).mail (noted c a none))
 
 -- who may copy or release holds a copy
@@ -103,8 +104,10 @@ one_made : (named : Bool) (made gone : ℕ) → 0 < copies_held (held_by named m
 one_made true made gone held e = let some : 0 < (1 + made) - gone = held in let none : (1 + (made + 1)) - gone ≡ 0 = cc in omega arith
 one_made false made gone held e = cc
 
-last_gone : (named : Bool) (made gone : ℕ) → 0 < copies_held (held_by named made gone) → held_by named made (gone + 1) ≡ Some 0 → copies_held (held_by named made gone) ≡ 1
-last_gone true made gone held e = let some : 0 < (1 + made) - gone = held in let none : (1 + made) - (gone + 1) ≡ 0 = cc in let one : (1 + made) - gone ≡ 1 = omega arith in one
+last_gone : (named : Bool) (made gone : ℕ) → 0 < copies_held (held_by named made gone) → held_by named made (gone + 1) ≡ Some 0 →
+    copies_held (held_by named made gone) ≡ 1
+last_gone true made gone held e = let some : 0 < (1 + made) - gone = held in let none : (1 + made) - (gone + 1) ≡ 0 = cc in let one : (1 + made) - gone ≡ 1 =
+    omega arith in one
 last_gone false made gone held e = cc
 
 noted_copy : (h : History) (d b : ℕ) → refusal_of h (Copy d b) ≡ None → AreNoted h → AreNoted (add_event h (Copy d b))
@@ -113,18 +116,22 @@ noted_copy h d b accepted noted c a none = go ((d == c) && (b == a)) refl
     go : (same : Bool) → ((d == c) && (b == a)) ≡ same → has_letter (last_letter (add_event h (Copy d b)) c a) h.mail ≡ true
     go true e =
         let parts = and_parts (d == c) (b == a) e in
-        let held : 0 < copies_held (copies_of c a h) = subst (λ (x : ℕ). 0 < copies_held (copies_of x a h)) (eqb-true d c parts.0) (subst (λ (y : ℕ). 0 < copies_held (copies_of d y h)) (eqb-true b a parts.1) (copier_holds h d b accepted)) in
-        let more : count_pairs c a (h.copied ++ (d, b) ∷ []) ≡ count_pairs c a h.copied + 1 = times-push c a d b h.copied ∙ ap (λ (same : Bool). count_pairs c a h.copied + cond same 1 0) e in
-        absurd (one_made (names c (cast_of a h)) (count_pairs c a h.copied) (count_pairs c a h.released) held (sym (ap (λ (n : ℕ). held_by (names c (cast_of a h)) n (count_pairs c a h.released)) more) ∙ none))
+        let held : 0 < copies_held (copies_of c a h) = subst (λ x. 0 < copies_held (copies_of x a h)) (eqb-true d c parts.0)
+        (subst (λ y. 0 < copies_held (copies_of d y h)) (eqb-true b a parts.1) (copier_holds h d b accepted)) in
+        let more : count_pairs c a (h.copied ++ (d, b) ∷ []) ≡ count_pairs c a h.copied + 1 =
+        times-push c a d b h.copied ∙ ap (λ same. count_pairs c a h.copied + cond same 1 0) e in
+        absurd (one_made (names c (cast_of a h)) (count_pairs c a h.copied) (count_pairs c a h.released) held
+        (sym (ap (λ n. held_by (names c (cast_of a h)) n (count_pairs c a h.released)) more) ∙ none))
     go false e =
         let plus : count_pairs c a h.copied + 0 ≡ count_pairs c a h.copied = omega arith in
-        let same : count_pairs c a (h.copied ++ (d, b) ∷ []) ≡ count_pairs c a h.copied = times-push c a d b h.copied ∙ ap (λ (same : Bool). count_pairs c a h.copied + cond same 1 0) e ∙ plus in
-        noted_on h (Copy d b) accepted noted c a (sym (ap (λ (n : ℕ). held_by (names c (cast_of a h)) n (count_pairs c a h.released)) same) ∙ none)
+        let same : count_pairs c a (h.copied ++ (d, b) ∷ []) ≡ count_pairs c a h.copied =
+        times-push c a d b h.copied ∙ ap (λ same. count_pairs c a h.copied + cond same 1 0) e ∙ plus in
+        noted_on h (Copy d b) accepted noted c a (sym (ap (λ n. held_by (names c (cast_of a h)) n (count_pairs c a h.released)) same) ∙ none)
 
 -- the note that a last release sends is there
 note_sent : (h : History) (c a : ℕ) → is_last c a h ≡ true → has_letter (last_letter h c a) (add_event h (Release c a)).mail ≡ true
 note_sent h c a last =
-    ap (λ (b : Bool). has_letter (last_letter h c a) (and_also h.mail (cond b (Some (last_letter h c a)) None))) last
+    ap (λ b. has_letter (last_letter h c a) (and_also h.mail (cond b (Some (last_letter h c a)) None))) last
     ∙ has_last (last_letter h c a) h.mail
 
 noted_release : (h : History) (d b : ℕ) → refusal_of h (Release d b) ≡ None → AreNoted h → AreNoted (add_event h (Release d b))
@@ -132,20 +139,22 @@ noted_release h d b accepted noted c a none = go ((d == c) && (b == a)) refl
   where
     go : (same : Bool) → ((d == c) && (b == a)) ≡ same → has_letter (last_letter h c a) (add_event h (Release d b)).mail ≡ true
     go true e =
-        let parts = and_parts (d == c) (b == a) e in
-        let caller : d ≡ c = eqb-true d c parts.0 in
-        let actor : b ≡ a = eqb-true b a parts.1 in
-        let held : 0 < copies_held (copies_of c a h) = subst (λ (x : ℕ). 0 < copies_held (copies_of x a h)) caller (subst (λ (y : ℕ). 0 < copies_held (copies_of d y h)) actor (releaser_holds h d b accepted)) in
-        let more : count_pairs c a (h.released ++ (d, b) ∷ []) ≡ count_pairs c a h.released + 1 = times-push c a d b h.released ∙ ap (λ (same : Bool). count_pairs c a h.released + cond same 1 0) e in
+        let parts = and_parts (d == c) (b == a) e in let caller : d ≡ c = eqb-true d c parts.0 in let actor : b ≡ a = eqb-true b a parts.1 in
+        let held : 0 < copies_held (copies_of c a h) =
+        subst (λ x. 0 < copies_held (copies_of x a h)) caller (subst (λ y. 0 < copies_held (copies_of d y h)) actor (releaser_holds h d b accepted)) in
+        let more : count_pairs c a (h.released ++ (d, b) ∷ []) ≡ count_pairs c a h.released + 1 =
+        times-push c a d b h.released ∙ ap (λ same. count_pairs c a h.released + cond same 1 0) e in
         let one : copies_held (copies_of c a h) ≡ 1 =
-        last_gone (names c (cast_of a h)) (count_pairs c a h.copied) (count_pairs c a h.released) held (sym (ap (λ (n : ℕ). held_by (names c (cast_of a h)) (count_pairs c a h.copied) n) more) ∙ none) in
-        subst (λ (x : ℕ). has_letter (last_letter h c a) (add_event h (Release x b)).mail ≡ true) (sym caller)
-        (subst (λ (y : ℕ). has_letter (last_letter h c a) (add_event h (Release c y)).mail ≡ true) (sym actor)
+        last_gone (names c (cast_of a h)) (count_pairs c a h.copied) (count_pairs c a h.released) held
+        (sym (ap (λ n. held_by (names c (cast_of a h)) (count_pairs c a h.copied) n) more) ∙ none) in
+        subst (λ x. has_letter (last_letter h c a) (add_event h (Release x b)).mail ≡ true) (sym caller)
+        (subst (λ y. has_letter (last_letter h c a) (add_event h (Release c y)).mail ≡ true) (sym actor)
         (note_sent h c a (eq-eqb (copies_held (copies_of c a h)) 1 one)))
     go false e =
         let plus : count_pairs c a h.released + 0 ≡ count_pairs c a h.released = omega arith in
-        let same : count_pairs c a (h.released ++ (d, b) ∷ []) ≡ count_pairs c a h.released = times-push c a d b h.released ∙ ap (λ (same : Bool). count_pairs c a h.released + cond same 1 0) e ∙ plus in
-        noted_on h (Release d b) accepted noted c a (sym (ap (λ (n : ℕ). held_by (names c (cast_of a h)) (count_pairs c a h.copied) n) same) ∙ none)
+        let same : count_pairs c a (h.released ++ (d, b) ∷ []) ≡ count_pairs c a h.released =
+        times-push c a d b h.released ∙ ap (λ same. count_pairs c a h.released + cond same 1 0) e ∙ plus in
+        noted_on h (Release d b) accepted noted c a (sym (ap (λ n. held_by (names c (cast_of a h)) (count_pairs c a h.copied) n) same) ∙ none)
 
 pub noted_step : IsKept AreNoted
 noted_step h (Submit d b method args) noted accepted c a none = noted_on h (Submit d b method args) accepted noted c a none

@@ -73,8 +73,8 @@ module _ {D S : Type 0} (part : D → Option S) where
   found_put x [] first = refl
   found_put x (y ∷ ys) first = go (nat_le x.0 y.0) refl (found_put x ys)
     where
-      swapped : (o p : Option S) → y.0 < x.0 → (IsFirst x.0 o (found_in part ys) → found_in part (put x ys) ≡ more x.0 o (found_in part ys)) → IsFirst x.0 o (more y.0 p (found_in part ys))
-          → more y.0 p (found_in part (put x ys)) ≡ more x.0 o (more y.0 p (found_in part ys))
+      swapped : (o p : Option S) → y.0 < x.0 → (IsFirst x.0 o (found_in part ys) → found_in part (put x ys) ≡ more x.0 o (found_in part ys)) →
+          IsFirst x.0 o (more y.0 p (found_in part ys)) → more y.0 p (found_in part (put x ys)) ≡ more x.0 o (more y.0 p (found_in part ys))
       swapped None p lt rest first = ap (more y.0 p) (rest tt)
       swapped (Some found) None lt rest first = rest first
       swapped (Some found) (Some other) lt rest first = absurd (omega (arith, lt, first.0))
@@ -111,22 +111,24 @@ all_deeds threads (suc n) = as_deeds (Caller n) (threads (Caller n)) ++ (as_deed
 found_here : (site : Site) (trace : List (ℕ × Action)) → found_in (action_at site) (as_deeds site trace) ≡ trace
 found_here site [] = refl
 found_here site (x ∷ trace) =
-    ap (λ (o : Option Action). cons_option (option_map (λ (found : Action). (x.0, found)) o) (found_in (action_at site) (as_deeds site trace))) (action_here site x.1)
-    ∙ ap (λ (l : List (ℕ × Action)). x ∷ l) (found_here site trace)
+    ap (λ o. cons_option (option_map (λ found. (x.0, found)) o) (found_in (action_at site) (as_deeds site trace))) (action_here site x.1)
+    ∙ ap (λ l. x ∷ l) (found_here site trace)
 
 found_elsewhere : (site other : Site) → other ≢ site → (trace : List (ℕ × Action)) → found_in (action_at site) (as_deeds other trace) ≡ []
 found_elsewhere site other apart [] = refl
 found_elsewhere site other apart (x ∷ trace) =
-    ap (λ (o : Option Action). cons_option (option_map (λ (found : Action). (x.0, found)) o) (found_in (action_at site) (as_deeds other trace))) (action_elsewhere site other x.1 apart)
+    ap (λ o. cons_option (option_map (λ found. (x.0, found)) o) (found_in (action_at site) (as_deeds other trace))) (action_elsewhere site other x.1 apart)
     ∙ found_elsewhere site other apart trace
 
 module _ (threads : Threads) (site : Site) where
   -- what is found in those of number n, and below
-  found_two : (n : ℕ) (one two rest : List (ℕ × Action)) → found_in (action_at site) (as_deeds (Caller n) (threads (Caller n))) ≡ one → found_in (action_at site) (as_deeds (Actor n) (threads (Actor n))) ≡ two
-      → found_in (action_at site) (all_deeds threads n) ≡ rest → found_in (action_at site) (all_deeds threads (suc n)) ≡ one ++ (two ++ rest)
-  found_two n one two rest first second behind =
+  found_two : (n : ℕ) {one two rest : List (ℕ × Action)} → found_in (action_at site) (as_deeds (Caller n) (threads (Caller n))) ≡ one →
+      found_in (action_at site) (as_deeds (Actor n) (threads (Actor n))) ≡ two → found_in (action_at site) (all_deeds threads n) ≡ rest →
+      found_in (action_at site) (all_deeds threads (suc n)) ≡ one ++ (two ++ rest)
+  found_two n first second behind =
       found_append (action_at site) (as_deeds (Caller n) (threads (Caller n))) (as_deeds (Actor n) (threads (Actor n)) ++ all_deeds threads n)
-      ∙ ap (λ (l : List (ℕ × Action)). found_in (action_at site) (as_deeds (Caller n) (threads (Caller n))) ++ l) (found_append (action_at site) (as_deeds (Actor n) (threads (Actor n))) (all_deeds threads n))
+      ∙ ap (λ l. found_in (action_at site) (as_deeds (Caller n) (threads (Caller n))) ++ l)
+      (found_append (action_at site) (as_deeds (Actor n) (threads (Actor n))) (all_deeds threads n))
       ∙ (λ i. first i ++ (second i ++ behind i))
 
   other_number : (n : ℕ) (other : Site) → site_number other ≡ n → n ≢ site_number site → other ≢ site
@@ -136,28 +138,31 @@ module _ (threads : Threads) (site : Site) where
   found_none zero past = refl
   found_none (suc n) past =
       let apart : n ≢ site_number site = λ same. omega (arith, past, same) in
-      found_two n [] [] [] (found_elsewhere site (Caller n) (other_number n (Caller n) refl apart) (threads (Caller n))) (found_elsewhere site (Actor n) (other_number n (Actor n) refl apart) (threads (Actor n))) (found_none n (omega (arith, past)))
+      found_two n (found_elsewhere site (Caller n) (other_number n (Caller n) refl apart) (threads (Caller n)))
+      (found_elsewhere site (Actor n) (other_number n (Actor n) refl apart) (threads (Actor n))) (found_none n (omega (arith, past)))
 
 found_last : (threads : Threads) (site : Site) → found_in (action_at site) (all_deeds threads (suc (site_number site))) ≡ threads site
 found_last threads (Caller c) =
-    found_two threads (Caller c) c (threads (Caller c)) [] [] (found_here (Caller c) (threads (Caller c))) (found_elsewhere (Caller c) (Actor c) (λ same. cc) (threads (Actor c))) (found_none threads (Caller c) c (omega arith))
+    found_two threads (Caller c) c (found_here (Caller c) (threads (Caller c))) (found_elsewhere (Caller c) (Actor c) (λ same. cc) (threads (Actor c)))
+    (found_none threads (Caller c) c (omega arith))
     ∙ append-nil (threads (Caller c))
 found_last threads (Actor a) =
-    found_two threads (Actor a) a [] (threads (Actor a)) [] (found_elsewhere (Actor a) (Caller a) (λ same. cc) (threads (Caller a))) (found_here (Actor a) (threads (Actor a))) (found_none threads (Actor a) a (omega arith))
+    found_two threads (Actor a) a (found_elsewhere (Actor a) (Caller a) (λ same. cc) (threads (Caller a))) (found_here (Actor a) (threads (Actor a)))
+    (found_none threads (Actor a) a (omega arith))
     ∙ append-nil (threads (Actor a))
 
 found_below : (threads : Threads) (site : Site) (n : ℕ) → site_number site < n → found_in (action_at site) (all_deeds threads n) ≡ threads site
 found_below threads site zero below = absurd (omega (arith, below))
 found_below threads site (suc n) below = elim (eqb_tells n (site_number site)) [
-  | inl t ↦ subst (λ (k : ℕ). found_in (action_at site) (all_deeds threads (suc k)) ≡ threads site) (sym t.1) (found_last threads site)
+  | inl t ↦ subst (λ k. found_in (action_at site) (all_deeds threads (suc k)) ≡ threads site) (sym t.1) (found_last threads site)
   | inr f ↦
       let apart = f.1 in
-      found_two threads site n [] [] (threads site) (found_elsewhere site (Caller n) (other_number threads site n (Caller n) refl f.1) (threads (Caller n)))
-      (found_elsewhere site (Actor n) (other_number threads site n (Actor n) refl f.1) (threads (Actor n))) (found_below threads site n (lower n (site_number site) below f.1))
+      found_two threads site n (found_elsewhere site (Caller n) (other_number threads site n (Caller n) refl f.1) (threads (Caller n)))
+      (found_elsewhere site (Actor n) (other_number threads site n (Actor n) refl f.1) (threads (Actor n))) (found_below threads site n (lower n below f.1))
 ]
   where
-    lower : (n k : ℕ) → k < suc n → n ≢ k → k < n
-    lower n k below apart = elim (leb_tells (suc k) n) [ inl t ↦ t.1 | inr f ↦ let past = f.1 in absurd (apart (omega (arith, past, below))) ]
+    lower : (n : ℕ) {k : ℕ} → k < suc n → n ≢ k → k < n
+    lower n {k} below apart = elim (leb_tells (suc k) n) [ inl t ↦ t.1 | inr f ↦ let past = f.1 in absurd (apart (omega (arith, past, below))) ]
 
 found_all : (n : ℕ) (threads : Threads) (site : Site) → AreBelow n threads → found_in (action_at site) (all_deeds threads n) ≡ threads site
 found_all n threads site below = elim (leb_tells n (site_number site)) [
@@ -172,9 +177,10 @@ least_from [] later x order = (omega arith, order.0)
 least_from (y ∷ before) later x order = least_from before later x order.1
 
 -- what somebody did before a deed is the first of its trace, with all that has a lower stamp
-front_below : (site : Site) (merged before later : List (ℕ × (Site × Action))) (m : ℕ) (deed : Site × Action) (trace : List (ℕ × Action)) → Rises merged → merged ≡ before ++ (m, deed) ∷ later
-    → found_in (action_at site) merged ≡ trace → IsFrontBelow m trace (found_in (action_at site) before)
-front_below site merged before later m deed trace order e is = record {
+front_below : (site : Site) {merged : List (ℕ × (Site × Action))} (before later : List (ℕ × (Site × Action))) (m : ℕ) (deed : Site × Action)
+    {trace : List (ℕ × Action)} → Rises merged → merged ≡ before ++ (m, deed) ∷ later → found_in (action_at site) merged ≡ trace →
+    IsFrontBelow m trace (found_in (action_at site) before)
+front_below site before later m deed order e is = record {
   later = found_in (action_at site) ((m, deed) ∷ later);
   cut = sym is ∙ ap (found_in (action_at site)) e ∙ found_append (action_at site) before ((m, deed) ∷ later);
   from = All-from_recursion (λ (x : ℕ × Action). m ≤ x.0) (found_in (action_at site) ((m, deed) ∷ later))
@@ -188,7 +194,7 @@ merge_of n threads below rise = (
   record {
     of = of;
     rising = pairs (ordered (all_deeds threads n)) (ordered_rises (all_deeds threads n));
-    fronts = λ before later m deed e site. front_below site (ordered (all_deeds threads n)) before later m deed (threads site) (ordered_rises (all_deeds threads n)) e (of site);
+    fronts = λ before later m deed e site. front_below site before later m deed (ordered_rises (all_deeds threads n)) e (of site);
   },
 )
   where

@@ -5,7 +5,7 @@ use Rattle.act_causes.proofs.Common.{eqb_tells, leb_tells, All-contains, list_an
 use Rattle.act_causes.proofs.Common.{slice_get-get_or, slice_get_past, map-map, KindState, Packet, ActorSpec, opening, contains, cast_of, names, find-tells}
 use Rattle.act_causes.proofs.Common.{AllPairs-map, InboxView, lane_at_first, IsOpened, no_notes, opened, opened_is_inbox, OwnerView, opened_under, opened_with}
 use Rattle.act_causes.proofs.Common.{Cast, ActorView, cast_at, limits_naming, is_owner, SlotView, Runs, Vacant, WorldView, IsLive, IsStage, IsOwnerAt, Refines}
-use Rattle.act_causes.proofs.Common.{world_lawful, owners_opened, nothing_asked, Site, Action, IsNamed, owner_by, SpecsFit, [], ◌||◌}
+use Rattle.act_causes.proofs.Common.{world_lawful, owners_opened, nothing_asked, IsNamed, owner_by, SpecsFit, [], ◌||◌}
 use Rattle.act_actor.specs.Casts.{actor_spec, actor_limit, callers_named, limits_that_name as limits_of_casts}
 use Rattle.act_causes.proofs.Keeping.{HasInbox, HasLeft, Keeps}
 use Rattle.act_causes.proofs.Marks.{replied_opening, noted_opening}
@@ -18,38 +18,42 @@ cast_from cast = record { actor = cast.actor; callers = cast.callers; kind = cas
 
 casts_same : (casts : List ActorSpec) → map (actor_spec (λ state. state)) (map cast_from casts) ≡ casts
 casts_same [] = refl
-casts_same (cast ∷ casts) = ap (λ (l : List ActorSpec). cast ∷ l) (casts_same casts)
+casts_same (cast ∷ casts) = ap (λ l. cast ∷ l) (casts_same casts)
 
 limits_same : (c : ℕ) (casts : List ActorSpec) → limits_of_casts c (map cast_from casts) ≡ limits_naming c casts
 limits_same c [] = refl
-limits_same c (cast ∷ casts) = go (contains c cast.callers) (filter (λ (one : Cast KindState). contains c one.callers) (map cast_from casts)) (filter (λ (one : ActorSpec). contains c one.callers) casts) (limits_same c casts)
+limits_same c (cast ∷ casts) = go (contains c cast.callers) (filter (λ (one : Cast KindState). contains c one.callers) (map cast_from casts))
+    (filter (λ (one : ActorSpec). contains c one.callers) casts) (limits_same c casts)
   where
-    go : (b : Bool) (rest : List (Cast KindState)) (behind : List ActorSpec) → map (λ (one : Cast KindState). actor_limit one) rest ≡ map (λ (one : ActorSpec). (one.actor, one.pending)) behind
-        → map (λ (one : Cast KindState). actor_limit one) (cond b (cast_from cast ∷ rest) rest) ≡ map (λ (one : ActorSpec). (one.actor, one.pending)) (cond b (cast ∷ behind) behind)
-    go true rest behind same = ap (λ (l : List (ℕ × Option ℕ)). (cast.actor, cast.pending) ∷ l) same
+    go : (b : Bool) (rest : List (Cast KindState)) (behind : List ActorSpec) →
+        map (λ one. actor_limit one) rest ≡ map (λ (one : ActorSpec). (one.actor, one.pending)) behind →
+        map (λ one. actor_limit one) (cond b (cast_from cast ∷ rest) rest) ≡ map (λ (one : ActorSpec). (one.actor, one.pending)) (cond b (cast ∷ behind) behind)
+    go true rest behind same = ap (λ l. (cast.actor, cast.pending) ∷ l) same
     go false rest behind same = same
 
 -- the caller as it is opened with its limits
 opened_same : (c : ℕ) (casts : List ActorSpec) → opened_with c (limits_of_casts c (map cast_from casts)) ≡ owner_by casts c []
 opened_same c casts =
-    ap (λ (limits : List (ℕ × Option ℕ)). opened_with c limits) (limits_same c casts)
-    ∙ ap (λ (actors : List ℕ). opened_under (limits_naming c casts) c actors)
+    ap (λ limits. opened_with c limits) (limits_same c casts)
+    ∙ ap (λ actors. opened_under (limits_naming c casts) c actors)
     (map-map (λ (limit : ℕ × Option ℕ). limit.0) (λ (one : ActorSpec). (one.actor, one.pending)) (filter (λ (one : ActorSpec). contains c one.callers) casts))
 
 -- one of each of these callers
 abbrev owners_of : List ActorSpec → List ℕ → List OwnerView
 owners_of casts callers = map (λ c. opened_with c (limits_of_casts c (map cast_from casts))) callers
 
-found_among : (casts : List ActorSpec) (callers : List ℕ) (d : ℕ) → find (is_owner d) (owners_of casts callers) ≡ cond (contains d callers) (Some (opened_with d (limits_of_casts d (map cast_from casts)))) None
+found_among : (casts : List ActorSpec) (callers : List ℕ) (d : ℕ) →
+    find (is_owner d) (owners_of casts callers) ≡ cond (contains d callers) (Some (opened_with d (limits_of_casts d (map cast_from casts)))) None
 found_among casts [] d = refl
 found_among casts (c ∷ callers) d = elim (eqb_tells c d) [
-  | inl t ↦ rw t.0 (ap (λ (x : ℕ). Some (opened_with x (limits_of_casts x (map cast_from casts)))) t.1)
+  | inl t ↦ rw t.0 (ap (λ x. Some (opened_with x (limits_of_casts x (map cast_from casts)))) t.1)
   | inr f ↦ rw f.0 (found_among casts callers d)
 ]
 
 named_among : (c : ℕ) (casts : List ActorSpec) → contains c (callers_named (map cast_from casts)) ≡ list_any (λ cast. contains c cast.callers) casts
 named_among c [] = refl
-named_among c (cast ∷ casts) = list_any-append (λ m. m == c) cast.callers (callers_named (map cast_from casts)) ∙ ap (λ (b : Bool). contains c cast.callers || b) (named_among c casts)
+named_among c (cast ∷ casts) =
+    list_any-append (λ m. m == c) cast.callers (callers_named (map cast_from casts)) ∙ ap (λ b. contains c cast.callers || b) (named_among c casts)
 
 abbrev all_owners : List ActorSpec → List OwnerView
 all_owners casts = owners_of casts (callers_named (map cast_from casts))
@@ -57,15 +61,15 @@ all_owners casts = owners_of casts (callers_named (map cast_from casts))
 owner_opened : (casts : List ActorSpec) (c : ℕ) → IsNamed casts c → find (is_owner c) (all_owners casts) ≡ Some (owner_by casts c [])
 owner_opened casts c named =
     found_among casts (callers_named (map cast_from casts)) c
-    ∙ ap (λ (b : Bool). cond b (Some (opened_with c (limits_of_casts c (map cast_from casts)))) None) (named_among c casts ∙ named)
-    ∙ ap (λ (o : OwnerView). Some o) (opened_same c casts)
+    ∙ ap (λ b. cond b (Some (opened_with c (limits_of_casts c (map cast_from casts)))) None) (named_among c casts ∙ named)
+    ∙ ap (λ o. Some o) (opened_same c casts)
 
-owners_stand : (casts : List ActorSpec) → AllPairs (λ one other. one.actor ≢ other.actor) casts → (c : ℕ) → IsOwnerAt (opening casts) c (find (is_owner c) (all_owners casts))
+owners_stand : (casts : List ActorSpec) → AllPairs (λ one other. one.actor ≢ other.actor) casts → (c : ℕ) →
+    IsOwnerAt (opening casts) c (find (is_owner c) (all_owners casts))
 owners_stand casts differ c =
-    subst (λ (l : List ActorSpec). IsOwnerAt (opening l) c (find (is_owner c) (all_owners casts))) (casts_same casts)
-    (owners_opened (λ state. state) (map cast_from casts) (all_owners casts)
-    (AllPairs-map (λ (one other : Cast KindState). one.actor ≢ other.actor) cast_from casts differ)
-    (found_among casts (callers_named (map cast_from casts))) c)
+    subst (λ l. IsOwnerAt (opening l) c (find (is_owner c) (all_owners casts))) (casts_same casts)
+    (owners_opened (λ state. state) (map cast_from casts) (all_owners casts) (AllPairs-map
+    (λ (one other : Cast KindState). one.actor ≢ other.actor) cast_from casts differ) (found_among casts (callers_named (map cast_from casts))) c)
 
 -- ---- the actors
 
@@ -79,7 +83,8 @@ abbrev slot_of : Option ActorSpec → SlotView
 slot_of None = Vacant
 slot_of (Some cast) = Runs (live_at_first cast)
 
-live_opened : (casts : List ActorSpec) (a : ℕ) (cast : ActorSpec) → cast_of a (opening casts) ≡ Some cast → cast.actor ≡ a → IsLive (opening casts) a (live_at_first cast)
+live_opened : (casts : List ActorSpec) (a : ℕ) (cast : ActorSpec) → cast_of a (opening casts) ≡ Some cast → cast.actor ≡ a →
+    IsLive (opening casts) a (live_at_first cast)
 live_opened casts a cast at to =
     let inbox : IsOpened cast.callers (inbox_at_first cast.callers) = opened cast.callers (inbox_at_first cast.callers) refl refl refl in
     record {
@@ -107,12 +112,11 @@ slot_at casts a below =
     let long : length (all_slots casts) ≡ 9 = length-map-range_with_len (λ a. slot_of (cast_at a casts)) 0 9 in
     let within : a < length (all_slots casts) = omega arith in
     slice_get-get_or (all_slots casts) a Vacant within
-    ∙ ap (λ (s : SlotView). Some s) (get_or-map-range_with_len (λ a. slot_of (cast_at a casts)) 0 9 a a Vacant below (omega arith))
+    ∙ ap (λ s. Some s) (get_or-map-range_with_len (λ a. slot_of (cast_at a casts)) 0 9 a a Vacant below (omega arith))
 
 no_slot : (casts : List ActorSpec) (a : ℕ) → 9 ≤ a → slice_get (all_slots casts) a ≡ None
 no_slot casts a past =
-    let long : length (all_slots casts) ≡ 9 = length-map-range_with_len (λ a. slot_of (cast_at a casts)) 0 9 in
-    slice_get_past (all_slots casts) a (omega arith)
+    let long : length (all_slots casts) ≡ 9 = length-map-range_with_len (λ a. slot_of (cast_at a casts)) 0 9 in slice_get_past (all_slots casts) a (omega arith)
 
 slots_stand : (casts : List ActorSpec) → All (λ cast. cast.actor ≤ 8) casts → (a : ℕ) → IsStage (opening casts) a (slice_get (all_slots casts) a)
 slots_stand casts small a = go (cast_at a casts) refl
@@ -120,13 +124,12 @@ slots_stand casts small a = go (cast_at a casts) refl
     go : (o : Option ActorSpec) → cast_at a casts ≡ o → IsStage (opening casts) a (slice_get (all_slots casts) a)
     go None none = elim (leb_tells 9 a) [
       | inl t ↦ subst (IsStage (opening casts) a) (sym (no_slot casts a t.1)) none
-      | inr f ↦ let past = f.1 in subst (IsStage (opening casts) a) (sym (slot_at casts a (omega arith) ∙ ap (λ (o : Option ActorSpec). Some (slot_of o)) none)) none
+      | inr f ↦ let past = f.1 in subst (IsStage (opening casts) a) (sym (slot_at casts a (omega arith) ∙ ap (λ o. Some (slot_of o)) none)) none
     ]
     go (Some cast) at =
-        let told = find-tells (λ (cast : ActorSpec). cast.actor ≤ 8) (λ (cast : ActorSpec). cast.actor == a) casts cast small at in
-        let to : cast.actor ≡ a = eqb-true cast.actor a told.1 in
-        let most : cast.actor ≤ 8 = told.0 in
-        subst (IsStage (opening casts) a) (sym (slot_at casts a (omega arith) ∙ ap (λ (o : Option ActorSpec). Some (slot_of o)) at)) (live_opened casts a cast at to)
+        let told = find-tells (λ (cast : ActorSpec). cast.actor ≤ 8) (λ (cast : ActorSpec). cast.actor == a) casts small at in
+        let to : cast.actor ≡ a = eqb-true cast.actor a told.1 in let most : cast.actor ≤ 8 = told.0 in
+        subst (IsStage (opening casts) a) (sym (slot_at casts a (omega arith) ∙ ap (λ o. Some (slot_of o)) at)) (live_opened casts a cast at to)
 
 -- what of a cast makes its actor's inbox as any is
 pub record IsOpenable (cast : ActorSpec) : Type 0 where
@@ -145,7 +148,7 @@ inboxes_stand casts fitting a = elim (leb_tells 9 a) [
     go : (o : Option ActorSpec) → cast_at a casts ≡ o → HasInbox (Some (slot_of o))
     go None none = tt
     go (Some cast) at =
-        let told = find-tells IsOpenable (λ (cast : ActorSpec). cast.actor == a) casts cast all at in
+        let told = find-tells IsOpenable (λ (cast : ActorSpec). cast.actor == a) casts all at in
         opened_is_inbox cast.callers (inbox_at_first cast.callers) refl refl refl told.0.differ told.0.numbers
 
 -- ---- the world
@@ -171,13 +174,8 @@ keeps_opening casts fitting = record {
   noted = noted_opening casts;
   casts_are = refl;
   world = first_world casts;
-  reached = record {
-    refines = first_ties casts fitting;
-    owners = owner_opened casts;
-    inboxes = inboxes_stand casts fitting;
-    room = omega arith;
-  };
+  reached = record { refines = first_ties casts fitting; owners = owner_opened casts; inboxes = inboxes_stand casts fitting; room = omega arith };
   actors = record { runs = λ a. refl; killed = λ a. refl; retired = λ a. refl };
   strangers = λ c stranger. refl;
-  left = λ deed has. All-contains (λ (one : Site × Action). HasLeft casts [] (opening casts) one) [] deed (λ i d within. absurd (omega arith)) has;
+  left = λ deed has. All-contains (λ one. HasLeft casts [] (opening casts) one) [] deed (λ i d within. absurd (omega arith)) has;
 }

@@ -18,7 +18,7 @@ found_at {X = X} p xs x e = go (position p xs) refl
     go (Some i) at = record {
       place = i;
       at = at;
-      is = let same : Some x ≡ Some (get_or xs i x) = sym e ∙ find-Some p xs i x at in cc;
+      is = let same : Some x ≡ Some (get_or xs i x) = sym e ∙ find-Some p xs x at in cc;
       below = (position-Some p xs i x at).0;
     }
 
@@ -26,9 +26,10 @@ found_at {X = X} p xs x e = go (position p xs) refl
 
 module _ (owners : List OwnerView) (c : ℕ) (old new : OwnerView) (there : IsFoundAt (is_owner c) owners old) (id : new.id ≡ c) where
   pub written_here : find (is_owner c) (slice_set owners there.place new) ≡ Some new
-  written_here = find-set (is_owner c) owners there.place new (sym (position_or_len-Some (is_owner c) owners there.place there.at)) there.below (eq-eqb new.id c id)
+  written_here = find-set (is_owner c) owners there.place new (sym (position_or_len-Some (is_owner c) owners there.at)) there.below (eq-eqb new.id c id)
 
   pub written_other : (d : ℕ) → c ≢ d → find (is_owner d) (slice_set owners there.place new) ≡ find (is_owner d) owners
   written_other d apart =
-      find_past (is_owner d) owners there.place new new (not_owner c d (get_or owners there.place new) apart (eqb-true (get_or owners there.place new).id c (position-Some (is_owner c) owners there.place new there.at).1))
+      find_past (is_owner d) owners there.place new new (not_owner c d (get_or owners there.place new) apart
+      (eqb-true (get_or owners there.place new).id c (position-Some (is_owner c) owners there.place new there.at).1))
       (not_owner c d new apart id)

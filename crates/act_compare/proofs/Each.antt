@@ -5,12 +5,12 @@ use Rattle.std.proofs.lemmas.List.Elements.{All-more, All-get_or}
 
 module _ {X : Type 0} (P : X → Type 0) (xs : List X) where
   -- it holds of one item more
-  pub each_more : (i : ℕ) (x : X) (r : Bool) → i < length xs → x ≡ get_or xs i x → (IsTrue r ↔ P x) → r ≡ true → All P (take i xs) → All P (take (i + 1) xs)
-  each_more i x r within is tells holds front = All-more P xs i x within front (subst P is (tells.0 holds))
+  pub each_more : {i : ℕ} {x : X} {r : Bool} → i < length xs → x ≡ get_or xs i x → (IsTrue r ↔ P x) → r ≡ true → All P (take i xs) → All P (take (i + 1) xs)
+  each_more {i} {x} within is tells holds front = All-more P xs i x within front (subst P is (tells.0 holds))
 
   -- it doesn't hold of one item
-  pub not_each : (i : ℕ) (x : X) (r : Bool) → i < length xs → x ≡ get_or xs i x → (IsTrue r ↔ P x) → r ≡ false → IsTrue false ↔ All P xs
-  not_each i x r within is tells fails = (
+  pub not_each : {i : ℕ} {x : X} {r : Bool} → i < length xs → x ≡ get_or xs i x → (IsTrue r ↔ P x) → r ≡ false → IsTrue false ↔ All P xs
+  not_each {i} {x} within is tells fails = (
     λ wrong. absurd (true≢false (sym wrong)),
     λ all. absurd (true≢false (sym (tells.1 (subst P (sym is) (All-get_or P xs i x within all))) ∙ fails)),
   )

@@ -7,6 +7,7 @@ use Rattle.act_world.specs.View.{WorldView}
 use Rattle.act_world.specs.IsReachedBy.{IsReachedBy, HasPlayed}
 
 -- what was told of events that were played
-pub told_in : (casts : List ActorSpec) (events : List Event) (old new : WorldView) (empty told : List Outcome) (r : Bool) → empty ≡ [] → HasPlayed events old new empty told → (IsTrue r ↔ All IsOk told) → IsReachedBy casts [] old → IsTrue r ↔ All IsOk (outcomes (opening casts) events)
+pub told_in : (casts : List ActorSpec) (events : List Event) (old new : WorldView) (empty told : List Outcome) (r : Bool) → empty ≡ [] →
+    HasPlayed events old new empty told → (IsTrue r ↔ All IsOk told) → IsReachedBy casts [] old → IsTrue r ↔ All IsOk (outcomes (opening casts) events)
 told_in casts events old new empty told r none played tells opened =
-    subst (λ (told : List Outcome). IsTrue r ↔ All IsOk told) ((played casts [] opened).1 ∙ ap (λ (front : List Outcome). front ++ outcomes (opening casts) events) none) tells
+    subst (λ told. IsTrue r ↔ All IsOk told) ((played casts [] opened).1 ∙ ap (λ front. front ++ outcomes (opening casts) events) none) tells

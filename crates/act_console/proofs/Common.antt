@@ -16,7 +16,7 @@ pub use Rattle.act_console.specs.declared.fault.ConsoleFault.{ConsoleFault}
 pub use Rattle.act_console.specs.declared.streams.Output.{Output}
 pub use Rattle.act_console.specs.declared.streams.Output.TheVariants.{Refusal, Report}
 pub use Rattle.act_console.specs.declared.threads.Sorted.{Sorted}
-pub use Rattle.act_console.specs.declared.threads.StepLine.{StepLine}
+pub use Rattle.act_console.specs.declared.threads.StepAt.{StepAt}
 pub use Rattle.act_executor.proofs.PlaysOfThreads.AsPlay.{casts_stay}
 pub use Rattle.act_executor.specs.Joined.{IsJoined, RanAll, calls_in, calls_of_owner, end_of, kept_in, kept_of_owner, log_in, log_of_end, owner_of}
 pub use Rattle.act_executor.specs.PlanPlays.{IsPlayedAsPlanned}

@@ -8,19 +8,15 @@ use Rattle.act_console.proofs.Common.{bad_step_of, first_bad_plan, steps_of_plan
 
 -- ---- the first refused step stands in its plan
 
-refused_step : (n : ℕ) (actors : List ℕ) (p : Progress) (step : Step) (steps : List Step) (i : ℕ) (b : Bool) → is_refused actors p step ≡ b
-    → (first_bad_from (n + 1) actors (do_step p step) steps ≡ Some i → i < (n + 1) + length steps)
-    → first_bad_from n actors p (step ∷ steps) ≡ Some i → i < n + suc (length steps)
-refused_step n actors p step steps i true here rest is =
-    let same : n ≡ i = cc (rw here at is) in
-    omega (arith, same)
-refused_step n actors p step steps i false here rest is =
-    let below = rest (rw here at is) in
-    omega (arith, below)
+refused_step : (n : ℕ) (actors : List ℕ) (p : Progress) (step : Step) (steps : List Step) (i : ℕ) (b : Bool) → is_refused actors p step ≡ b → (first_bad_from (n
+    + 1) actors (do_step p step) steps ≡ Some i → i < (n + 1) + length steps) → first_bad_from n actors p (step ∷ steps) ≡ Some i → i < n + suc (length steps)
+refused_step n actors p step steps i true here rest is = let same : n ≡ i = cc (rw here at is) in omega (arith, same)
+refused_step n actors p step steps i false here rest is = let below = rest (rw here at is) in omega (arith, below)
 
 first_within : (n : ℕ) (actors : List ℕ) (p : Progress) (steps : List Step) (i : ℕ) → first_bad_from n actors p steps ≡ Some i → i < n + length steps
 first_within n actors p [] i is = absurd (cc is)
-first_within n actors p (step ∷ steps) i is = refused_step n actors p step steps i (is_refused actors p step) refl (first_within (n + 1) actors (do_step p step) steps i) is
+first_within n actors p (step ∷ steps) i is =
+    refused_step n actors p step steps i (is_refused actors p step) refl (first_within (n + 1) actors (do_step p step) steps i) is
 
 bad_within : (actors : List ℕ) (steps : List Step) (i : ℕ) → first_bad actors steps ≡ Some i → i < length steps
 bad_within actors steps i is = let below = first_within 0 actors nothing_done steps i is in omega (arith, below)
@@ -35,23 +31,24 @@ after_none (x ∷ xs) ys none = absurd (cc none)
 all_contained : (P : ℕ → Type 0) (ns : List ℕ) → ((n : ℕ) → contains n ns ≡ true → P n) → AllByRecursion P ns
 all_contained P [] each = tt
 all_contained P (n ∷ ns) each = (
-  each n (ap (λ (b : Bool). b || contains n ns) (eq-eqb n n refl)),
-  all_contained P ns (λ m has. each m (ap (λ (b : Bool). (n == m) || b) has ∙ or-true (n == m))),
+  each n (ap (λ b. b || contains n ns) (eq-eqb n n refl)),
+  all_contained P ns (λ m has. each m (ap (λ b. (n == m) || b) has ∙ or-true (n == m))),
 )
 
 -- ---- the plans of a script, told as those of a run
 
-any_cast : (c : ℕ) (roles : List Role) → list_any (λ (cast : ActorSpec). contains c cast.callers) (map actor_spec_of roles) ≡ list_any (λ (role : Role). contains c role.callers) roles
+any_cast : (c : ℕ) (roles : List Role) →
+    list_any (λ (cast : ActorSpec). contains c cast.callers) (map actor_spec_of roles) ≡ list_any (λ (role : Role). contains c role.callers) roles
 any_cast c [] = refl
-any_cast c (role ∷ roles) = ap (λ (b : Bool). contains c role.callers || b) (any_cast c roles)
+any_cast c (role ∷ roles) = ap (λ b. contains c role.callers || b) (any_cast c roles)
 
 callers_same : (roles : List Role) → callers_cast (map actor_spec_of roles) ≡ callers_of_roles roles
-callers_same roles = filter_agree (λ c. list_any (λ (cast : ActorSpec). contains c cast.callers) (map actor_spec_of roles)) (λ c. list_any (λ (role : Role). contains c role.callers) roles) (λ c. any_cast c roles) (one_to 16)
+callers_same roles = filter_agree (λ c. list_any (λ (cast : ActorSpec). contains c cast.callers) (map actor_spec_of roles))
+    (λ c. list_any (λ (role : Role). contains c role.callers) roles) (λ c. any_cast c roles) (one_to 16)
 
-actors_step : (c : ℕ) (role : Role) (roles : List Role) (b : Bool) → contains c role.callers ≡ b
-    → actors_naming c (map actor_spec_of roles) ≡ actors_of_roles c roles
-    → actors_naming c (map actor_spec_of (role ∷ roles)) ≡ actors_of_roles c (role ∷ roles)
-actors_step c role roles true is same = rw is (ap (λ (rest : List ℕ). role.actor ∷ rest) same)
+actors_step : (c : ℕ) (role : Role) (roles : List Role) (b : Bool) → contains c role.callers ≡ b →
+    actors_naming c (map actor_spec_of roles) ≡ actors_of_roles c roles → actors_naming c (map actor_spec_of (role ∷ roles)) ≡ actors_of_roles c (role ∷ roles)
+actors_step c role roles true is same = rw is (ap (λ rest. role.actor ∷ rest) same)
 actors_step c role roles false is same = rw is same
 
 actors_same : (c : ℕ) (roles : List Role) → actors_naming c (map actor_spec_of roles) ≡ actors_of_roles c roles
@@ -64,20 +61,22 @@ pair_of steps c = (c, steps c)
 
 -- a caller and the place of its first bad step
 abbrev with_caller : ℕ → Option ℕ → Option (ℕ × ℕ)
-with_caller c o = option_map (λ (place : ℕ). (c, place)) o
+with_caller c o = option_map (λ place. (c, place)) o
 
 -- the plan of a caller among those of all callers
-found_own : (steps : ℕ → List Step) (c : ℕ) (ns : List ℕ) → contains c ns ≡ true → plan_among c (map (λ (n : ℕ). pair_of steps n) ns) ≡ steps c
+found_own : (steps : ℕ → List Step) (c : ℕ) (ns : List ℕ) → contains c ns ≡ true → plan_among c (map (λ n. pair_of steps n) ns) ≡ steps c
 found_own steps c [] has = absurd (cc has)
 found_own steps c (n ∷ ns) has = elim (eqb_tells n c) [
-  | inl t ↦ ap (λ (b : Bool). steps_of_plan (if b then Some (pair_of steps n) else find (λ (plan : ℕ × List Step). plan.0 == c) (map (λ (n : ℕ). pair_of steps n) ns))) t.0 ∙ ap steps t.1
+  | inl t ↦ ap (λ b. steps_of_plan (if b then Some (pair_of steps n) else find (λ (plan : ℕ × List Step). plan.0 == c) (map (λ n. pair_of steps n) ns))) t.0 ∙
+      ap steps t.1
   | inr f ↦
-      ap (λ (b : Bool). steps_of_plan (if b then Some (pair_of steps n) else find (λ (plan : ℕ × List Step). plan.0 == c) (map (λ (n : ℕ). pair_of steps n) ns))) f.0
-      ∙ found_own steps c ns (sym (ap (λ (b : Bool). b || contains c ns) f.0) ∙ has)
+      ap (λ b. steps_of_plan (if b then Some (pair_of steps n) else find (λ (plan : ℕ × List Step). plan.0 == c) (map (λ n. pair_of steps n) ns))) f.0
+      ∙ found_own steps c ns (sym (ap (λ b. b || contains c ns) f.0) ∙ has)
 ]
 
-plan_found : (script : Script) (c : ℕ) → contains c (callers_of_roles script.roles) ≡ true → plan_among c (plans_in script) ≡ map (λ (s : ℕ × Step × ℕ). s.1) (plan_in_script c script)
-plan_found script c has = found_own (λ (n : ℕ). map (λ (s : ℕ × Step × ℕ). s.1) (plan_in_script n script)) c (callers_of_roles script.roles) has
+plan_found : (script : Script) (c : ℕ) → contains c (callers_of_roles script.roles) ≡ true →
+    plan_among c (plans_in script) ≡ map (λ (s : ℕ × Step × ℕ). s.1) (plan_in_script c script)
+plan_found script c has = found_own (λ n. map (λ (s : ℕ × Step × ℕ). s.1) (plan_in_script n script)) c (callers_of_roles script.roles) has
 
 -- ---- the first caller with a bad plan
 
@@ -89,18 +88,20 @@ bad_place script c = first_bad (actors_of_roles c script.roles) (map (λ (s : �
 abbrev line_at : Script → ℕ → ℕ → Option ℕ
 line_at script c place = option_map (λ (s : ℕ × Step × ℕ). s.2) (slice_get (plan_in_script c script) place)
 
-bad_same : (script : Script) (c : ℕ) → contains c (callers_of_roles script.roles) ≡ true → bad_step_of (map actor_spec_of script.roles) (plans_in script) c ≡ with_caller c (bad_place script c)
+bad_same : (script : Script) (c : ℕ) → contains c (callers_of_roles script.roles) ≡ true →
+    bad_step_of (map actor_spec_of script.roles) (plans_in script) c ≡ with_caller c (bad_place script c)
 bad_same script c has =
-    ap (λ (actors : List ℕ). with_caller c (first_bad actors (plan_among c (plans_in script)))) (actors_same c script.roles)
-    ∙ ap (λ (steps : List Step). with_caller c (first_bad (actors_of_roles c script.roles) steps)) (plan_found script c has)
+    ap (λ actors. with_caller c (first_bad actors (plan_among c (plans_in script)))) (actors_same c script.roles)
+    ∙ ap (λ steps. with_caller c (first_bad (actors_of_roles c script.roles) steps)) (plan_found script c has)
 
 -- all callers in a row
 rows_same : (script : Script) → filter_map (bad_step_of (map actor_spec_of script.roles) (plans_in script))
-    (callers_cast (map actor_spec_of script.roles)) ≡ filter_map (λ (c : ℕ). with_caller c (bad_place script c)) (callers_of_roles script.roles)
+    (callers_cast (map actor_spec_of script.roles)) ≡ filter_map (λ c. with_caller c (bad_place script c)) (callers_of_roles script.roles)
 rows_same script =
     ap (filter_map (bad_step_of (map actor_spec_of script.roles) (plans_in script))) (callers_same script.roles)
-    ∙ filter_map-same (bad_step_of (map actor_spec_of script.roles) (plans_in script)) (λ (c : ℕ). with_caller c (bad_place script c)) (callers_of_roles script.roles)
-    (all_contained (λ (c : ℕ). bad_step_of (map actor_spec_of script.roles) (plans_in script) c ≡ with_caller c (bad_place script c)) (callers_of_roles script.roles) (bad_same script))
+    ∙ filter_map-same (bad_step_of (map actor_spec_of script.roles) (plans_in script)) (λ c. with_caller c (bad_place script c)) (callers_of_roles script.roles)
+    (all_contained (λ c. bad_step_of (map actor_spec_of script.roles) (plans_in script) c ≡ with_caller c (bad_place script c)) (callers_of_roles script.roles)
+    (bad_same script))
 
 has_line : (script : Script) (c place : ℕ) → bad_place script c ≡ Some place → (line : ℕ) × (line_at script c place ≡ Some line)
 has_line script c place is =
@@ -108,61 +109,58 @@ has_line script c place is =
     omega (
       arith,
       bad_within (actors_of_roles c script.roles) (map (λ (s : ℕ × Step × ℕ). s.1) (plan_in_script c script)) place is,
-      length-map
-          (plan_in_script c script) (λ (s : ℕ × Step × ℕ). s.1),
+      length-map (plan_in_script c script) (λ (s : ℕ × Step × ℕ). s.1),
     ) in
-    let step = element (plan_in_script c script) place below in
-    (step.0.2, ap (option_map (λ (s : ℕ × Step × ℕ). s.2)) step.1)
+    let step = element (plan_in_script c script) place below in (step.0.2, ap (option_map (λ (s : ℕ × Step × ℕ). s.2)) step.1)
 
 module _ (bad : ℕ → Option ℕ) (line : ℕ → ℕ → Option ℕ) (has : (c place : ℕ) → bad c ≡ Some place → (n : ℕ) × (line c place ≡ Some n)) where
   line_of_bad : ℕ → Option ℕ
   line_of_bad c = option_and_then (line c) (bad c)
 
-  head_step : (c d place : ℕ) (cs : List ℕ) (o : Option ℕ) → bad c ≡ o
-      → (slice_get (filter_map (λ (c : ℕ). with_caller c (bad c)) cs) 0 ≡ Some (d, place) → (n : ℕ) × (slice_get (filter_map line_of_bad cs) 0 ≡ Some n) × (line d place ≡ Some n))
-      → slice_get (filter_map (λ (c : ℕ). with_caller c (bad c)) (c ∷ cs)) 0 ≡ Some (d, place) → (n : ℕ) × (slice_get (filter_map line_of_bad (c ∷ cs)) 0 ≡ Some n) × (line d place ≡ Some n)
+  head_step : (c d place : ℕ) (cs : List ℕ) (o : Option ℕ) → bad c ≡ o → (slice_get (filter_map (λ c. with_caller c (bad c)) cs) 0 ≡ Some (d, place) →
+      (n : ℕ) × (slice_get (filter_map line_of_bad cs) 0 ≡ Some n) × (line d place ≡ Some n)) → slice_get (filter_map (λ c. with_caller c (bad c)) (c ∷ cs)) 0 ≡
+      Some (d, place) → (n : ℕ) × (slice_get (filter_map line_of_bad (c ∷ cs)) 0 ≡ Some n) × (line d place ≡ Some n)
   unfolding line_of_bad
   head_step c d place cs None here rest is = rw here (rest (rw here at is))
   head_step c d place cs (Some i) here rest is =
-      let same = rw here at is in
-      let pair : (c, i) ≡ (d, place) = cc same in
-      let own = has c i here in
+      let same = rw here at is in let pair : (c, i) ≡ (d, place) = cc same in let own = has c i here in
       (own.0, rw (here, own.1) refl, ap (λ (p : ℕ × ℕ). line p.0 p.1) (sym pair) ∙ own.1)
 
-  head_found : (d place : ℕ) (cs : List ℕ) → slice_get (filter_map (λ (c : ℕ). with_caller c (bad c)) cs) 0 ≡ Some (d, place) → (n : ℕ) × (slice_get (filter_map line_of_bad cs) 0 ≡ Some n) × (line d place ≡ Some n)
+  head_found : (d place : ℕ) (cs : List ℕ) → slice_get (filter_map (λ c. with_caller c (bad c)) cs) 0 ≡ Some (d, place) →
+      (n : ℕ) × (slice_get (filter_map line_of_bad cs) 0 ≡ Some n) × (line d place ≡ Some n)
   head_found d place [] is = absurd (cc is)
   head_found d place (c ∷ cs) is = head_step c d place cs (bad c) refl (head_found d place cs) is
 
-  none_step : (c : ℕ) (cs : List ℕ) (o : Option ℕ) → bad c ≡ o
-      → (slice_get (filter_map (λ (c : ℕ). with_caller c (bad c)) cs) 0 ≡ None → slice_get (filter_map line_of_bad cs) 0 ≡ None)
-      → slice_get (filter_map (λ (c : ℕ). with_caller c (bad c)) (c ∷ cs)) 0 ≡ None → slice_get (filter_map line_of_bad (c ∷ cs)) 0 ≡ None
+  none_step : (c : ℕ) (cs : List ℕ) (o : Option ℕ) → bad c ≡ o → (slice_get (filter_map (λ c. with_caller c (bad c)) cs) 0 ≡ None → slice_get (filter_map
+      line_of_bad cs) 0 ≡ None) → slice_get (filter_map (λ c. with_caller c (bad c)) (c ∷ cs)) 0 ≡ None → slice_get (filter_map line_of_bad (c ∷ cs)) 0 ≡ None
   unfolding line_of_bad
   none_step c cs None here rest is = rw here (rest (rw here at is))
   none_step c cs (Some i) here rest is = absurd (cc (rw here at is))
 
-  none_found : (cs : List ℕ) → slice_get (filter_map (λ (c : ℕ). with_caller c (bad c)) cs) 0 ≡ None → slice_get (filter_map line_of_bad cs) 0 ≡ None
+  none_found : (cs : List ℕ) → slice_get (filter_map (λ c. with_caller c (bad c)) cs) 0 ≡ None → slice_get (filter_map line_of_bad cs) 0 ≡ None
   none_found [] is = refl
   none_found (c ∷ cs) is = none_step c cs (bad c) refl (none_found cs) is
 
 -- ---- the line of the first bad plan
 
-pub bad_plan_line : (script : Script) (c place : ℕ) → first_bad_plan (map actor_spec_of script.roles) (plans_in script) ≡ Some (c, place)
-    → slice_get (map (λ (s : ℕ × Step × ℕ). s.2) (filter (λ (s : ℕ × Step × ℕ). not (contains s.0 (callers_of_roles script.roles))) script.steps)) 0 ≡ None
-    → (line : ℕ) × (slice_get (bad_lines script) 0 ≡ Some line) × (option_map (λ (s : ℕ × Step × ℕ). s.2) (slice_get (plan_in_script c script) place) ≡ Some line)
+pub bad_plan_line : (script : Script) (c place : ℕ) → first_bad_plan (map actor_spec_of script.roles) (plans_in script) ≡ Some (c, place) →
+    slice_get (map (λ (s : ℕ × Step × ℕ). s.2) (filter (λ (s : ℕ × Step × ℕ). not (contains s.0 (callers_of_roles script.roles))) script.steps)) 0 ≡ None →
+    (line : ℕ) × (slice_get (bad_lines script) 0 ≡ Some line) × (option_map (λ (s : ℕ × Step × ℕ). s.2) (slice_get (plan_in_script c script) place) ≡ Some line)
 unfolding line_of_bad
 bad_plan_line script c place is known =
-    let found = head_found (bad_place script) (line_at script) (has_line script) c place (callers_of_roles script.roles) (ap (λ (l : List (ℕ × ℕ)). slice_get l 0) (sym (rows_same script)) ∙ is) in (
+    let found = head_found (bad_place script) (line_at script) (has_line script) c place (callers_of_roles script.roles)
+    (ap (λ l. slice_get l 0) (sym (rows_same script)) ∙ is) in (
       found.0,
       after_none (map (λ (s : ℕ × Step × ℕ). s.2) (filter (λ (s : ℕ × Step × ℕ). not (contains s.0 (callers_of_roles script.roles))) script.steps))
-          (filter_map (λ (c : ℕ). bad_line c script) (callers_of_roles script.roles)) known ∙ found.1,
+          (filter_map (λ c. bad_line c script) (callers_of_roles script.roles)) known ∙ found.1,
       found.2,
     )
 
 -- a script has no bad line where each step is of a caller that a role names, and no plan has a step that is refused
-pub no_bad_line : (script : Script) → first_bad_plan (map actor_spec_of script.roles) (plans_in script) ≡ None
-    → slice_get (map (λ (s : ℕ × Step × ℕ). s.2) (filter (λ (s : ℕ × Step × ℕ). not (contains s.0 (callers_of_roles script.roles))) script.steps)) 0 ≡ None
-    → slice_get (bad_lines script) 0 ≡ None
+pub no_bad_line : (script : Script) → first_bad_plan (map actor_spec_of script.roles) (plans_in script) ≡ None → slice_get (map (λ (s : ℕ × Step × ℕ). s.2)
+    (filter (λ (s : ℕ × Step × ℕ). not (contains s.0 (callers_of_roles script.roles))) script.steps)) 0 ≡ None → slice_get (bad_lines script) 0 ≡ None
 unfolding line_of_bad
 no_bad_line script is known =
-    after_none (map (λ (s : ℕ × Step × ℕ). s.2) (filter (λ (s : ℕ × Step × ℕ). not (contains s.0 (callers_of_roles script.roles))) script.steps)) (filter_map (λ (c : ℕ). bad_line c script) (callers_of_roles script.roles)) known
-    ∙ none_found (bad_place script) (line_at script) (has_line script) (callers_of_roles script.roles) (ap (λ (l : List (ℕ × ℕ)). slice_get l 0) (sym (rows_same script)) ∙ is)
+    after_none (map (λ (s : ℕ × Step × ℕ). s.2) (filter (λ (s : ℕ × Step × ℕ). not (contains s.0 (callers_of_roles script.roles))) script.steps))
+    (filter_map (λ c. bad_line c script) (callers_of_roles script.roles)) known
+    ∙ none_found (bad_place script) (line_at script) (has_line script) (callers_of_roles script.roles) (ap (λ l. slice_get l 0) (sym (rows_same script)) ∙ is)

@@ -17,4 +17,4 @@ pub use fault::ConsoleFault;
 pub use report::play_report;
 pub use streams::{read_whole, refusal_of, write_whole};
 pub use summary::joined_report;
-pub use threads::{Sorted, StepLine, first_stranger, line_of, sort, threads_script};
+pub use threads::{Sorted, StepAt, first_stranger, line_of, sort, threads_script};

@@ -33,12 +33,12 @@ chosen_length h (call ∷ calls) [] = refl
 chosen_length h (call ∷ calls) (answer ∷ answers) = ap suc (chosen_length h calls answers)
 
 -- at a call's place, the answer that is taken is the one chosen by the call and what is kept there
-pub chosen_at : (h : History) (calls : List ToldCall) (answers : List (Option Answer)) (k : ℕ) (call : ToldCall) → slice_get calls k ≡ Some call
+pub chosen_at : (h : History) (calls : List ToldCall) (answers : List (Option Answer)) (k : ℕ) {call : ToldCall} → slice_get calls k ≡ Some call
     → kept_at (chosen_all h calls answers) k ≡ chosen h call (kept_at answers k)
-chosen_at h [] answers k call e = cc
-chosen_at h (one ∷ calls) [] k call e = refl
-chosen_at h (one ∷ calls) (answer ∷ answers) zero call e = let same : one ≡ call = cc in ap (λ (c : ToldCall). chosen h c answer) same
-chosen_at h (one ∷ calls) (answer ∷ answers) (suc k) call e = chosen_at h calls answers k call e
+chosen_at h [] answers k e = cc
+chosen_at h (one ∷ calls) [] k e = refl
+chosen_at h (one ∷ calls) (answer ∷ answers) zero {call} e = let same : one ≡ call = cc in ap (λ c. chosen h c answer) same
+chosen_at h (one ∷ calls) (answer ∷ answers) (suc k) {call} e = chosen_at h calls answers k e
 
 -- where no call is told, the answer that is taken is the kept one
 pub chosen_past : (h : History) (calls : List ToldCall) (answers : List (Option Answer)) (k : ℕ) → slice_get calls k ≡ None

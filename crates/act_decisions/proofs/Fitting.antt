@@ -10,7 +10,7 @@ use Rattle.std.proofs.lemmas.List.Kept.{AllPairs-filter}
 
 -- the item at a place
 pub item_at : {X : Type 0} (xs : List X) (n : ℕ) (x : X) → n < length xs → x ≡ get_or xs n x → slice_get xs n ≡ Some x
-item_at {X = X} xs n x within is = slice_get-get_or xs n x within ∙ ap (λ (y : X). Some y) (sym is)
+item_at {X = X} xs n x within is = slice_get-get_or xs n x within ∙ ap (λ y. Some y) (sym is)
 
 -- what holds below a place, and there
 pub below_more : (P : ℕ → Type 0) (n : ℕ) → ((i : ℕ) → i < n → P i) → P n → (i : ℕ) → i < n + 1 → P i
@@ -22,16 +22,16 @@ below_more P n front here i below = go (cases_lt i n)
 
 module _ {X : Type 0} (P : ℕ → X → Type 0) (xs : List X) where
   -- what holds of the items so far, and of the next
-  pub item_more : (n : ℕ) (x : X) → n < length xs → x ≡ get_or xs n x → P n x → ((i : ℕ) → i < n → (y : X) → slice_get xs i ≡ Some y → P i y)
+  pub item_more : {n : ℕ} {x : X} → n < length xs → x ≡ get_or xs n x → P n x → ((i : ℕ) → i < n → (y : X) → slice_get xs i ≡ Some y → P i y)
       → (i : ℕ) → i < n + 1 → (y : X) → slice_get xs i ≡ Some y → P i y
-  item_more n x within is here front = below_more (λ j. (y : X) → slice_get xs j ≡ Some y → P j y) n front there
+  item_more {n} {x} within is here front = below_more (λ j. (y : X) → slice_get xs j ≡ Some y → P j y) n front there
     where
       there : (y : X) → slice_get xs n ≡ Some y → P n y
       there y at = subst (P n) (same_Some x y (sym (item_at xs n x within is) ∙ at)) here
 
   -- of all of them
-  pub all_items : (n : ℕ) → length xs ≤ n → ((i : ℕ) → i < n → (y : X) → slice_get xs i ≡ Some y → P i y) → (i : ℕ) (y : X) → slice_get xs i ≡ Some y → P i y
-  all_items n whole front i y at = front i (let within = slice_get_within xs i y at in omega (arith, within, whole)) y at
+  pub all_items : (n : ℕ) → length xs ≤ n → ((i : ℕ) → i < n → (y : X) → slice_get xs i ≡ Some y → P i y) → (i : ℕ) {y : X} → slice_get xs i ≡ Some y → P i y
+  all_items n whole front i {y} at = front i (let within = slice_get_within xs i y at in omega (arith, within, whole)) y at
 
 -- ---- the callers, one after the other
 
@@ -46,41 +46,39 @@ one_further P n all last c from upto = go (leb c n) refl
 
 -- nothing is said of one past the end
 pub unsaid : (end : ToldEnd) (a : ℕ) → length end.actors.items ≤ a → callers_of end a ≡ []
-unsaid end a past = ap (λ (o : Option ToldActor). option_map_or (λ actor. actor.callers.items) o []) (slice_get_past end.actors.items a past)
+unsaid end a past = ap (λ o. option_map_or (λ actor. actor.callers.items) o []) (slice_get_past end.actors.items a past)
 
 -- what is said of one
-pub callers_said : (end : ToldEnd) (a : ℕ) (actor : ToldActor) → slice_get end.actors.items a ≡ Some actor → callers_of end a ≡ actor.callers.items
-callers_said end a actor at = ap (λ (o : Option ToldActor). option_map_or (λ actor. actor.callers.items) o []) at
+pub callers_said : (end : ToldEnd) (a : ℕ) {actor : ToldActor} → slice_get end.actors.items a ≡ Some actor → callers_of end a ≡ actor.callers.items
+callers_said end a {actor} at = ap (λ o. option_map_or (λ actor. actor.callers.items) o []) at
 
 -- the runs that are told at an actor's number are those of the actor that the data has there
-pub runs_said : (end : ToldEnd) (a : ℕ) (actor : ToldActor) → slice_get end.actors.items a ≡ Some actor → rans_in end a ≡ actor.runs.items
-runs_said end a actor at = ap (λ (o : Option ToldActor). option_map_or (λ actor. actor.runs.items) o []) at
+pub runs_said : (end : ToldEnd) (a : ℕ) {actor : ToldActor} → slice_get end.actors.items a ≡ Some actor → rans_in end a ≡ actor.runs.items
+runs_said end a {actor} at = ap (λ o. option_map_or (λ actor. actor.runs.items) o []) at
 
 -- where it holds of the runs of each actor, it holds of each run
-pub all_runs : (end : ToldEnd) (P : ℕ → ℕ → ToldRun → Type 0) (n : ℕ) → length end.actors.items ≤ n
-    → ((a : ℕ) → a < n → (p : ℕ) (run : ToldRun) → slice_get (rans_in end a) p ≡ Some run → P a p run)
-    → (a p : ℕ) (run : ToldRun) → slice_get (rans_in end a) p ≡ Some run → P a p run
+pub all_runs : (end : ToldEnd) (P : ℕ → ℕ → ToldRun → Type 0) (n : ℕ) → length end.actors.items ≤ n → ((a : ℕ) → a < n → (p : ℕ) (run : ToldRun) →
+    slice_get (rans_in end a) p ≡ Some run → P a p run) → (a p : ℕ) (run : ToldRun) → slice_get (rans_in end a) p ≡ Some run → P a p run
 all_runs end P n whole front a p run at = go (cases_lt a n)
   where
     go : (a < n) ⊎ (n ≤ a) → P a p run
     go (inl below) = front a below p run at
     go (inr past) =
         let far : length end.actors.items ≤ a = omega (arith, whole, past) in
-        let none : rans_in end a ≡ [] = ap (λ (o : Option ToldActor). option_map_or (λ actor. actor.runs.items) o []) (slice_get_past end.actors.items a far) in
-        let bad : ◌≡◌ {A = Option ToldRun} None (Some run) = sym (ap (λ (l : List ToldRun). slice_get l p) none) ∙ at in
-        absurd (cc)
+        let none : rans_in end a ≡ [] = ap (λ o. option_map_or (λ actor. actor.runs.items) o []) (slice_get_past end.actors.items a far) in
+        let bad : ◌≡◌ {A = Option ToldRun} None (Some run) = sym (ap (λ l. slice_get l p) none) ∙ at in absurd (cc)
 
 -- ---- roles
 
 -- the callers that the role of an actor names are those of its cast
-pub role_found : (roles : List Role) (a : ℕ) (found : Option Role) → found ≡ find (λ role. role.actor == a) roles
+pub role_found : (roles : List Role) (a : ℕ) {found : Option Role} → found ≡ find (λ role. role.actor == a) roles
     → callers_in (option_map actor_spec_of found) ≡ callers_in (find (λ cast. cast.actor == a) (map actor_spec_of roles))
-role_found roles a found is =
-    ap (λ (o : Option Role). callers_in (option_map actor_spec_of o)) is
+role_found roles a is =
+    ap (λ o. callers_in (option_map actor_spec_of o)) is
     ∙ ap callers_in (sym (find-map (λ (cast : ActorSpec). cast.actor == a) actor_spec_of roles))
 
 -- the actors whose casts name a caller differ
-pub naming_differ : (c : ℕ) (casts : List ActorSpec) → AreFitting casts → AllPairs (λ (one other : ℕ). one ≢ other) (actors_naming c casts)
-naming_differ c casts fitting =
-    AllPairs-map (λ (one other : ℕ). one ≢ other) (λ (cast : ActorSpec). cast.actor) (filter (λ (cast : ActorSpec). contains c cast.callers) casts)
+pub naming_differ : (c : ℕ) {casts : List ActorSpec} → AreFitting casts → AllPairs (λ one other. one ≢ other) (actors_naming c casts)
+naming_differ c {casts} fitting =
+    AllPairs-map (λ one other. one ≢ other) (λ (cast : ActorSpec). cast.actor) (filter (λ (cast : ActorSpec). contains c cast.callers) casts)
     (AllPairs-filter (λ (one other : ActorSpec). one.actor ≢ other.actor) (λ (cast : ActorSpec). contains c cast.callers) casts fitting.actors)

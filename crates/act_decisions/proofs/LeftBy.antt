@@ -22,13 +22,13 @@ abbrev Uncast : History → Type 0
 Uncast h = (a : ℕ) → cast_of a h ≡ None → NoActor a h
 
 named_some : (c : ℕ) (o : Option ActorSpec) → names c o ≡ true → o ≢ None
-named_some c o e none = let bad : false ≡ true = ap (λ (o : Option ActorSpec). names c o) (sym none) ∙ e in cc
+named_some c o e none = let bad : false ≡ true = ap (λ o. names c o) (sym none) ∙ e in cc
 
 some_not : (o : Option ActorSpec) → is_some o ≡ true → o ≢ None
-some_not o e none = let bad : false ≡ true = ap (λ (o : Option ActorSpec). is_some o) (sym none) ∙ e in cc
+some_not o e none = let bad : false ≡ true = ap (λ o. is_some o) (sym none) ∙ e in cc
 
 not_pushed : (a b : ℕ) (xs : List ℕ) → contains a xs ≡ false → b ≢ a → contains a (xs ++ b ∷ []) ≡ false
-not_pushed a b xs none other = contains_push a b xs ∙ ap (λ (x : Bool). x || (b == a)) none ∙ differs (b == a) refl
+not_pushed a b xs none other = contains_push a b xs ∙ ap (λ x. x || (b == a)) none ∙ differs (b == a) refl
   where
     differs : (x : Bool) → (b == a) ≡ x → (b == a) ≡ false
     differs false e = e
@@ -42,7 +42,7 @@ uncast_step h (event.Run b c) u accepted a none = go (next_item b c h)
       where
         differs : (x : Bool) → (b == a) ≡ x → (b == a) ≡ false
         differs false e = e
-        differs true e = absurd (named_some c (cast_of b h) (run_needs h b c accepted).1 (ap (λ (n : ℕ). cast_of n h) (eqb-true b a e)
+        differs true e = absurd (named_some c (cast_of b h) (run_needs h b c accepted).1 (ap (λ n. cast_of n h) (eqb-true b a e)
             ∙ before (next_item b c h) none))
           where
             before : (o : Option RunItem) → cast_of a (after_run b c h o) ≡ None → cast_of a h ≡ None
@@ -58,7 +58,7 @@ uncast_step h (event.Run b c) u accepted a none = go (next_item b c h)
     go (Some item) =
         let is = u a (was (next_item b c h) none) in
         record {
-          runs = under-push a b h.ran item ∙ ap (λ (x : Bool). runs_of a h ++ cond x (item ∷ []) []) other ∙ ap (λ (l : List RunItem). l ++ []) is.runs;
+          runs = under-push a b h.ran item ∙ ap (λ x. runs_of a h ++ cond x (item ∷ []) []) other ∙ ap (λ l. l ++ []) is.runs;
           killed = is.killed;
           retired = is.retired;
         }
@@ -68,14 +68,13 @@ uncast_step h (event.Run b c) u accepted a none = go (next_item b c h)
         was (Some item) e = e
 uncast_step h (event.TakeKill b) u accepted a none = record {
   runs = (u a none).runs;
-  killed = not_pushed a b h.killed (u a none).killed (λ same. some_not (cast_of b h) (take_needs h b accepted).0 (ap (λ (n : ℕ). cast_of n h) same ∙ none));
+  killed = not_pushed a b h.killed (u a none).killed (λ same. some_not (cast_of b h) (take_needs h b accepted).0 (ap (λ n. cast_of n h) same ∙ none));
   retired = (u a none).retired;
 }
 uncast_step h (event.Retire b) u accepted a none = record {
   runs = (u a none).runs;
   killed = (u a none).killed;
-  retired = not_pushed a b h.retired (u a none).retired (λ same. some_not (cast_of b h) (retire_needs h b accepted).0 (ap (λ (n : ℕ). cast_of n h) same
-      ∙ none));
+  retired = not_pushed a b h.retired (u a none).retired (λ same. some_not (cast_of b h) (retire_needs h b accepted).0 (ap (λ n. cast_of n h) same ∙ none));
 }
 uncast_step h other u accepted a none = record { runs = (u a none).runs; killed = (u a none).killed; retired = (u a none).retired }
 
@@ -93,13 +92,13 @@ reply_is (Some answer) some alive = go (is_reply (Some answer)) refl
   where
     go : (b : Bool) → is_reply (Some answer) ≡ b → is_reply (Some answer) ≡ true
     go true e = e
-    go false e = absurd (alive (ap (λ (a : Answer). Some a) (reply_died answer e)))
+    go false e = absurd (alive (ap (λ a. Some a) (reply_died answer e)))
 
 -- so much is kept
 left_is : (l : Left) (o : Option Answer) → IsKeptSo (kept_told l false) o → FitsLeft l o
 left_is left.Open o kept = kept
 left_is left.Reply o kept = reply_is o kept.0 kept.1
-left_is left.Death o kept = (ap (λ (o : Option Answer). is_some o) kept, ap is_reply kept)
+left_is left.Death o kept = (ap (λ o. is_some o) kept, ap is_reply kept)
 
 some_left : (l : Left) (o : Option Answer) → l ≢ left.Open → IsKeptSo (kept_told l true) o → is_some o ≡ true
 some_left left.Open o closed kept = absurd (closed refl)
@@ -108,8 +107,8 @@ some_left l o closed kept = kept
 tells_left : (call : ToldCall) (o : Option Answer) → (call.is_open ≡ true → call.left ≢ left.Open) → IsKeptSo (kept_told call.left call.is_open) o
     → TellsLeft call o
 tells_left call o closed kept = (
-  λ e. left_is call.left o (subst (λ (b : Bool). IsKeptSo (kept_told call.left b) o) e kept),
-  λ e. some_left call.left o (closed e) (subst (λ (b : Bool). IsKeptSo (kept_told call.left b) o) e kept),
+  λ e. left_is call.left o (subst (λ b. IsKeptSo (kept_told call.left b) o) e kept),
+  λ e. some_left call.left o (closed e) (subst (λ b. IsKeptSo (kept_told call.left b) o) e kept),
 )
 
 -- the items are the calls that are told
@@ -126,7 +125,7 @@ same_runs (run ∷ runs) (item ∷ items) all = (
 
 map_calls : (xs : List ToldCall) → map (λ (call : ToldCall). call.actor) xs ≡ map (λ (call : Call). call.actor) (map call_told xs)
 map_calls [] = refl
-map_calls (x ∷ xs) = ap (λ (l : List ℕ). x.actor ∷ l) (map_calls xs)
+map_calls (x ∷ xs) = ap (λ l. x.actor ∷ l) (map_calls xs)
 
 -- an actor as the data tells of it: nothing, or how it ended and what it ran
 pub record ActorTold (end : ToldEnd) (a : ℕ) (h : History) : Type 0 where
@@ -144,10 +143,10 @@ module _ (end : ToldEnd) (casts : List ActorSpec) (events : List Event) (within 
   nothing_told a none uncasted =
       let is = uncast casts events a uncasted in
       record {
-        runs = subst (λ (l : List ToldRun). AllZip IsSameRun l (runs_of a here)) (sym (within.runs a none)) (subst (AllZip IsSameRun []) (sym is.0) tt);
+        runs = subst (λ l. AllZip IsSameRun l (runs_of a here)) (sym (within.runs a none)) (subst (AllZip IsSameRun []) (sym is.0) tt);
         dead = within.dead a none ∙ sym is.1;
         retired = within.retired a none ∙ sym is.2;
-        cast = λ p run at. let empty : slice_get (rans_in end a) p ≡ None = ap (λ (l : List ToldRun). slice_get l p) (within.runs a none) in
+        cast = λ p run at. let empty : slice_get (rans_in end a) p ≡ None = ap (λ l. slice_get l p) (within.runs a none) in
             let bad : None ≡ Some run = sym empty ∙ at in cc;
       }
 
@@ -155,18 +154,17 @@ module _ (end : ToldEnd) (casts : List ActorSpec) (events : List Event) (within 
   told_of_actor a actor there so = go actor.callers.items refl so
     where
       none_here : actor.callers.items ≡ [] → callers_of end a ≡ []
-      none_here e = ap (λ (o : Option ToldActor). option_map_or (λ (x : ToldActor). x.callers.items) o []) there ∙ e
+      none_here e = ap (λ o. option_map_or (λ (x : ToldActor). x.callers.items) o []) there ∙ e
 
-      go : (callers : List ℕ) → actor.callers.items ≡ callers
-          → IsActorSo a here (of_role callers (record { dead = actor.is_dead; retired = actor.is_retired; runs = map ran_told actor.runs.items }))
-          → ActorTold end a here
+      go : (callers : List ℕ) → actor.callers.items ≡ callers → IsActorSo a here
+          (of_role callers (record { dead = actor.is_dead; retired = actor.is_retired; runs = map ran_told actor.runs.items })) → ActorTold end a here
       go [] none is = nothing_told a (none_here none) is
       go (c ∷ callers) some is =
-          let own : rans_in end a ≡ actor.runs.items = ap (λ (o : Option ToldActor). option_map_or (λ (x : ToldActor). x.runs.items) o []) there in
+          let own : rans_in end a ≡ actor.runs.items = ap (λ o. option_map_or (λ (x : ToldActor). x.runs.items) o []) there in
           record {
-            runs = subst (λ (l : List ToldRun). AllZip IsSameRun l (runs_of a here)) (sym own) (same_runs actor.runs.items (runs_of a here) is.runs);
-            dead = ap (λ (o : Option ToldActor). option_map_or (λ (x : ToldActor). x.is_dead) o false) there ∙ sym is.dead;
-            retired = ap (λ (o : Option ToldActor). option_map_or (λ (x : ToldActor). x.is_retired) o false) there ∙ sym is.retired;
+            runs = subst (λ l. AllZip IsSameRun l (runs_of a here)) (sym own) (same_runs actor.runs.items (runs_of a here) is.runs);
+            dead = ap (λ o. option_map_or (λ (x : ToldActor). x.is_dead) o false) there ∙ sym is.dead;
+            retired = ap (λ o. option_map_or (λ (x : ToldActor). x.is_retired) o false) there ∙ sym is.retired;
             cast = λ p run at. is.cast;
           }
 
@@ -178,9 +176,9 @@ module _ (end : ToldEnd) (casts : List ActorSpec) (events : List Event) (within 
       go (inl (some, few)) = by (actor_in end a) refl
         where
           by : (o : Option ToldActor) → actor_in end a ≡ o → ActorTold end a here
-          by None e = let empty : callers_of end a ≡ [] = ap (λ (o : Option ToldActor). option_map_or (λ (x : ToldActor). x.callers.items) o []) e in
+          by None e = let empty : callers_of end a ≡ [] = ap (λ o. option_map_or (λ (x : ToldActor). x.callers.items) o []) e in
               nothing_told a empty (none empty)
-          by (Some actor) e = told_of_actor a actor e (subst (λ (o : Option ToldActor). IsActorSo a here (option_and_then end_told o)) e (so some few))
+          by (Some actor) e = told_of_actor a actor e (subst (λ o. IsActorSo a here (option_and_then end_told o)) e (so some few))
 
   pub calls_left : ((c : ℕ) → (1 ≤ c) × (c ≤ 16) ⊎ (calls_of c here ≡ [])) → FitHistory (calls_told end) (ends_told end) here
       → (c : ℕ) → map (λ (call : ToldCall). call.actor) (calls_in end c) ≡ map (λ (call : Submission). call.actor) (calls_of c here)
@@ -217,7 +215,7 @@ module _ (end : ToldEnd) (casts : List ActorSpec) (events : List Event) (within 
           go : (o : Option ToldCaller) → caller_in end c ≡ o → (caller : ToldCaller) × (caller_in end c ≡ Some caller)
               × (slice_get caller.calls.items k ≡ Some call)
           go None empty = let past : slice_get (calls_in end c) k ≡ None = rw empty refl in let bad : None ≡ Some call = sym past ∙ at in cc
-          go (Some caller) there = (caller, there, ap (λ (l : List ToldCall). slice_get l k) (sym (rw there refl)) ∙ at)
+          go (Some caller) there = (caller, there, ap (λ l. slice_get l k) (sym (rw there refl)) ∙ at)
 
       left : (c k : ℕ) (call : ToldCall) → IsCallIn end c k call → TellsLeft call (kept_at (kept_of c here) k)
       left c k call at = go (within.callers c)
@@ -226,7 +224,7 @@ module _ (end : ToldEnd) (casts : List ActorSpec) (events : List Event) (within 
           own = own_caller c k call at
 
           go : (1 ≤ c) × (c ≤ 16) ⊎ (calls_in end c ≡ []) × (bound_of end c ≡ None) → TellsLeft call (kept_at (kept_of c here) k)
-          go (inr (empty, free)) = let past : slice_get (calls_in end c) k ≡ None = ap (λ (l : List ToldCall). slice_get l k) empty in
+          go (inr (empty, free)) = let past : slice_get (calls_in end c) k ≡ None = ap (λ l. slice_get l k) empty in
               let bad : None ≡ Some call = sym past ∙ at in cc
           go (inl (some, few)) = tells_left call (kept_at (kept_of c here) k) (decided c k own.0 call own.1 own.2).1.left
               (so.kept c k (call_told call) some few (slice_get-map call_told (calls_in end c) k ∙ ap (option_map call_told) at))

@@ -1,7 +1,7 @@
 -- No events leave a run of a call that wasn't made, that went to another actor, or that ran elsewhere, too.
-use Rattle.act_decisions.proofs.Common.{◌≡◌, ℕ, List, map, Some, None, refl, ap, sym, ◌∙◌, slice_get, RunItem, Submission, History, calls_of, runs_of}
-use Rattle.act_decisions.proofs.Common.{option_map, IsSound, held_submission, one_place, slice_get-map, ToldCall, ToldEnd, ToldRun, calls_in, rans_in}
-use Rattle.act_decisions.proofs.Common.{call_of_run, call_of_item, IsSameRun, IsRunIn, AllZip, IsMisplaced, WhyMisplaced, NoCall, OtherActor, Twice}
+use Rattle.act_decisions.proofs.Common.{◌≡◌, ℕ, map, Some, None, refl, ap, sym, ◌∙◌, slice_get, RunItem, Submission, History, calls_of, runs_of, option_map}
+use Rattle.act_decisions.proofs.Common.{IsSound, held_submission, one_place, slice_get-map, ToldCall, ToldEnd, ToldRun, calls_in, rans_in, call_of_run}
+use Rattle.act_decisions.proofs.Common.{call_of_item, IsSameRun, IsRunIn, AllZip, IsMisplaced, WhyMisplaced, NoCall, OtherActor, Twice}
 use Rattle.act_decisions.proofs.SaidRuns.{item_at, same_call}
 
 module _ (end : ToldEnd) (h : History) (sound : IsSound h) (runs : (a : ℕ) → AllZip IsSameRun (rans_in end a) (runs_of a h))
@@ -14,9 +14,9 @@ module _ (end : ToldEnd) (h : History) (sound : IsSound h) (runs : (a : ℕ) →
       → slice_get (map (λ (call : ToldCall). call.actor) (calls_in end c)) k ≡ Some a
   made a p c k run at is =
       let item = ran a p c k run at is in
-      let sub = held_submission h a c k p item.0 sound.order item.1 (ap (λ (r : ℕ × ℕ). r.0) item.2) (ap (λ (r : ℕ × ℕ). r.1) item.2) in
-      ap (λ (l : List ℕ). slice_get l k) (calls c) ∙ slice_get-map (λ (call : Submission). call.actor) (calls_of c h) k
-      ∙ ap (option_map (λ (call : Submission). call.actor)) sub.1 ∙ ap (λ (a : ℕ). Some a) sub.2
+      let sub = held_submission h a k p sound.order item.1 (ap (λ (r : ℕ × ℕ). r.0) item.2) (ap (λ (r : ℕ × ℕ). r.1) item.2) in
+      ap (λ l. slice_get l k) (calls c) ∙ slice_get-map (λ (call : Submission). call.actor) (calls_of c h) k
+      ∙ ap (option_map (λ (call : Submission). call.actor)) sub.1 ∙ ap (λ a. Some a) sub.2
 
   pub not_misplaced : IsMisplaced end → ⊥
   not_misplaced m = go m.why
@@ -28,16 +28,13 @@ module _ (end : ToldEnd) (h : History) (sound : IsSound h) (runs : (a : ℕ) →
       go (NoCall none) =
           let empty : slice_get (map (λ (call : ToldCall). call.actor) (calls_in end m.run.caller)) m.run.future ≡ None =
           slice_get-map (λ (call : ToldCall). call.actor) (calls_in end m.run.caller) m.run.future ∙ ap (option_map (λ (call : ToldCall). call.actor)) none in
-          let bad : None ≡ Some m.actor = sym empty ∙ there in
-          cc
+          let bad : None ≡ Some m.actor = sym empty ∙ there in cc
       go (OtherActor call at other) =
           let own : slice_get (map (λ (call : ToldCall). call.actor) (calls_in end m.run.caller)) m.run.future ≡ Some call.actor =
           slice_get-map (λ (call : ToldCall). call.actor) (calls_in end m.run.caller) m.run.future ∙ ap (option_map (λ (call : ToldCall). call.actor)) at in
-          let both : Some call.actor ≡ Some m.actor = sym own ∙ there in
-          other (cc)
+          let both : Some call.actor ≡ Some m.actor = sym own ∙ there in other (cc)
       go (Twice b q run at is twice) =
           let one = ran m.actor m.place m.run.caller m.run.future m.run m.at refl in
           let two = ran b q m.run.caller m.run.future run at is in
-          twice (one_place h m.run.caller m.run.future m.actor m.place b q one.0 two.0 sound.order one.1 (ap (λ (r : ℕ × ℕ). r.0) one.2)
-          (ap (λ (r : ℕ × ℕ). r.1) one.2)
-          two.1 (ap (λ (r : ℕ × ℕ). r.0) two.2) (ap (λ (r : ℕ × ℕ). r.1) two.2))
+          twice (one_place h m.actor m.place b q sound.order one.1 (ap (λ (r : ℕ × ℕ). r.0) one.2) (ap (λ (r : ℕ × ℕ). r.1) one.2) two.1
+          (ap (λ (r : ℕ × ℕ). r.0) two.2) (ap (λ (r : ℕ × ℕ). r.1) two.2))

@@ -1,12 +1,12 @@
 -- Where some events end as steps and lines tell, a walk after what was read ends so, too.
 use Rattle.act_decisions.proofs.Common.{◌≡◌, ℕ, ◌≤◌, ◌&&◌, cond, Bool, true, false, List, [], ◌∷◌, map, Option, Some, None, inl, inr, ◌⊎◌, refl, ap, sym, ◌∙◌}
-use Rattle.act_decisions.proofs.Common.{subst, slice_get, is_some, Event, Step, Submission, Answer, kept_at, ActorSpec, History, history, calls_of, kept_of}
-use Rattle.act_decisions.proofs.Common.{cast_of, option_map, option_and_then, Role, actor_spec_of, list_all, option_map_or, IsTrue, slice_get-map, Told, Leaves}
-use Rattle.act_decisions.proofs.Common.{told_of, IsReplyForDeath, with_calls, End, Any, FitHistory, IsActorSo, EndAlike, IsLeftOpen, KeepsDeath}
-use Rattle.act_decisions.proofs.Common.{is_sayable_role, kept_for, valid_or_none, ToldActor, ToldCall, ToldCaller, ToldEnd, caller_in, calls_in, bound_of}
-use Rattle.act_decisions.proofs.Common.{actor_in, callers_of, submission_of_call, Fits, of_caller, ran_told, kept_told, call_told, calls_told, of_role}
-use Rattle.act_decisions.proofs.Common.{ends_told, end_told, FitsSteps, IsLeftBy, EndsSo, HasCalls, calls_of_steps, IsLined, IsRead, Matches, AreSayable}
-use Rattle.act_decisions.proofs.Common.{FollowsTold, WalksDecide, NoRunIsMisplaced, IsMisplaced}
+use Rattle.act_decisions.proofs.Common.{subst, slice_get, is_some, Event, Step, Submission, kept_at, ActorSpec, History, history, calls_of, kept_of, cast_of}
+use Rattle.act_decisions.proofs.Common.{option_map, option_and_then, Role, actor_spec_of, list_all, option_map_or, IsTrue, slice_get-map, Told, Leaves, told_of}
+use Rattle.act_decisions.proofs.Common.{IsReplyForDeath, with_calls, End, Any, FitHistory, IsActorSo, EndAlike, IsLeftOpen, KeepsDeath, is_sayable_role}
+use Rattle.act_decisions.proofs.Common.{kept_for, valid_or_none, ToldActor, ToldCall, ToldCaller, ToldEnd, caller_in, calls_in, bound_of, actor_in, callers_of}
+use Rattle.act_decisions.proofs.Common.{submission_of_call, Fits, of_caller, ran_told, kept_told, call_told, calls_told, of_role, ends_told, end_told}
+use Rattle.act_decisions.proofs.Common.{FitsSteps, IsLeftBy, EndsSo, HasCalls, calls_of_steps, IsLined, IsRead, Matches, AreSayable, FollowsTold, WalksDecide}
+use Rattle.act_decisions.proofs.Common.{NoRunIsMisplaced, IsMisplaced}
 use Rattle.act_told_ends.specs.Retiring.{RetiredAsTold}
 use Rattle.act_summaries.proofs.Facts.{Facts, facts, IsCallerNumber, cast_good}
 use Rattle.act_summaries.proofs.Fitting.{agreed_lines_fit}
@@ -53,7 +53,7 @@ module _ (roles : List Role) (steps : List (ℕ × Step × ℕ)) (rest : List �
           by : (o : Option ToldActor) → actor_in end a ≡ o → option_and_then end_told o ≡ None
           by None e = refl
           by (Some actor) e = empty actor.callers.items (record { dead = actor.is_dead; retired = actor.is_retired; runs = map ran_told actor.runs.items })
-              (sym (ap (λ (o : Option ToldActor). option_map_or (λ (x : ToldActor). x.callers.items) o []) e) ∙ none)
+              (sym (ap (λ o. option_map_or (λ (x : ToldActor). x.callers.items) o []) e) ∙ none)
             where
               empty : (callers : List ℕ) (x : End) → callers ≡ [] → of_role callers x ≡ None
               empty [] x e = refl
@@ -61,14 +61,11 @@ module _ (roles : List Role) (steps : List (ℕ × Step × ℕ)) (rest : List �
 
       go : (o : Option ActorSpec) → cast_of a left ≡ o → cast_of a left ≡ None
       go None e = e
-      go (Some cast) e =
-          let number = cast_good left a f.good (ap (λ (o : Option ActorSpec). is_some o) e) in
-          subst (IsActorSo a left) untold (fitting.ended a number.0 number.1)
+      go (Some cast) e = let number = cast_good left a f.good (ap (λ o. is_some o) e) in subst (IsActorSo a left) untold (fitting.ended a number.0 number.1)
 
   -- so no run is told that no events leave
   pub misplaced_refutes : IsMisplaced end → ⊥
-  misplaced_refutes = not_misplaced end left f.sound
-      (λ a. (actor_told end casts_here events lined.within a (no_actor a) (fitting.ended a)).runs)
+  misplaced_refutes = not_misplaced end left f.sound (λ a. (actor_told end casts_here events lined.within a (no_actor a) (fitting.ended a)).runs)
       (calls_left end casts_here events lined.within numbered fitting)
 
 module _ (roles : List Role) (steps : List (ℕ × Step × ℕ)) (rest : List ℕ) (end : ToldEnd) (events walk : List Event)
@@ -90,8 +87,7 @@ module _ (roles : List Role) (steps : List (ℕ × Step × ℕ)) (rest : List �
   so_numbered = numbered roles steps rest end events said_roles sayable read.lined so
 
   fits : IsLeftBy end left_now
-  fits = left_by end casts_now events read.lined.within read.decided
-      (no_actor roles steps rest end events said_roles sayable read.lined so) so_numbered
+  fits = left_by end casts_now events read.lined.within read.decided (no_actor roles steps rest end events said_roles sayable read.lined so) so_numbered
       (fitting roles steps rest end events said_roles sayable read.lined so)
 
   has : (c : ℕ) → 1 ≤ c → c ≤ 16 → HasCalls c steps left_now
@@ -117,14 +113,14 @@ module _ (roles : List Role) (steps : List (ℕ × Step × ℕ)) (rest : List �
       where
         subs : (xs : List ToldCall) → map (λ (call : Submission). call.actor) (map submission_of_call xs) ≡ map (λ (call : ToldCall). call.actor) xs
         subs [] = refl
-        subs (x ∷ xs) = ap (λ (l : List ℕ). x.actor ∷ l) (subs xs)
+        subs (x ∷ xs) = ap (λ l. x.actor ∷ l) (subs xs)
 
     -- the answer is the same, or it is left_now open, and the events left_now a death
     answer : (c k : ℕ) → (kept_for c k come ≡ kept_for c k left_now) ⊎ (IsLeftOpen rest c k × KeepsDeath c k left_now × (is_some (kept_for c k come) ≡ true))
     answer c k = go ((kept_may_stand end steps casts_now left_now fits read.lines read.placed read.decided so_numbered has g.sound g.same read.lost c).1 k)
       where
         mine : kept_for c k come ≡ kept_at (told_so.kept c) k
-        mine = ap (λ (l : List (Option Answer)). kept_at l k) (done.0.kept c)
+        mine = ap (λ l. kept_at l k) (done.0.kept c)
 
         opened : (o : Option ToldCall) → slice_get (calls_in end c) k ≡ o → (kept_for c k come ≡ kept_for c k left_now) ⊎ IsLeftOpen rest c k
         opened None past = inl (mine ∙ chosen_past left_now (calls_in end c) (kept_of c left_now) k past)
@@ -132,8 +128,8 @@ module _ (roles : List Role) (steps : List (ℕ × Step × ℕ)) (rest : List �
           where
             by : (b : Bool) → (is_death (kept_for c k left_now) && call.is_open && wants_reply call.left) ≡ b → (kept_for c k come ≡ kept_for c k left_now)
                 ⊎ IsLeftOpen rest c k
-            by false e = inl (mine ∙ chosen_at left_now (calls_in end c) (kept_of c left_now) k call at
-                ∙ ap (λ (b : Bool). cond b (reply_there left_now (kept_for c k left_now) call.place) (kept_for c k left_now)) e)
+            by false e = inl (mine ∙ chosen_at left_now (calls_in end c) (kept_of c left_now) k at
+                ∙ ap (λ b. cond b (reply_there left_now (kept_for c k left_now) call.place) (kept_for c k left_now)) e)
             by true e = number (read.lined.within.callers c)
               where
                 is_any : call.is_open ≡ true → call.left ≡ left_told.Reply → (call_told call).kept ≡ Any
@@ -141,25 +137,24 @@ module _ (roles : List Role) (steps : List (ℕ × Step × ℕ)) (rest : List �
 
                 number : (1 ≤ c) × (c ≤ 16) ⊎ (calls_in end c ≡ []) × (bound_of end c ≡ None) → (kept_for c k come ≡ kept_for c k left_now)
                     ⊎ IsLeftOpen rest c k
-                number (inr (empty, free)) = let past : slice_get (calls_in end c) k ≡ None = ap (λ (l : List ToldCall). slice_get l k) empty in
+                number (inr (empty, free)) = let past : slice_get (calls_in end c) k ≡ None = ap (λ l. slice_get l k) empty in
                     let bad : None ≡ Some call = sym past ∙ at in cc
                 number (inl (some, few)) =
                     let one = both_true (is_death (kept_for c k left_now) && call.is_open) (wants_reply call.left) e in
                     let two = both_true (is_death (kept_for c k left_now)) call.is_open one.0 in
-                    inr (left_open (calls_told end) (ends_told end) rest c k (call_told call) read.lined.agreed some few
+                    inr (left_open (calls_told end) (ends_told end) rest c k read.lined.agreed some few
                     (slice_get-map call_told (calls_in end c) k ∙ ap (option_map call_told) at) (is_any two.1 (is_wanted call.left one.1)))
 
-        go : (kept_at (told_so.kept c) k ≡ kept_for c k left_now)
-            ⊎ IsReplyForDeath casts_now (with_calls (data_calls end) (told_of left_now))
-            (kept_said end steps casts_now events read.lines read.lined.within fits read.placed read.decided so_numbered has g.sound g.same) c k
-            → (kept_for c k come ≡ kept_for c k left_now) ⊎ (IsLeftOpen rest c k × KeepsDeath c k left_now × (is_some (kept_for c k come) ≡ true))
+        go : (kept_at (told_so.kept c) k ≡ kept_for c k left_now) ⊎ IsReplyForDeath casts_now (with_calls (data_calls end) (told_of left_now))
+            (kept_said end steps casts_now events read.lines read.lined.within fits read.placed read.decided so_numbered has g.sound g.same) c k →
+            (kept_for c k come ≡ kept_for c k left_now) ⊎ (IsLeftOpen rest c k × KeepsDeath c k left_now × (is_some (kept_for c k come) ≡ true))
         go (inl same) = inl (mine ∙ same)
         go (inr (death, reply, kept, may)) = either (opened (slice_get (calls_in end c) k) refl)
           where
             either : (kept_for c k come ≡ kept_for c k left_now) ⊎ IsLeftOpen rest c k
                 → (kept_for c k come ≡ kept_for c k left_now) ⊎ (IsLeftOpen rest c k × KeepsDeath c k left_now × (is_some (kept_for c k come) ≡ true))
             either (inl same) = inl same
-            either (inr open_line_there) = inr (open_line_there, death, ap (λ (o : Option Answer). is_some o) (mine ∙ kept))
+            either (inr open_line_there) = inr (open_line_there, death, ap (λ o. is_some o) (mine ∙ kept))
 
     alike : EndAlike rest come left_now
     alike = record {
@@ -176,8 +171,8 @@ module _ (roles : List Role) (steps : List (ℕ × Step × ℕ)) (rest : List �
         Answered c k = (kept_for c k come ≡ kept_for c k left_now) ⊎ (IsLeftOpen rest c k × KeepsDeath c k left_now × (is_some (kept_for c k come) ≡ true))
 
         some_alike : (c k : ℕ) → Answered c k → is_some (kept_for c k come) ≡ is_some (kept_for c k left_now)
-        some_alike c k (inl same) = ap (λ (o : Option Answer). is_some o) same
-        some_alike c k (inr (o, death, some)) = some ∙ sym (ap (λ (o : Option Answer). is_some o) death)
+        some_alike c k (inl same) = ap (λ o. is_some o) same
+        some_alike c k (inr (o, death, some)) = some ∙ sym (ap (λ o. is_some o) death)
 
         answers_alike : (c k : ℕ) → Answered c k → (kept_for c k come ≡ kept_for c k left_now) ⊎ IsLeftOpen rest c k
         answers_alike c k (inl same) = inl same
@@ -188,10 +183,7 @@ module _ (roles : List Role) (steps : List (ℕ × Step × ℕ)) (rest : List �
         deaths_alike c k (inr (o, death, some)) = inr (inr death)
 
     pub matches : Matches casts_now steps rest walk
-    matches = record {
-      calls = calls;
-      shown = told_alike roles walk events rest said_roles walk_sayable sayable alike so.shown;
-    }
+    matches = record { calls = calls; shown = told_alike roles walk events rest said_roles walk_sayable sayable alike so.shown }
       where
         calls : (c : ℕ) → 1 ≤ c → c ≤ 16 → HasCalls c steps come
         calls c some few telling = by line.0.has_lines refl

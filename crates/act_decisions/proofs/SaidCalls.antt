@@ -15,23 +15,17 @@ data_calls end c = map submission_of_call (calls_in end c)
 -- a call of the data, and what is submitted by it
 pub call_there : (end : ToldEnd) (c k : ℕ) (sub : Submission) → slice_get (data_calls end c) k ≡ Some sub
     → (call : ToldCall) × IsCallIn end c k call × (submission_of_call call ≡ sub)
-call_there end c k sub e = map-slice_get submission_of_call (calls_in end c) k sub e
+call_there end c k sub e = map-slice_get submission_of_call (calls_in end c) k e
 
 -- the item of a call that is told to have run
 pub ran_item : (end : ToldEnd) (h : History) (a p c k : ℕ) (call : ToldCall) → IsLeftBy end h → StandsThere end c k call → call.place ≡ Some (a, p)
     → (item : RunItem) × (slice_get (runs_of a h) p ≡ Some item) × (call_of_item item ≡ (c, k))
 ran_item end h a p c k call fits stands at =
-    let run = stands a p at in
-    let item = item_of_said end h fits a p run.0 run.1 in
-    (item.0, item.1, sym (same_call run.0 item.0 item.2) ∙ run.2)
+    let run = stands a p at in let item = item_of_said end h fits a p run.0 run.1 in (item.0, item.1, sym (same_call run.0 item.0 item.2) ∙ run.2)
 
-none_left : (xs : List ToldCall) → map (λ (call : ToldCall). call.actor) xs ≡ [] → xs ≡ []
-none_left [] e = refl
-none_left (x ∷ xs) e = cc
-
-no_calls : (xs : List Submission) → map (λ (call : Submission). call.actor) xs ≡ [] → xs ≡ []
-no_calls [] e = refl
-no_calls (x ∷ xs) e = cc
+none_mapped : {A B : Type 0} (f : A → B) (xs : List A) → map f xs ≡ [] → xs ≡ []
+none_mapped f [] e = refl
+none_mapped f (x ∷ xs) e = cc
 
 -- what the data says of a caller's calls is the history's, or may stand for it
 module _ (end : ToldEnd) (steps : List (ℕ × Step × ℕ)) (h : History) (fits : IsLeftBy end h) (lines : AllFitSteps end steps)
@@ -40,19 +34,20 @@ module _ (end : ToldEnd) (steps : List (ℕ × Step × ℕ)) (h : History) (fits
   -- a caller that is told no line
   pub none_there : (c : ℕ) → calls_of c h ≡ [] → data_calls end c ≡ calls_of c h
   none_there c none =
-      ap (map submission_of_call) (none_left (calls_in end c) (fits.calls c ∙ ap (map (λ (call : Submission). call.actor)) none)) ∙ sym none
+      ap (map submission_of_call)
+      (none_mapped (λ (call : ToldCall). call.actor) (calls_in end c) (fits.calls c ∙ ap (map (λ (call : Submission). call.actor)) none)) ∙ sym none
 
   -- one whose calls a script tells
   pub told_there : (c : ℕ) → 1 ≤ c → c ≤ 16 → data_calls end c ≡ calls_of_steps c steps → data_calls end c ≡ calls_of c h
   told_there c some few e = go (calls_of_steps c steps) refl
     where
       go : (l : List Submission) → calls_of_steps c steps ≡ l → data_calls end c ≡ calls_of c h
-      go [] is = none_there c (no_calls (calls_of c h) (sym (fits.calls c) ∙ actors_of (calls_in end c)
+      go [] is = none_there c (none_mapped (λ (call : Submission). call.actor) (calls_of c h) (sym (fits.calls c) ∙ actors_of (calls_in end c)
           ∙ ap (map (λ (call : Submission). call.actor)) (e ∙ is)))
         where
           actors_of : (xs : List ToldCall) → map (λ (call : ToldCall). call.actor) xs ≡ map (λ (call : Submission). call.actor) (map submission_of_call xs)
           actors_of [] = refl
-          actors_of (x ∷ xs) = ap (λ (l : List ℕ). x.actor ∷ l) (actors_of xs)
+          actors_of (x ∷ xs) = ap (λ l. x.actor ∷ l) (actors_of xs)
       go (sub ∷ subs) is = e ∙ sym (has c some few (λ none. let bad : [] ≡ sub ∷ subs = sym none ∙ is in cc))
 
   -- the call that stands for the caller's call k, if the caller has one
@@ -64,19 +59,17 @@ module _ (end : ToldEnd) (steps : List (ℕ × Step × ℕ)) (h : History) (fits
     where
       subs : (xs : List ToldCall) → map (λ (call : Submission). call.actor) (map submission_of_call xs) ≡ map (λ (call : ToldCall). call.actor) xs
       subs [] = refl
-      subs (x ∷ xs) = ap (λ (l : List ℕ). x.actor ∷ l) (subs xs)
+      subs (x ∷ xs) = ap (λ l. x.actor ∷ l) (subs xs)
 
   -- one that no line tells is as it ran
   as_ran : (c a p : ℕ) (caller : ToldCaller) (call : ToldCall) (item : RunItem) → caller_in end c ≡ Some caller → caller.has_lines ≡ false
       → slice_get (runs_of a h) p ≡ Some item → item.caller ≡ c → slice_get caller.calls.items item.future ≡ Some call → IsAsRun (submission_of_call call) item
   as_ran c a p caller call item there untold ran of at =
-      let run = said_of_item end h fits a p item ran in
-      let put = placed a p run.0 run.1 in
-      let own : IsCallIn end c item.future call = ap (λ (l : List ToldCall). slice_get l item.future) (of_caller end c caller there) ∙ at in
+      let run = said_of_item end h fits a p ran in let put = placed a p run.0 run.1 in
+      let own : IsCallIn end c item.future call = ap (λ l. slice_get l item.future) (of_caller end c caller there) ∙ at in
       let mine : IsCallIn end run.0.caller run.0.future call =
       (λ i. slice_get (calls_in end ((sym run.2.caller ∙ of) i)) (sym run.2.future i)) ∙ own in
-      let one : Some put.0 ≡ Some call = sym put.1 ∙ mine in
-      let same : put.0 ≡ call = cc in
+      let one : Some put.0 ≡ Some call = sym put.1 ∙ mine in let same : put.0 ≡ call = cc in
       let place : call.place ≡ Some (a, p) = ap (λ (x : ToldCall). x.place) (sym same) ∙ put.2 in
       let is = (decided c item.future caller call there at).1.as_ran a p run.0 untold place run.1 in
       record { method = is.0 ∙ sym run.2.method; args = is.1 ∙ ap (map arg_as_run) (sym run.2.args) }
@@ -94,7 +87,7 @@ module _ (end : ToldEnd) (steps : List (ℕ × Step × ℕ)) (h : History) (fits
           call = call_there end c k sub at
 
           mine : slice_get caller.calls.items k ≡ Some call.0
-          mine = ap (λ (l : List ToldCall). slice_get l k) (sym own) ∙ call.1
+          mine = ap (λ l. slice_get l k) (sym own) ∙ call.1
 
           is : StandsThere end c k call.0 × IsDecided casts end c k caller call.0
           is = decided c k caller call.0 there mine
@@ -102,8 +95,7 @@ module _ (end : ToldEnd) (steps : List (ℕ × Step × ℕ)) (h : History) (fits
           go : (o : Option (ℕ × ℕ)) → call.0.place ≡ o → Ran (told_of h) c k sub ⊎ (sub.args ≡ [])
           go None none = inr (ap (λ (s : Submission). s.args) (sym call.2) ∙ is.1.untold untold none)
           go (Some (a, p)) some =
-              let ran = ran_item end h a p c k call.0 fits is.0 some in
-              let of : ran.0.caller ≡ c = ap (λ (r : ℕ × ℕ). r.0) ran.2 in
+              let ran = ran_item end h a p c k call.0 fits is.0 some in let of : ran.0.caller ≡ c = ap (λ (r : ℕ × ℕ). r.0) ran.2 in
               let future : ran.0.future ≡ k = ap (λ (r : ℕ × ℕ). r.1) ran.2 in
               inl (record {
                 actor = a;
@@ -112,7 +104,7 @@ module _ (end : ToldEnd) (steps : List (ℕ × Step × ℕ)) (h : History) (fits
                 at = ran.1;
                 caller = of;
                 future = future;
-                is = subst (λ (s : Submission). IsAsRun s ran.0) call.2
+                is = subst (λ s. IsAsRun s ran.0) call.2
                     (as_ran c a p caller call.0 ran.0 there untold ran.1 of (ap (slice_get caller.calls.items) future ∙ mine));
               })
 
@@ -120,12 +112,12 @@ module _ (end : ToldEnd) (steps : List (ℕ × Step × ℕ)) (h : History) (fits
           → slice_get (data_calls end c) item.future ≡ Some sub → IsAsRun sub item
       ran a place item sub at of there_sub =
           let call = call_there end c item.future sub there_sub in
-          subst (λ (s : Submission). IsAsRun s item) call.2
-          (as_ran c a place caller call.0 item there untold at of (ap (λ (l : List ToldCall). slice_get l item.future) (sym own) ∙ call.1))
+          subst (λ s. IsAsRun s item) call.2
+          (as_ran c a place caller call.0 item there untold at of (ap (λ l. slice_get l item.future) (sym own) ∙ call.1))
 
   -- one that awaits nothing isn't bound
   unbound : (c : ℕ) (caller : ToldCaller) → caller_in end c ≡ Some caller → FitsSteps c steps caller → caller.has_lines ≡ false → bound_of end c ≡ None
-  unbound c caller there fit untold = bound_is end c caller there ∙ fit.bound ∙ go (awaits c steps) refl
+  unbound c caller there fit untold = bound_is end c there ∙ fit.bound ∙ go (awaits c steps) refl
     where
       go : (b : Bool) → awaits c steps ≡ b → cond b (Some (steps_of_caller c steps)) None ≡ None
       go false e = refl

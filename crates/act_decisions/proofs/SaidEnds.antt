@@ -37,10 +37,10 @@ module _ (end : ToldEnd) (steps : List (ℕ × Step × ℕ)) (casts : List Actor
       go c own is (inr (empty, free)) = let bad : None ≡ Some own = sym free ∙ is in cc
       go c own is (inl (some, few)) =
           let line = lines c some few in
-          let bound = binds c steps own (sym line.2.bound ∙ sym (bound_is end c line.0 line.1) ∙ is) in
+          let bound = binds c steps own (sym line.2.bound ∙ sym (bound_is end c line.1) ∙ is) in
           let done = does c some few bound.0 in (
             done.0,
-            subst (λ (l : List Step). DoesStepsBy casts c (l ++ map (λ a. Release a) done.0) [] events) (sym bound.1)
+            subst (λ l. DoesStepsBy casts c (l ++ map (λ a. Release a) done.0) [] events) (sym bound.1)
                 (steps_by casts c (steps_of_caller c steps ++ map (λ a. Release a) done.0) [] events done.1),
           )
 
@@ -57,8 +57,8 @@ module _ (end : ToldEnd) (steps : List (ℕ × Step × ℕ)) (casts : List Actor
     pub some_end : NoValueIsLost casts end → EndsAsTold casts (bound_of end) (told_of left_here) events
         → ((others : List Event) × EndsAsTold casts (bound_of end) said others) × Fits end said
     some_end lost ends =
-        let one = may_stand casts (bound_of end) (told_of left_here) (data_calls end) events ends
+        let one = may_stand (data_calls end) ends
         (calls_may_stand end steps left_here fits lines placed decided numbered has) in
-        let two = may_be_replies casts (bound_of end) (with_calls (data_calls end) (told_of left_here)) kept_said one.0 one.1
+        let two = may_be_replies casts kept_said one.0 one.1
         (kept_may_stand end steps casts left_here fits lines placed decided numbered has sound same lost) in
         ((two.0, two.1), fits_told end steps casts left_here fits lines placed decided numbered has sound same)

@@ -24,9 +24,9 @@ no_death (Some answer) some e = go (is_reply (Some answer)) refl e
     go true is e = is
     go false is e = cc
 
-and_false : (x y : Bool) → y ≡ false → (x && y) ≡ false
-and_false true y e = e
-and_false false y e = refl
+and_false : (x : Bool) {y : Bool} → y ≡ false → (x && y) ≡ false
+and_false true e = e
+and_false false e = refl
 
 module _ (end : ToldEnd) (steps : List (ℕ × Step × ℕ)) (casts : List ActorSpec) (h : History) (fits : IsLeftBy end h) (lines : AllFitSteps end steps)
     (placed : RunsArePlaced end) (decided : AllDecided casts end) (numbered : (c : ℕ) → (1 ≤ c) × (c ≤ 16) ⊎ (calls_of c h ≡ []))
@@ -37,7 +37,7 @@ module _ (end : ToldEnd) (steps : List (ℕ × Step × ℕ)) (casts : List Actor
   -- nothing is kept of a call that wasn't made
   past : (c k : ℕ) → slice_get (calls_in end c) k ≡ None → kept_at (kept_of c h) k ≡ None
   past c k none = kept_at_is h c k ∙ ap (kept_by h c k) (none_too (calls_of c h) k
-      (sym (slice_get-map (λ (x : Submission). x.actor) (calls_of c h) k) ∙ ap (λ (l : List ℕ). slice_get l k) (sym (fits.calls c))
+      (sym (slice_get-map (λ (x : Submission). x.actor) (calls_of c h) k) ∙ ap (λ l. slice_get l k) (sym (fits.calls c))
       ∙ slice_get-map (λ (x : ToldCall). x.actor) (calls_in end c) k ∙ ap (option_map (λ (x : ToldCall). x.actor)) none))
     where
       none_too : (xs : List Submission) (k : ℕ) → option_map (λ (x : Submission). x.actor) (slice_get xs k) ≡ None → slice_get xs k ≡ None
@@ -49,14 +49,13 @@ module _ (end : ToldEnd) (steps : List (ℕ × Step × ℕ)) (casts : List Actor
 
   kept_same : (c k : ℕ) (call : ToldCall) → IsCallIn end c k call → (is_death (kept_at (kept_of c h) k) && call.is_open && wants_reply call.left) ≡ false
       → kept_at (kept_here c) k ≡ kept_at (kept_of c h) k
-  kept_same c k call at e = chosen_at h (calls_in end c) (kept_of c h) k call at
-      ∙ ap (λ (b : Bool). cond b (reply_there h (kept_at (kept_of c h) k) call.place) (kept_at (kept_of c h) k)) e
+  kept_same c k call at e = chosen_at h (calls_in end c) (kept_of c h) k at
+      ∙ ap (λ b. cond b (reply_there h (kept_at (kept_of c h) k) call.place) (kept_at (kept_of c h) k)) e
 
   -- a call that ran is told to have run there
-  put_there : (c k a p : ℕ) (item : RunItem) → slice_get (runs_of a h) p ≡ Some item → item.caller ≡ c → item.future ≡ k → IsPlacedAt end a p c k
-  put_there c k a p item ran of future =
-      let run = said_of_item end h fits a p item ran in
-      let put = placed a p run.0 run.1 in
+  put_there : (c k a p : ℕ) {item : RunItem} → slice_get (runs_of a h) p ≡ Some item → item.caller ≡ c → item.future ≡ k → IsPlacedAt end a p c k
+  put_there c k a p {item} ran of future =
+      let run = said_of_item end h fits a p ran in let put = placed a p run.0 run.1 in
       (put.0, (λ i. slice_get (calls_in end ((sym of ∙ run.2.caller) i)) ((sym future ∙ run.2.future) i)) ∙ put.1, put.2)
 
   -- nor does one that gave a value there, and whose failure was taken
@@ -68,10 +67,9 @@ module _ (end : ToldEnd) (steps : List (ℕ × Step × ℕ)) (casts : List Actor
       go false e = e
       go true e =
           let some = reply_some (kept_at (kept_of c h) k) e in
-          let ran = answers_are h c k some.0 sound some.1 (reply_alive some.0 (ap is_reply (sym some.1) ∙ e)) in
-          let put = put_there c k ran.actor ran.place ran.item ran.at ran.caller ran.future in
-          let one : Some put.0 ≡ Some call = sym put.1 ∙ at in
-          let same_call : put.0 ≡ call = cc in
+          let ran = answers_are c k sound some.1 (reply_alive some.0 (ap is_reply (sym some.1) ∙ e)) in
+          let put = put_there c k ran.actor ran.place ran.at ran.caller ran.future in
+          let one : Some put.0 ≡ Some call = sym put.1 ∙ at in let same_call : put.0 ≡ call = cc in
           let both : ◌≡◌ {A = Option (ℕ × ℕ)} (Some (ran.actor, ran.place)) (Some (a, p)) = sym put.2 ∙ ap (λ (x : ToldCall). x.place) same_call ∙ place in
           let there : ◌≡◌ {A = ℕ × ℕ} (ran.actor, ran.place) (a, p) = cc in
           let answered : answer_of a p h ≡ Some some.0 = (λ i. answer_of ((sym there i).0) ((sym there i).1) h) ∙ ran.answered in
@@ -87,12 +85,10 @@ module _ (end : ToldEnd) (steps : List (ℕ × Step × ℕ)) (casts : List Actor
       go false e = e
       go true e =
           let some = reply_some (kept_at (kept_of c h) k) e in
-          let ran = answers_are h c k some.0 sound some.1 (reply_alive some.0 (ap is_reply (sym some.1) ∙ e)) in
-          let put = put_there c k ran.actor ran.place ran.item ran.at ran.caller ran.future in
-          let one : Some put.0 ≡ Some call = sym put.1 ∙ at in
-          let same_call : put.0 ≡ call = cc in
-          let bad : Some (ran.actor, ran.place) ≡ None = sym put.2 ∙ ap (λ (x : ToldCall). x.place) same_call ∙ none in
-          cc
+          let ran = answers_are c k sound some.1 (reply_alive some.0 (ap is_reply (sym some.1) ∙ e)) in
+          let put = put_there c k ran.actor ran.place ran.at ran.caller ran.future in
+          let one : Some put.0 ≡ Some call = sym put.1 ∙ at in let same_call : put.0 ≡ call = cc in
+          let bad : Some (ran.actor, ran.place) ≡ None = sym put.2 ∙ ap (λ (x : ToldCall). x.place) same_call ∙ none in cc
 
   -- a reply that is left open
   open_reply : (c k : ℕ) (call : ToldCall) → IsCallIn end c k call → call.is_open ≡ true → call.left ≡ left.Reply → is_some (kept_at (kept_of c h) k) ≡ true
@@ -115,21 +111,20 @@ module _ (end : ToldEnd) (steps : List (ℕ × Step × ℕ)) (casts : List Actor
       by true e = go call.place refl
         where
           kept_is : kept_at (kept_here c) k ≡ reply_there h (kept_at (kept_of c h) k) call.place
-          kept_is = chosen_at h (calls_in end c) (kept_of c h) k call at
-              ∙ ap (λ (b : Bool). cond b (reply_there h (kept_at (kept_of c h) k) call.place) (kept_at (kept_of c h) k)) (is_chosen true e)
+          kept_is = chosen_at h (calls_in end c) (kept_of c h) k at
+              ∙ ap (λ b. cond b (reply_there h (kept_at (kept_of c h) k) call.place) (kept_at (kept_of c h) k)) (is_chosen true e)
 
           go : (o : Option (ℕ × ℕ)) → call.place ≡ o → is_reply (kept_at (kept_here c) k) ≡ true
-          go None none = let there = is.4.reply opened reply in let bad : true ≡ false = sym there ∙ ap (λ (o : Option (ℕ × ℕ)). is_some o) none in cc
+          go None none = let there = is.4.reply opened reply in let bad : true ≡ false = sym there ∙ ap (λ o. is_some o) none in cc
           go (Some (a, p)) there =
-              let stands = is.3 a p there in
-              let ran = ran_item end h a p c k call fits is.3 there in
+              let stands = is.3 a p there in let ran = ran_item end h a p c k call fits is.3 there in
               let answer = gave end steps casts h fits lines placed decided numbered has sound same a p ran.0 ran.1 (fits.cast a p stands.0 stands.1) in
               ap is_reply (kept_is ∙ ap (reply_there h (kept_at (kept_of c h) k)) there ∙ answer.1) ∙ is_alive answer.0 (alive (opening_of a h) answer.1)
             where
-              alive : (o : Option KindState) → {answer : Answer} → option_and_then (λ (state : KindState). answer_at state (runs_of a h) p) o ≡ Some answer
+              alive : (o : Option KindState) → {answer : Answer} → option_and_then (λ state. answer_at state (runs_of a h) p) o ≡ Some answer
                   → answer ≢ Err ActorDied
               alive None e = cc
-              alive (Some state) {answer} e = answer_alive state (runs_of a h) p answer e
+              alive (Some state) {answer} e = answer_alive state (runs_of a h) p e
 
   fits_left : (c k : ℕ) (call : ToldCall) → IsCallIn end c k call → FitsLeft call.left (kept_at (kept_here c) k)
   fits_left c k call at = by call.is_open refl
@@ -140,7 +135,7 @@ module _ (end : ToldEnd) (steps : List (ℕ × Step × ℕ)) (casts : List Actor
 
       by : (b : Bool) → call.is_open ≡ b → FitsLeft call.left (kept_at (kept_here c) k)
       by false e = subst (FitsLeft call.left) (sym (kept_same c k call at
-          (ap (λ (b : Bool). b && wants_reply call.left) (and_false (is_death (kept_at (kept_of c h) k)) call.is_open e)))) ((fits.left c k call at).0 e)
+          (ap (λ b. b && wants_reply call.left) (and_false (is_death (kept_at (kept_of c h) k)) e)))) ((fits.left c k call at).0 e)
       by true e = sort call.left refl
         where
           some : is_some (kept_at (kept_of c h) k) ≡ true
@@ -152,11 +147,11 @@ module _ (end : ToldEnd) (steps : List (ℕ × Step × ℕ)) (casts : List Actor
 
           sort : (l : Left) → call.left ≡ l → FitsLeft call.left (kept_at (kept_here c) k)
           sort left.Open l = absurd (is.4.left e l)
-          sort left.Reply l = subst (λ (l : Left). FitsLeft l (kept_at (kept_here c) k)) (sym l) (open_reply c k call at e l some)
+          sort left.Reply l = subst (λ l. FitsLeft l (kept_at (kept_here c) k)) (sym l) (open_reply c k call at e l some)
           sort left.Death l =
-              let kept = kept_same c k call at (and_false (is_death (kept_at (kept_of c h) k) && call.is_open) (wants_reply call.left) (ap wants_reply l)) in
-              subst (λ (l : Left). FitsLeft l (kept_at (kept_here c) k)) (sym l)
-              (ap (λ (o : Option Answer). is_some o) kept ∙ some, ap is_reply kept ∙ is_dead_one l call.place refl)
+              let kept = kept_same c k call at (and_false (is_death (kept_at (kept_of c h) k) && call.is_open) (ap wants_reply l)) in
+              subst (λ l. FitsLeft l (kept_at (kept_here c) k)) (sym l)
+              (ap (λ o. is_some o) kept ∙ some, ap is_reply kept ∙ is_dead_one l call.place refl)
 
   pub fits_told : Fits end (with_kept kept_here (with_calls (data_calls end) (told_of h)))
   fits_told = record {
@@ -168,8 +163,7 @@ module _ (end : ToldEnd) (steps : List (ℕ × Step × ℕ)) (casts : List Actor
   }
     where
       go : (c k : ℕ) (o : Option ToldCall) → slice_get (calls_in end c) k ≡ o → FitsLeft (left_of end c k) (kept_at (kept_here c) k)
-      go c k None none = subst (λ (l : Left). FitsLeft l (kept_at (kept_here c) k))
-          (sym (ap (λ (o : Option ToldCall). option_map_or (λ (x : ToldCall). x.left) o left.Open) none))
+      go c k None none = subst (λ l. FitsLeft l (kept_at (kept_here c) k)) (sym (ap (λ o. option_map_or (λ (x : ToldCall). x.left) o left.Open) none))
           (chosen_past h (calls_in end c) (kept_of c h) k none ∙ past c k none)
-      go c k (Some call) at = subst (λ (l : Left). FitsLeft l (kept_at (kept_here c) k))
-          (sym (ap (λ (o : Option ToldCall). option_map_or (λ (x : ToldCall). x.left) o left.Open) at)) (fits_left c k call at)
+      go c k (Some call) at = subst (λ l. FitsLeft l (kept_at (kept_here c) k))
+          (sym (ap (λ o. option_map_or (λ (x : ToldCall). x.left) o left.Open) at)) (fits_left c k call at)

@@ -2,10 +2,7 @@
 use Rattle.act_decisions.proofs.Common.{◌≡◌, ℕ, List, [], ◌∷◌, ◌++◌, Bor, refl, sym, ap, ◌∙◌, flat_map, flat_map-append, append-nil, map-append, All-append}
 use Rattle.act_decisions.proofs.Common.{All-cons, All-nil, told_line, IsToldAs, Make}
 use Rattle.act_scripts.proofs.Each.{texts}
-
--- the line of a pair, as it is told
-abbrev told_of : List ℕ × List ℕ → List ℕ
-told_of pair = told_line pair.1
+use Rattle.act_summaries.proofs.AsTheyStand.{told_of}
 
 -- none yet
 pub none : Make [] []
@@ -20,13 +17,13 @@ one_more lines line told old new as_told is so_far =
       pairs = so_far.pairs ++ pair ∷ [];
       given =
           map-append (λ (pair : List ℕ × List ℕ). pair.0) so_far.pairs (pair ∷ [])
-          ∙ ap (λ (front : List (List ℕ)). front ++ line.now ∷ []) so_far.given
+          ∙ ap (λ front. front ++ line.now ∷ []) so_far.given
           ∙ sym (map-append (λ (line : Bor (List ℕ)). line.now) lines (line ∷ []));
       told = All-append (λ (pair : List ℕ × List ℕ). IsToldAs pair.0 pair.1) so_far.pairs (pair ∷ []) so_far.told
           (All-cons (λ (pair : List ℕ × List ℕ). IsToldAs pair.0 pair.1) pair [] as_told (All-nil (λ (pair : List ℕ × List ℕ). IsToldAs pair.0 pair.1)));
       whole =
           is
-          ∙ ap (λ (front : List ℕ). front ++ told_line told) so_far.whole
-          ∙ ap (λ (back : List ℕ). flat_map told_of so_far.pairs ++ back) (sym (append-nil (told_line told)))
+          ∙ ap (λ front. front ++ told_line told) so_far.whole
+          ∙ ap (λ back. flat_map told_of so_far.pairs ++ back) (sym (append-nil (told_line told)))
           ∙ sym (flat_map-append told_of so_far.pairs (pair ∷ []));
     }

@@ -16,13 +16,16 @@ pub greatest_pushed : (xs : List ℕ) (x : ℕ) → (greatest xs ≤ greatest (x
 greatest_pushed xs x = let all = greatest-append xs (x ∷ []) in (omega (arith, all), omega (arith, all))
 
 -- one of these lists has a greater number
-pub greatest_set : {E : Type 0} (part : E → List ℕ) (xs : List E) (at : ℕ) (d e : E) → at < length xs → greatest (part (get_or xs at d)) ≤ greatest (part e) → greatest (flat_map part xs) ≤ greatest (flat_map part (set xs at e))
+pub greatest_set : {E : Type 0} (part : E → List ℕ) (xs : List E) (at : ℕ) (d e : E) → at < length xs → greatest (part (get_or xs at d)) ≤ greatest (part e) →
+    greatest (flat_map part xs) ≤ greatest (flat_map part (set xs at e))
 greatest_set part [] at d e below more = absurd (omega arith)
 greatest_set part (x ∷ xs) zero d e below more = greatest_grows (part x) (flat_map part xs) (part e) (flat_map part xs) more (omega arith)
-greatest_set part (x ∷ xs) (suc at) d e below more = greatest_grows (part x) (flat_map part xs) (part x) (flat_map part (set xs at e)) (omega arith) (greatest_set part xs at d e (omega (arith, below)) more)
+greatest_set part (x ∷ xs) (suc at) d e below more =
+    greatest_grows (part x) (flat_map part xs) (part x) (flat_map part (set xs at e)) (omega arith) (greatest_set part xs at d e (omega (arith, below)) more)
 
 -- the clock goes on
-pub clock_grows : (put put' taken taken' : List ℕ) → greatest put ≤ greatest put' → greatest (map suc taken) ≤ greatest (map suc taken') → clock put taken ≤ clock put' taken'
+pub clock_grows : (put put' taken taken' : List ℕ) → greatest put ≤ greatest put' → greatest (map suc taken) ≤ greatest (map suc taken') →
+    clock put taken ≤ clock put' taken'
 clock_grows put put' taken taken' one other = greatest_grows put (map suc taken) put' (map suc taken') one other
 
 -- after an item is taken it shows more than the item's stamp
@@ -40,5 +43,5 @@ timed_none now trace none = record { rising = rw none (λ i j d lt below. absurd
 
 -- ---- items and their stamps
 
-pub zip_none : {A B : Type 0} (P : A → B → Type 0) (xs : List A) (ys : List B) → xs ≡ [] → ys ≡ [] → AllZip P xs ys
-zip_none P xs ys none nor = rw (none, nor) tt
+pub zip_none : {A B : Type 0} (P : A → B → Type 0) {xs : List A} {ys : List B} → xs ≡ [] → ys ≡ [] → AllZip P xs ys
+zip_none P none nor = rw (none, nor) tt

@@ -159,7 +159,7 @@ pub record IsCalling (lines : CallerLines) (driver : Driver) : Type 0 where
   pub keeps : IsKeeping lines.mails.now driver.owner driver.passes.collects.taken driver.passes.letters.items
       (option_to_list driver.outbox)
   pub names : All (HasNamed lines.controls.now driver.owner.id) driver.passes.kills.items
-  pub noted : AreNoted driver.owner driver.passes.letters.items driver.noted
+  pub note_posted : AreNoted driver.owner driver.passes.letters.items driver.note_posted
 
 -- an endpoint without what was put there, and without its stamps
 abbrev pub bare_post : Endpoint (PutterView Letter Unit) → Endpoint (PutterView Letter Unit)
@@ -306,7 +306,7 @@ pub record HasDone (lines : CallerLines) (actors : List ℕ) (plan : List Step) 
   pub sent : (letter : Letter) → IsDue owner letter →
       Contains (posted_in passes.letters.items) letter
       ⊎ IsIdle lines.mails.now passes.collects.taken passes.letters.items (actor_of_letter letter)
-  pub noted : All (λ endpoint. (d : MailView) →
+  pub notes : All (λ endpoint. (d : MailView) →
       HasNote actors owner passes (slice_index_or lines.mails.now endpoint.place d).actor) passes.letters.items
 
 -- a plan that fits some actors is done to its end, where no step was done before

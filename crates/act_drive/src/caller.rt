@@ -199,7 +199,7 @@ pub fn drive_noting<R: Wait, N: Notes>(
         owner,
         passes,
         outbox: None,
-        noted: [false; ACTOR_NUMBERS],
+        note_posted: [false; ACTOR_NUMBERS],
     };
     let starved = driver.run(rt, alloc, lines, plan, notes);
     let Driver {

@@ -147,7 +147,7 @@ pub fn drive_code<R: Wait, C: Code>(
         owner,
         passes,
         outbox: None,
-        noted: [false; ACTOR_NUMBERS],
+        note_posted: [false; ACTOR_NUMBERS],
     };
     work::<R, Brand, C>(rt, alloc, driver, code, lines)
 }

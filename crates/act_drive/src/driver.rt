@@ -45,7 +45,7 @@ pub(crate) struct Driver {
     pub(crate) owner: Owner,
     pub(crate) passes: CallerPasses,
     pub(crate) outbox: Option<Letter>,
-    pub(crate) noted: [bool; ACTOR_NUMBERS],
+    pub(crate) note_posted: [bool; ACTOR_NUMBERS],
 }
 
 /// To whom a letter goes.
@@ -76,11 +76,11 @@ fn mark_of(notice: &Notice) -> Mark {
 }
 
 /// Marks the actor whose note was posted.
-fn mark(noted: &mut [bool; ACTOR_NUMBERS], actor: ActorId, is_note: bool)
-    ensures { noted.new ≡ (if is_note then slice_set noted.old actor true else noted.old) }
+fn set_note_posted(note_posted: &mut [bool; ACTOR_NUMBERS], actor: ActorId, is_note: bool)
+    ensures { note_posted.new ≡ (if is_note then slice_set note_posted.old actor true else note_posted.old) }
 {
     if is_note {
-        noted[actor.number() as usize] = true;
+        note_posted[actor.number() as usize] = true;
     }
 }
 
@@ -193,7 +193,7 @@ impl Driver {
         let mail = &lines.mails[endpoint.place];
         match mail.post_at::<K, R>(rt, &mut endpoint.pass, letter) {
             Ok(()) => {
-                mark(&mut self.noted, actor, is_note);
+                set_note_posted(&mut self.note_posted, actor, is_note);
                 true
             }
             Err(back) => {

@@ -22,7 +22,7 @@ impl Driver {
         if self.owner.is_dead(a) {
             return true;
         }
-        self.noted[a.number() as usize] && !self.owner.awaits(a)
+        self.note_posted[a.number() as usize] && !self.owner.awaits(a)
     }
 
     /// Asks the kill of an actor, if it wasn't asked.

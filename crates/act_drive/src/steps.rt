@@ -129,7 +129,7 @@ impl Driver {
         requires calling { IsCalling lines.now self.old }
         ensures calling { IsCalling lines.now self.new }
         ensures follows { OnOk result (FollowsBy lines.now (Release a) self.old self.new) }
-        ensures noted { OnOk result (copies_in a self.old.owner.handles ≡ Some 1 →
+        ensures note_put { OnOk result (copies_in a self.old.owner.handles ≡ Some 1 →
             self.new.outbox ≡ Some (Note (release_note self.old.owner a))) }
         ensures only_releases { OnlyReleases self.old self.new }
         ensures handles { OnOk result (self.new.owner.handles ≡ without_copy a self.old.owner.handles) }

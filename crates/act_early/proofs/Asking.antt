@@ -20,7 +20,7 @@ IsAskedOrDead a h = (contains a h.asked || is_dead a h) ≡ true
 asked_or_dead_step : (a : ℕ) → IsKept (IsAskedOrDead a)
 asked_or_dead_step a h other held accepted = either_of (contains a h.asked) (is_dead a h) (IsAskedOrDead a (add_event h other)) held
     (λ e. or_left (contains a (add_event h other).asked) (is_dead a (add_event h other)) (asked_stays a h other e))
-    (λ e. or_second (contains a (add_event h other).asked) (is_dead a (add_event h other)) (dead_stays a h other accepted e))
+    (λ e. or_second (contains a (add_event h other).asked) (dead_stays a h other accepted e))
 
 -- ---- each kill of a step that is done was asked, or its actor is dead
 
@@ -34,13 +34,12 @@ step_asks c d a step h e = go (c == d) step e
   where
     go : (same : Bool) (step : Step) → list_any (is_kill_of a) (cond same (step ∷ []) []) ≡ true → contains a (after_step c step h).asked ≡ true
     go false step e = cc
-    go true (Kill b) e = contains_push a b h.asked ∙ or_second (contains a h.asked) (b == a) (either_of (b == a) false ((b == a) ≡ true) e (λ x. x) (λ x. cc))
+    go true (Kill b) e = contains_push a b h.asked ∙ or_second (contains a h.asked) (either_of (b == a) false ((b == a) ≡ true) e (λ x. x) (λ x. cc))
     go true step e = cc
 
-done_any : (plans : ℕ → List Step) (c d a : ℕ) (step : Step) (at : At) → next_step plans c at ≡ Some step
-    → list_any (is_kill_of a) (done_steps plans d (taken c step at))
-    ≡ (list_any (is_kill_of a) (done_steps plans d at) || list_any (is_kill_of a) (cond (c == d) (step ∷ []) []))
-done_any plans c d a step at is = ap (list_any (is_kill_of a)) (done-push plans c d at step is)
+done_any : (plans : ℕ → List Step) (c d a : ℕ) {step : Step} (at : At) → next_step plans c at ≡ Some step → list_any (is_kill_of a)
+    (done_steps plans d (taken c step at)) ≡ (list_any (is_kill_of a) (done_steps plans d at) || list_any (is_kill_of a) (cond (c == d) (step ∷ []) []))
+done_any plans c d a {step} at is = ap (list_any (is_kill_of a)) (done-push plans c d at step is)
     ∙ list_any-append (is_kill_of a) (done_steps plans d at) (cond (c == d) (step ∷ []) [])
 
 skip_dead : (c d a b : ℕ) (h : History) → list_any (is_kill_of a) (cond (c == d) (Kill b ∷ []) []) ≡ true → is_dead b h ≡ true → is_dead a h ≡ true
@@ -48,24 +47,23 @@ skip_dead c d a b h e dead = go (c == d) e
   where
     go : (same : Bool) → list_any (is_kill_of a) (cond same (Kill b ∷ []) []) ≡ true → is_dead a h ≡ true
     go false e = cc
-    go true e = subst (λ (x : ℕ). is_dead x h ≡ true) (eqb-true b a (either_of (b == a) false ((b == a) ≡ true) e (λ x. x) (λ x. cc))) dead
+    go true e = subst (λ x. is_dead x h ≡ true) (eqb-true b a (either_of (b == a) false ((b == a) ≡ true) e (λ x. x) (λ x. cc))) dead
 
-pub asks_all : (casts : List ActorSpec) (plans : ℕ → List Step) (a : ℕ) (at : At) → IsPlay casts plans at → AsksAll plans a at
-asks_all casts plans a at Opens d e = cc
-asks_all casts plans a at (Takes before c step play is may) d e =
+pub asks_all : {casts : List ActorSpec} {plans : ℕ → List Step} (a : ℕ) (at : At) → IsPlay casts plans at → AsksAll plans a at
+asks_all a at Opens d e = cc
+asks_all {casts} {plans} a at (Takes before c step play is may) d e =
     either_of (list_any (is_kill_of a) (done_steps plans d before)) (list_any (is_kill_of a) (cond (c == d) (step ∷ []) []))
-    (IsAskedOrDead a (after_step c step before.history)) (sym (done_any plans c d a step before is) ∙ e)
-    (λ old. step_keeps (IsAskedOrDead a) (asked_or_dead_step a) c step before.history (asks_all casts plans a before play d old) may)
+    (IsAskedOrDead a (after_step c step before.history)) (sym (done_any plans c d a before is) ∙ e)
+    (λ old. step_keeps (IsAskedOrDead a) (asked_or_dead_step a) c step before.history (asks_all a before play d old) may)
     (λ new. or_left (contains a (after_step c step before.history).asked) (is_dead a (after_step c step before.history))
     (step_asks c d a step before.history new))
-asks_all casts plans a at (Skips before c b play is named dead) d e =
+asks_all {casts} {plans} a at (Skips before c b play is named dead) d e =
     either_of (list_any (is_kill_of a) (done_steps plans d before)) (list_any (is_kill_of a) (cond (c == d) (Kill b ∷ []) []))
-    (IsAskedOrDead a before.history) (sym (done_any plans c d a (Kill b) before is) ∙ e)
-    (λ old. asks_all casts plans a before play d old)
-    (λ new. or_second (contains a before.history.asked) (is_dead a before.history) (skip_dead c d a b before.history new dead))
-asks_all casts plans a at (Closes before c b play none may) d e =
-    asked_or_dead_step a before.history (event.Release c b) (asks_all casts plans a before play d e) may
-asks_all casts plans a at (Happens before other play free may) d e = asked_or_dead_step a before.history other (asks_all casts plans a before play d e) may
+    (IsAskedOrDead a before.history) (sym (done_any plans c d a before is) ∙ e)
+    (λ old. asks_all a before play d old)
+    (λ new. or_second (contains a before.history.asked) (skip_dead c d a b before.history new dead))
+asks_all {casts} {plans} a at (Closes before c b play none may) d e = asked_or_dead_step a before.history (event.Release c b) (asks_all a before play d e) may
+asks_all {casts} {plans} a at (Happens before other play free may) d e = asked_or_dead_step a before.history other (asks_all a before play d e) may
 
 -- ---- each kill that was asked is that of a step that is done
 
@@ -81,12 +79,11 @@ any_one : (same : Bool) (a : ℕ) (step : Step) → same ≡ true → is_kill_of
 any_one true a step e is = rw is refl
 any_one false a step e is = cc
 
-asked_more : (plans : ℕ → List Step) (c a : ℕ) (step : Step) (at : At) → next_step plans c at ≡ Some step → IsAskedBy plans a at
+asked_more : (plans : ℕ → List Step) (c a : ℕ) {step : Step} (at : At) → next_step plans c at ≡ Some step → IsAskedBy plans a at
     → IsAskedBy plans a (taken c step at)
-asked_more plans c a step at is by = (
+asked_more plans c a {step} at is by = (
   by.0,
-  done_any plans c by.0 a step at is ∙ or_left (list_any (is_kill_of a) (done_steps plans by.0 at))
-      (list_any (is_kill_of a) (cond (c == by.0) (step ∷ []) [])) by.1,
+  done_any plans c by.0 a at is ∙ or_left (list_any (is_kill_of a) (done_steps plans by.0 at)) (list_any (is_kill_of a) (cond (c == by.0) (step ∷ []) [])) by.1,
 )
 
 pub asked_by : (casts : List ActorSpec) (plans : ℕ → List Step) (a : ℕ) (at : At) → IsPlay casts plans at → contains a at.history.asked ≡ true
@@ -94,15 +91,13 @@ pub asked_by : (casts : List ActorSpec) (plans : ℕ → List Step) (a : ℕ) (a
 asked_by casts plans a at Opens e = cc
 asked_by casts plans a at (Takes before c step play is may) e =
     either_of (contains a before.history.asked) (is_kill_of a step) (IsAskedBy plans a (taken c step before)) (step_asked c a step before.history e)
-    (λ old. asked_more plans c a step before is (asked_by casts plans a before play old))
+    (λ old. asked_more plans c a before is (asked_by casts plans a before play old))
     (λ new. (
       c,
-      done_any plans c c a step before is
-          ∙ or_second (list_any (is_kill_of a) (done_steps plans c before)) (list_any (is_kill_of a) (cond (c == c) (step ∷ []) []))
-          (any_one (c == c) a step (eq-eqb c c refl) new),
+      done_any plans c c a before is ∙ or_second (list_any (is_kill_of a) (done_steps plans c before)) (any_one (c == c) a step (eq-eqb c c refl) new),
     ))
 asked_by casts plans a at (Skips before c b play is named dead) e = let more =
-    asked_more plans c a (Kill b) before is (asked_by casts plans a before play e) in (more.0, more.1)
+    asked_more plans c a before is (asked_by casts plans a before play e) in (more.0, more.1)
 asked_by casts plans a at (Closes before c b play none may) e = let by = asked_by casts plans a before play e in (by.0, by.1)
 asked_by casts plans a at (Happens before other play free may) e =
-    let by = asked_by casts plans a before play (subst (λ (xs : List ℕ). contains a xs ≡ true) (free_idle before.history other free).asked e) in (by.0, by.1)
+    let by = asked_by casts plans a before play (subst (λ xs. contains a xs ≡ true) (free_idle before.history other free).asked e) in (by.0, by.1)

@@ -21,12 +21,11 @@ pub record ClosesOn (specs : List ActorSpec) (plans : ℕ → List Step) (p q : 
 
 pub closing_on : (specs : List ActorSpec) (plans : ℕ → List Step) → IsWay specs plans (ClosesOn specs plans)
 closing_on specs plans = record {
-  stays = λ p begun. record { quiesces = quiesces_same specs plans p begun.play begun.live; stuck = λ c s. s; closed = λ c a x. x };
+  stays = λ p begun. record { quiesces = quiesces_same begun.play begun.live; stuck = λ c s. s; closed = λ c a x. x };
   joins = λ p q r one two. record {
-    quiesces = quiesces_trans specs plans p q r one.quiesces two.quiesces;
+    quiesces = quiesces_trans one.quiesces two.quiesces;
     stuck = λ c s. two.stuck c (one.stuck c s);
-    closed =
-        λ c a x. two.closed c a (one.closed c a x);
+    closed = λ c a x. two.closed c a (one.closed c a x);
   };
   opens = λ p q s. record { play = s.quiesces.play; live = s.quiesces.live };
 }
@@ -35,17 +34,16 @@ closing_on specs plans = record {
 
 none_left : (named : Bool) (x y z : ℕ) → cond named (Some (x - y)) None ≡ Some 0 → cond named (Some (x - (y + z))) None ≡ Some 0
 none_left false x y z e = cc
-none_left true x y z e = let none : x - y ≡ 0 = cc in let less : x - (y + z) ≡ 0 = omega (arith, none) in ap (λ (n : ℕ). Some n) less
+none_left true x y z e = let none : x - y ≡ 0 = cc in let less : x - (y + z) ≡ 0 = omega (arith, none) in ap (λ n. Some n) less
 
-one_left : (named : Bool) (x y z n : ℕ) → z ≡ 1 → cond named (Some (x - y)) None ≡ Some (suc n) → cond named (Some (x - (y + z))) None ≡ Some n
-one_left false x y z n one e = cc
-one_left true x y z n one e = let some : x - y ≡ suc n = cc in let less : x - (y + z) ≡ n = omega (arith, some, one) in ap (λ (m : ℕ). Some m) less
+one_left : (named : Bool) (x y : ℕ) {z : ℕ} (n : ℕ) → z ≡ 1 → cond named (Some (x - y)) None ≡ Some (suc n) → cond named (Some (x - (y + z))) None ≡ Some n
+one_left false x y n one e = cc
+one_left true x y {z} n one e = let some : x - y ≡ suc n = cc in let less : x - (y + z) ≡ n = omega (arith, some, one) in ap (λ m. Some m) less
 
 release_on : (specs : List ActorSpec) (plans : ℕ → List Step) (p : At) (c a : ℕ) → IsOpen specs plans p → next_step plans c p ≡ None
     → refusal_of p.history (event.Release c a) ≡ None → ClosesOn specs plans p (with_event (event.Release c a) p)
 release_on specs plans p c a begun done may = record {
-  quiesces = quiet_quiesces specs plans (event.Release c a) p (with_event (event.Release c a) p) begun.play begun.live refl refl
-      (Closes p c a begun.play done may);
+  quiesces = quiet_quiesces (event.Release c a) begun.play begun.live refl refl (Closes p c a begun.play done may);
   stuck = λ d s. waits d s (c == d) refl;
   closed = λ d b x none named. copies d b (x none named);
 }
@@ -59,14 +57,14 @@ release_on specs plans p c a begun done may = record {
       needs = λ b next named. s.needs b next named;
     }
     waits d s true e =
-        let none : next_step plans d p ≡ None = subst (λ (x : ℕ). next_step plans x p ≡ None) (eqb-true c d e) done in
+        let none : next_step plans d p ≡ None = subst (λ x. next_step plans x p ≡ None) (eqb-true c d e) done in
         record {
           waits = λ later next may. let bad : Some later ≡ None = sym next ∙ none in cc;
           needs = λ b next named. let bad : Some _ ≡ None = sym next ∙ none in cc;
         }
 
     copies : (d b : ℕ) → copies_of d b h ≡ Some 0 → copies_of d b (add_event h (event.Release c a)) ≡ Some 0
-    copies d b e = ap (λ (n : ℕ). cond (names d (cast_of b h)) (Some ((1 + count_pairs d b h.copied) - n)) None) (times-push d b c a h.released)
+    copies d b e = ap (λ n. cond (names d (cast_of b h)) (Some ((1 + count_pairs d b h.copied) - n)) None) (times-push d b c a h.released)
         ∙ none_left (names d (cast_of b h)) (1 + count_pairs d b h.copied) (count_pairs d b h.released) (cond ((c == d) && (a == b)) 1 0) e
 
 -- ---- all of a caller's handles of an actor
@@ -75,18 +73,15 @@ close_out : (specs : List ActorSpec) (plans : ℕ → List Step) (c a n : ℕ) (
     → names c (cast_of a p.history) ≡ true → copies_of c a p.history ≡ Some n → Comes (ClosesOn specs plans) (λ q. IsClosed plans q c a) p
 close_out specs plans c a zero p begun done named copies = (p, (closing_on specs plans).stays p begun, λ _ _. copies)
 close_out specs plans c a (suc n) p begun done named copies =
-    let h = p.history in
-    let caller : is_caller c h ≡ true = named_among c a h.casts named in
-    let some : nat_lt 0 (suc n) ≡ true = grind (arith, nat_tests) in
+    let h = p.history in let caller : is_caller c h ≡ true = named_among c a h.casts named in let some : nat_lt 0 (suc n) ≡ true = grind (arith, nat_tests) in
     let free : handle_refusal (copies_of c a h) ≡ None = ap handle_refusal copies ∙ rw some refl in
     let may : refusal_of h (event.Release c a) ≡ None = rw (caller, free) refl in
-    let q = with_event (event.Release c a) p in
-    let first = release_on specs plans p c a begun done may in
+    let q = with_event (event.Release c a) p in let first = release_on specs plans p c a begun done may in
     let both : ((c == c) && (a == a)) ≡ true = and_from (c == c) (a == a) (eq-eqb c c refl) (eq-eqb a a refl) in
-    let one : ◌≡◌ {A = ℕ} (cond ((c == c) && (a == a)) 1 0) 1 = ap (λ (b : Bool). cond {A = ℕ} b 1 0) both in
+    let one : ◌≡◌ {A = ℕ} (cond ((c == c) && (a == a)) 1 0) 1 = ap (λ b. cond {A = ℕ} b 1 0) both in
     let left : copies_of c a q.history ≡ Some n
-    = ap (λ (m : ℕ). cond (names c (cast_of a h)) (Some ((1 + count_pairs c a h.copied) - m)) None) (times-push c a c a h.released)
-    ∙ one_left (names c (cast_of a h)) (1 + count_pairs c a h.copied) (count_pairs c a h.released) (cond ((c == c) && (a == a)) 1 0) n one copies in
+    = ap (λ m. cond (names c (cast_of a h)) (Some ((1 + count_pairs c a h.copied) - m)) None) (times-push c a c a h.released)
+    ∙ one_left (names c (cast_of a h)) (1 + count_pairs c a h.copied) (count_pairs c a h.released) n one copies in
     let rest = close_out specs plans c a n q ((closing_on specs plans).opens p q first) done named left in
     (rest.0, (closing_on specs plans).joins p q rest.0 first rest.1, rest.2)
 
@@ -102,5 +97,5 @@ close_one specs plans p begun c a = go (next_step plans c p) (names c (cast_of a
 
 pub close_all : (specs : List ActorSpec) (plans : ℕ → List Step) (p : At) → IsOpen specs plans p
     → Comes (ClosesOn specs plans) (λ q. AllByRecursion (λ c. AllByRecursion (IsClosed plans q c) (all_actors specs)) (all_callers specs)) p
-close_all specs plans p begun = for_all specs plans (ClosesOn specs plans) (IsClosed plans) (closing_on specs plans) (λ p q goes c a x. goes.closed c a x)
+close_all specs plans p begun = for_all (IsClosed plans) (closing_on specs plans) (λ p q goes c a x. goes.closed c a x)
     (close_one specs plans) (all_callers specs) (all_actors specs) p begun

@@ -33,13 +33,12 @@ named_deaths_step specs h (event.Collect j) s accepted = go (slice_get h.posts j
     go (Some post) e = record {
       casts = s.casts;
       posts = s.posts;
-      collected =
-          All_more (IsNamedDeath specs) h.collected post s.collected (All_at (IsNamedDeath specs) h.posts j post s.posts e);
+      collected = All_more (IsNamedDeath specs) h.collected post s.collected (All_at (IsNamedDeath specs) h.posts j s.posts e);
     }
 named_deaths_step specs h (event.Tell a c) s accepted = record {
   casts = s.casts;
   posts = All_more (IsNamedDeath specs) h.posts (DeathPost c a) s.posts
-      (ap (λ (l : List ActorSpec). names c (find (λ (cast : ActorSpec). cast.actor == a) l)) (sym s.casts) ∙ told_to_named h a c accepted);
+      (ap (λ l. names c (find (λ (cast : ActorSpec). cast.actor == a) l)) (sym s.casts) ∙ told_to_named h a c accepted);
   collected = s.collected;
 }
 named_deaths_step specs h other s accepted = record { casts = s.casts; posts = s.posts; collected = s.collected }
@@ -53,8 +52,8 @@ contained P (y ∷ xs) x all (suc i, below, is) = contained P xs x all.1 (i, ome
 pub collected_death : (specs : List ActorSpec) (plans : ℕ → List Step) (p : At) (c a : ℕ) → IsPlay specs plans p
     → Contains p.history.collected (DeathPost c a) → (names c (cast_of a p.history) ≡ true) × (is_dead a p.history ≡ true)
 collected_death specs plans p c a play has =
-    let named = play_keeps (AreNamedDeaths specs) (named_deaths_step specs) specs plans p (record { casts = refl; posts = tt; collected = tt }) play in (
-      ap (λ (l : List ActorSpec). names c (find (λ (cast : ActorSpec). cast.actor == a) l)) named.casts
+    let named = play_keeps (AreNamedDeaths specs) (named_deaths_step specs) p (record { casts = refl; posts = tt; collected = tt }) play in (
+      ap (λ l. names c (find (λ (cast : ActorSpec). cast.actor == a) l)) named.casts
           ∙ contained (IsNamedDeath specs) p.history.collected (DeathPost c a) named.collected has,
       contained (IsSoundPost p.history) p.history.collected (DeathPost c a) (world specs plans p play).sound.posts.collected has,
     )

@@ -14,17 +14,11 @@ pub record IsEarlier (h g : History) : Type 0 where
 
 -- a history counts as earlier than itself
 pub earlier_same : (h : History) → IsEarlier h h
-earlier_same h = record {
-  runs = λ a. whole_front (runs_of a h);
-  kept = λ c j answer e. e;
-  killed = λ a e. e;
-  dead = λ a e. e;
-  last = λ a e. refl;
-}
+earlier_same h = record { runs = λ a. whole_front (runs_of a h); kept = λ c j answer e. e; killed = λ a e. e; dead = λ a e. e; last = λ a e. refl }
 
 -- if a first history is earlier than a second, and this than a third, the first is earlier than the third
-pub earlier_trans : (f g h : History) → IsEarlier f g → IsEarlier g h → IsEarlier f h
-earlier_trans f g h one two = record {
+pub earlier_trans : {f g h : History} → IsEarlier f g → IsEarlier g h → IsEarlier f h
+earlier_trans {f} {g} {h} one two = record {
   runs = λ a. front_trans (runs_of a f) (runs_of a g) (runs_of a h) (one.runs a) (two.runs a);
   kept = λ c j answer e. two.kept c j answer (one.kept c j answer e);
   killed = λ a e. two.killed a (one.killed a e);
@@ -33,21 +27,21 @@ earlier_trans f g h one two = record {
 }
 
 -- a sound history is earlier than the one that an accepted event makes of it
-pub earlier_event : (h : History) (other : Event) → IsSound h → refusal_of h other ≡ None → IsEarlier h (add_event h other)
-earlier_event h other sound accepted =
+pub earlier_event : {h : History} (other : Event) → IsSound h → refusal_of h other ≡ None → IsEarlier h (add_event h other)
+earlier_event {h} other sound accepted =
     let grows = added_grows h other in
     record {
-      runs = λ a. runs_grow a h (add_event h other) grows;
-      kept = λ c. kept_extends c h (add_event h other) grows sound.posts;
+      runs = λ a. runs_grow a grows;
+      kept = λ c. kept_extends c grows sound.posts;
       killed = λ a e. subst (λ (xs : List ℕ). contains a xs ≡ true) grows.killed.1 (contains_more a h.killed grows.killed.0 e);
       dead = λ a e. dead_stays a h other accepted e;
       last = λ a e. (ended_stays a (runs_of a h) h other (record { ended = or_left (is_dead a h) (is_retired a h) e; same = refl }) accepted).same;
     }
 
 -- a sound history is earlier than the one after a step that the caller may take
-pub earlier_step : (c : ℕ) (step : Step) (h : History) → IsSound h → MayTake c step h → IsEarlier h (after_step c step h)
-earlier_step c (Await k) h sound may = earlier_same h
-earlier_step c step h sound may = earlier_event h (event_of c step) sound may
+pub earlier_step : (c : ℕ) (step : Step) {h : History} → IsSound h → MayTake c step h → IsEarlier h (after_step c step h)
+earlier_step c (Await k) {h} sound may = earlier_same h
+earlier_step c step {h} sound may = earlier_event (event_of c step) sound may
 
 -- a step runs nothing
 pub step_runs : (c : ℕ) (step : Step) (h : History) → (after_step c step h).ran ≡ h.ran

@@ -21,10 +21,10 @@ quiescent_play casts plans at play live =
 
 -- ---- what an early play is
 
-pub early_play : (casts : List ActorSpec) (plans : ℕ → List Step) (at : At) → IsEarly casts plans at → IsPlay casts plans at × IsQuiescent plans at
-early_play casts plans at (Starts _ play quiescent none alive) = (play, quiescent)
-early_play casts plans at (RunsMore before _ a c heard early may there more play quiescent) = (play, quiescent)
-early_play casts plans at (TakesMore before _ a early may more play quiescent) = (play, quiescent)
+pub early_play : {casts : List ActorSpec} {plans : ℕ → List Step} {at : At} → IsEarly casts plans at → IsPlay casts plans at × IsQuiescent plans at
+early_play (Starts _ play quiescent none alive) = (play, quiescent)
+early_play (RunsMore before _ a c heard early may there more play quiescent) = (play, quiescent)
+early_play (TakesMore before _ a early may more play quiescent) = (play, quiescent)
 
 -- ---- each choice leads to an early play
 
@@ -35,13 +35,12 @@ run_more a c heard h g k more choices killed = ((λ b. choices b ∙ more.0 b), 
 taken_more : (a : ℕ) (h g k : History) → HasTakenMore a h g → ((b : ℕ) → choices_of b k ≡ choices_of b g) → k.killed ≡ g.killed → HasTakenMore a h k
 taken_more a h g k more choices killed = ((λ b. choices b ∙ more.0 b), λ b. ap (contains b) killed ∙ more.1 b)
 
-early_run : (casts : List ActorSpec) (plans : ℕ → List Step) (at : At) (a c : ℕ) (heard : Bool) → IsEarly casts plans at
-    → refusal_of at.history (event.Run a c) ≡ None → is_some (next_item a c at.history) ≡ true
-    → (next : At) × IsEarly casts plans next × HasRunMore a c heard at.history next.history
+early_run : (casts : List ActorSpec) (plans : ℕ → List Step) (at : At) (a c : ℕ) (heard : Bool) → IsEarly casts plans at → refusal_of at.history
+    (event.Run a c) ≡ None → is_some (next_item a c at.history) ≡ true → (next : At) × IsEarly casts plans next × HasRunMore a c heard at.history next.history
 early_run casts plans at a c heard early may there = go (next_item a c at.history) refl heard there
   where
     begun : IsOpen casts plans at
-    begun = record { play = (early_play casts plans at early).0; live = (early_play casts plans at early).1.live }
+    begun = record { play = (early_play early).0; live = (early_play early).1.live }
 
     ends : (heard : Bool) → (q : At) × IsOpen casts plans q × HasRunMore a c heard at.history q.history
         → (next : At) × IsEarly casts plans next × HasRunMore a c heard at.history next.history
@@ -59,7 +58,7 @@ early_run casts plans at a c heard early may there = go (next_item a c at.histor
 early_kill : (casts : List ActorSpec) (plans : ℕ → List Step) (at : At) (a : ℕ) → IsEarly casts plans at → refusal_of at.history (event.TakeKill a) ≡ None
     → (next : At) × IsEarly casts plans next × HasTakenMore a at.history next.history
 early_kill casts plans at a early may =
-    let is = early_play casts plans at early in
+    let is = early_play early in
     let q = kill_play casts plans a at (record { play = is.0; live = is.1.live }) may in
     let done = quiesce casts plans q.0 q.1 in
     let more = taken_more a at.history q.0.history done.0.history q.2 done.1.quiesces.choices done.1.quiesces.killed in
@@ -69,11 +68,11 @@ early_kill casts plans at a early may =
 
 all_early : (casts : List ActorSpec) (plans : ℕ → List Step) → IsWholeSearch casts plans (λ a. true) (IsEarly casts plans)
 all_early casts plans = record {
-  plays = λ at early. (early_play casts plans at early).0;
-  quiescent = λ at early. (early_play casts plans at early).1;
+  plays = λ at early. (early_play early).0;
+  quiescent = λ at early. (early_play early).1;
   start =
       let done = quiesce casts plans (opened casts) (record { play = Opens; live = refl }) in
-      let none : (a : ℕ) → runs_of a done.0.history ≡ [] = λ a. ap (λ (l : List (ℕ × RunItem)). under a l) done.1.quiesces.ran in
+      let none : (a : ℕ) → runs_of a done.0.history ≡ [] = λ a. ap (λ l. under a l) done.1.quiesces.ran in
       (done.0, Starts done.0 done.1.quiesces.play done.1.quiescent none done.1.quiesces.killed, none, done.1.quiesces.killed);
   runs = λ at a c heard early may there _. early_run casts plans at a c heard early may there;
   takes = λ at a early may. early_kill casts plans at a early may;
@@ -83,4 +82,4 @@ all_early casts plans = record {
 pub early_ends : (casts : List ActorSpec) (plans : ℕ → List Step) (late : At) → IsPlay casts plans late → IsEnded plans late
     → (early : At) × IsEarly casts plans early × EndsAlike plans early late.history
 early_ends casts plans late play ended =
-    enough casts plans (λ a. true) (IsEarly casts plans) late (all_early casts plans) play ended (λ a place item at. or_second _ true refl)
+    enough casts plans (λ a. true) (IsEarly casts plans) late (all_early casts plans) play ended (λ a place item at. or_second _ {y = true} refl)

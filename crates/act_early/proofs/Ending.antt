@@ -20,9 +20,7 @@ same_kept [] [] long at = refl
 same_kept [] (y ∷ ys) long at = absurd (omega (arith, long))
 same_kept (x ∷ xs) [] long at = absurd (omega (arith, long))
 same_kept (x ∷ xs) (y ∷ ys) long at =
-    let first : x ≡ y = at 0 in
-    let rest = same_kept xs ys (omega (arith, long)) (λ k. at (suc k)) in
-    ap (λ (z : Option Answer). z ∷ xs) first ∙ ap (λ (l : List (Option Answer)). y ∷ l) rest
+    let first : x ≡ y = at 0 in let rest = same_kept xs ys (omega (arith, long)) (λ k. at (suc k)) in ap (λ z. z ∷ xs) first ∙ ap (λ l. y ∷ l) rest
 
 length-enumerate_from : {A : Type 0} (n : ℕ) (xs : List A) → length (enumerate_from n xs) ≡ length xs
 length-enumerate_from n [] = refl
@@ -34,7 +32,7 @@ kept_size c h = length-map (enumerate_from 0 (calls_of c h)) (first_answer h c) 
 
 -- where a caller made the same calls in two histories, its lists of kept answers are of one length
 pub kept_long : (c : ℕ) (h g : History) → calls_of c h ≡ calls_of c g → length (kept_of c h) ≡ length (kept_of c g)
-kept_long c h g same = kept_size c h ∙ ap (λ (l : List Submission). length l) same ∙ sym (kept_size c g)
+kept_long c h g same = kept_size c h ∙ ap (λ l. length l) same ∙ sym (kept_size c g)
 
 -- ---- the same end
 
@@ -46,26 +44,25 @@ all_calls : (plans : ℕ → List Step) (c : ℕ) (at : At) → Follows plans c 
     → calls_of c at.history ≡ filter_map submission_in (plans c)
 all_calls plans c at f past = f.calls ∙ ap (filter_map submission_in) (take-past (plans c) (steps_of c at) past)
 
-pub ends_alike : (casts : List ActorSpec) (plans : ℕ → List Step) (early late : At) → AreBoth casts plans early late → ((a : ℕ) → IsReached a late early)
+pub ends_alike : {casts : List ActorSpec} (plans : ℕ → List Step) {early : At} (late : At) → AreBoth casts plans early late → ((a : ℕ) → IsReached a late early)
     → IsEnded plans late → ((c : ℕ) → Follows plans c late) → EndsAlike plans early late.history
-ends_alike casts plans early late both r ended f =
+ends_alike plans {early} late both r ended f =
     let same_cast : (a : ℕ) → cast_of a early.history ≡ cast_of a late.history =
-    λ a. ap (λ (l : List ActorSpec). find (λ (cast : ActorSpec). cast.actor == a) l) (r 0).casts in
+    λ a. ap (λ l. find (λ (cast : ActorSpec). cast.actor == a) l) (r 0).casts in
     let live : (a : ℕ) → is_retired a late.history ≡ true → is_ended a early.history ≡ false =
-    λ a retired. ap (λ (b : Bool). b || is_retired a early.history) ((r a).dead ∙ both.late.live a retired) ∙ ap (contains a) both.quiescent.live in
+    λ a retired. ap (λ b. b || is_retired a early.history) ((r a).dead ∙ both.late.live a retired) ∙ ap (contains a) both.quiescent.live in
     -- an actor that retired ran all calls
     let count : (c a : ℕ) → is_retired a late.history ≡ true → ran_count c a early.history ≡ length (calls_to a (calls_of c early.history)) =
-    λ c a retired. ap (λ (items : List RunItem). length (items_of c items)) (r a).runs
+    λ c a retired. ap (λ items. length (items_of c items)) (r a).runs
     ∙ sym (length-map (items_of c (runs_of a late.history)) (λ (i : RunItem). i.future))
-    ∙ ap (λ (l : List ℕ). length l) (ran_all late.history a c both.late.sound both.late.retires retired)
+    ∙ ap (λ l. length l) (ran_all a c both.late.sound both.late.retires retired)
     ∙ length-map (calls_to a (calls_of c late.history)) (λ (call : ℕ × Submission). call.0)
-    ∙ ap (λ (l : List Submission). length (calls_to a l)) (sym (calls c)) in
+    ∙ ap (λ l. length (calls_to a l)) (sym (calls c)) in
     let drained : (a : ℕ) → is_retired a late.history ≡ true → is_drained a early.history ≡ true =
-    λ a retired. all_from_each (λ c. is_done c a early.history) (callers_in (cast_of a early.history)) (λ c named.
-    subst (λ (n : ℕ). has_letter (NoteLetter c a n) early.history.arrived ≡ true) (sym (count c a retired))
-    (both.quiescent.noted c a (both.quiescent.closed c a (done c) named) (live a retired))) in
+    λ a retired. all_from_each (λ c. is_done c a early.history) (callers_in (cast_of a early.history)) (λ c named. subst (λ n. has_letter (NoteLetter c a n)
+    early.history.arrived ≡ true) (sym (count c a retired)) (both.quiescent.noted c a (both.quiescent.closed c a (done c) named) (live a retired))) in
     let retires : (a : ℕ) → is_retired a late.history ≡ true → refusal_of early.history (event.Retire a) ≡ None =
-    λ a retired. let cast : is_some (cast_of a early.history) ≡ true = ap (λ (o : Option ActorSpec). is_some o) (same_cast a) ∙ both.late.cast a retired in
+    λ a retired. let cast : is_some (cast_of a early.history) ≡ true = ap (λ o. is_some o) (same_cast a) ∙ both.late.cast a retired in
     rw (cast, live a retired, drained a retired) refl in
     record {
       done = done;
@@ -96,15 +93,14 @@ ends_alike casts plans early late both r ended f =
         go : (o : Option Submission) → slice_get (calls_of c late.history) k ≡ o → kept_at (kept_of c early.history) k ≡ kept_at (kept_of c late.history) k
         go (Some call) at = some (kept_at (kept_of c late.history) k) refl (ended.over.answered c k call at)
         go None at =
-            let there : slice_get (calls_of c early.history) k ≡ None = ap (λ (l : List Submission). slice_get l k) (calls c) ∙ at in
+            let there : slice_get (calls_of c early.history) k ≡ None = ap (λ l. slice_get l k) (calls c) ∙ at in
             kept_at_is early.history c k ∙ ap (kept_by early.history c k) there ∙ sym (kept_at_is late.history c k ∙ ap (kept_by late.history c k) at)
 
 -- for each ended play that loses replies only where it may, a whole search has seen a play that ends alike
-pub enough : (casts : List ActorSpec) (plans : ℕ → List Step) (may_lose : ℕ → Bool) (Seen : At → Type 0) (late : At)
-    → IsWholeSearch casts plans may_lose Seen → IsPlay casts plans late → IsEnded plans late → LosesOnly may_lose late.history
-    → (early : At) × Seen early × EndsAlike plans early late.history
+pub enough : (casts : List ActorSpec) (plans : ℕ → List Step) (may_lose : ℕ → Bool) (Seen : At → Type 0) (late : At) → IsWholeSearch casts plans may_lose Seen →
+    IsPlay casts plans late → IsEnded plans late → LosesOnly may_lose late.history → (early : At) × Seen early × EndsAlike plans early late.history
 enough casts plans may_lose Seen late search is ended losing =
-    let s = is_seen casts plans may_lose Seen late search is losing late is (earlier_same late.history) in
-    let both = both_of casts plans may_lose Seen s.early late search s.has is in
+    let s = is_seen may_lose Seen search is losing late is (earlier_same late.history) in
+    let both = both_of may_lose Seen s.early search s.has is in
     let r = reached casts plans late s.early late is both (earlier_same late.history) s.exactly in
-    (s.early, s.has, ends_alike casts plans s.early late both r ended (follows casts plans late is))
+    (s.early, s.has, ends_alike plans late both r ended (follows casts plans late is))

@@ -12,9 +12,9 @@ use Rattle.act_early.proofs.Possible.{IsReached}
 use Rattle.act_early.proofs.Searching.{Exactly, reached}
 use Rattle.act_early.proofs.Ending.{same_kept, kept_long, ends_alike}
 
-pub both_quiescent : (casts : List ActorSpec) (plans : ℕ → List Step) (early late : At) → IsPlay casts plans early → IsQuiescent plans early
+pub both_quiescent : {casts : List ActorSpec} {plans : ℕ → List Step} {early late : At} → IsPlay casts plans early → IsQuiescent plans early
     → IsPlay casts plans late → AreBoth casts plans early late
-both_quiescent casts plans early late is quiescent goes = record {
+both_quiescent {casts} {plans} {early} {late} is quiescent goes = record {
   early = world casts plans early is;
   late = world casts plans late goes;
   goes = follows casts plans early is;
@@ -30,15 +30,15 @@ exactly early late same = record {
   killed = same.killed;
 }
 
-pub all_reached : (casts : List ActorSpec) (plans : ℕ → List Step) (early late : At) → IsPlay casts plans early → IsQuiescent plans early
+pub all_reached : {casts : List ActorSpec} {plans : ℕ → List Step} {early late : At} → IsPlay casts plans early → IsQuiescent plans early
     → IsPlay casts plans late → HaveSameChoices early.history late.history → (a : ℕ) → IsReached a late early
-all_reached casts plans early late is quiescent goes same =
-    reached casts plans late early late goes (both_quiescent casts plans early late is quiescent goes) (earlier_same late.history) (exactly early late same)
+all_reached {casts} {plans} {early} {late} is quiescent goes same =
+    reached casts plans late early late goes (both_quiescent is quiescent goes) (earlier_same late.history) (exactly early late same)
 
 pub same_end : (casts : List ActorSpec) (plans : ℕ → List Step) (early late : At) → IsPlay casts plans early → IsQuiescent plans early
     → IsPlay casts plans late → IsEnded plans late → HaveSameChoices early.history late.history → EndsAlike plans early late.history
 same_end casts plans early late is quiescent goes ended same =
-    ends_alike casts plans early late (both_quiescent casts plans early late is quiescent goes) (all_reached casts plans early late is quiescent goes same) ended
+    ends_alike plans late (both_quiescent is quiescent goes) (all_reached is quiescent goes same) ended
     (follows casts plans late goes)
 
 turned : (h g : History) → HaveSameChoices h g → HaveSameChoices g h
@@ -57,8 +57,8 @@ pub alike : (casts : List ActorSpec) (plans : ℕ → List Step) (one other : At
     → IsQuiescent plans other → HaveSameChoices one.history other.history → AreAlike one other
 alike casts plans one other is goes quiescent rests same =
     -- the first is ahead of the second, and the second of the first
-    let there : (a : ℕ) → IsReached a other one = all_reached casts plans one other is quiescent goes same in
-    let back : (a : ℕ) → IsReached a one other = all_reached casts plans other one goes rests is (turned one.history other.history same) in
+    let there : (a : ℕ) → IsReached a other one = all_reached is quiescent goes same in
+    let back : (a : ℕ) → IsReached a one other = all_reached goes rests is (turned one.history other.history same) in
     let calls : (c : ℕ) → calls_of c one.history ≡ calls_of c other.history =
     λ c. front_whole (calls_of c one.history) (calls_of c other.history) ((back 0).calls c)
     (front_short (calls_of c other.history) (calls_of c one.history) ((there 0).calls c)) in

@@ -70,21 +70,21 @@ abbrev pub Comes : (At → At → Type 0) → (At → Type 0) → At → Type 0
 Comes Goes P p = (q : At) × Goes p q × P q
 
 -- if from any open play one can go on to where this holds of a number, and it stays so, one can for a whole list
-pub for_each : (specs : List ActorSpec) (plans : ℕ → List Step) (Goes : At → At → Type 0) (P : At → ℕ → Type 0) → IsWay specs plans Goes
+pub for_each : {specs : List ActorSpec} {plans : ℕ → List Step} {Goes : At → At → Type 0} (P : At → ℕ → Type 0) → IsWay specs plans Goes
     → ((p q : At) → Goes p q → (x : ℕ) → P p x → P q x) → ((p : At) → IsOpen specs plans p → (x : ℕ) → Comes Goes (λ q. P q x) p)
     → (xs : List ℕ) (p : At) → IsOpen specs plans p → Comes Goes (λ q. AllByRecursion (P q) xs) p
-for_each specs plans Goes P way keeps one [] p begun = (p, way.stays p begun, tt)
-for_each specs plans Goes P way keeps one (x ∷ xs) p begun =
+for_each P way keeps one [] p begun = (p, way.stays p begun, tt)
+for_each {specs} {plans} {Goes} P way keeps one (x ∷ xs) p begun =
     let first = one p begun x in
-    let rest = for_each specs plans Goes P way keeps one xs first.0 (way.opens p first.0 first.1) in
+    let rest = for_each P way keeps one xs first.0 (way.opens p first.0 first.1) in
     (rest.0, way.joins p first.0 rest.0 first.1 rest.1, (keeps first.0 rest.0 rest.1 x first.2, rest.2))
 
 -- and of two lists
-pub for_all : (specs : List ActorSpec) (plans : ℕ → List Step) (Goes : At → At → Type 0) (P : At → ℕ → ℕ → Type 0) → IsWay specs plans Goes
+pub for_all : {specs : List ActorSpec} {plans : ℕ → List Step} {Goes : At → At → Type 0} (P : At → ℕ → ℕ → Type 0) → IsWay specs plans Goes
     → ((p q : At) → Goes p q → (x y : ℕ) → P p x y → P q x y) → ((p : At) → IsOpen specs plans p → (x y : ℕ) → Comes Goes (λ q. P q x y) p)
     → (xs ys : List ℕ) (p : At) → IsOpen specs plans p → Comes Goes (λ q. AllByRecursion (λ x. AllByRecursion (P q x) ys) xs) p
-for_all specs plans Goes P way keeps one xs ys p begun =
-    for_each specs plans Goes (λ q x. AllByRecursion (P q x) ys) way
+for_all {specs} {plans} {Goes} P way keeps one xs ys p begun =
+    for_each (λ q x. AllByRecursion (P q x) ys) way
     (λ p q goes x all. All_weaker (P p x) (P q x) ys (λ y held. keeps p q goes x y held) all)
-    (λ p begun x. for_each specs plans Goes (λ q y. P q x y) way (λ p q goes y held. keeps p q goes x y held) (λ p begun y. one p begun x y) ys p begun)
+    (λ p begun x. for_each (λ q y. P q x y) way (λ p q goes y held. keeps p q goes x y held) (λ p begun y. one p begun x y) ys p begun)
     xs p begun

@@ -30,13 +30,11 @@ silent_step : (specs : List ActorSpec) (c : ℕ) (step : Step) (steps : List Ste
     → IsSilentStep specs c step steps before
 silent_step specs c step steps before (first, done, later, split, others, does, rest) =
     let none = nothing first done later split in
-    let start : before ++ first ≡ before = ap (λ (l : List Event). before ++ l) none.0 ∙ append-nil before in
+    let start : before ++ first ≡ before = ap (λ l. before ++ l) none.0 ∙ append-nil before in
     record {
-      does = subst (λ (l : List Event). DoesStepBy specs c step l []) start
-          (subst (λ (l : List Event). DoesStepBy specs c step (before ++ first) l) none.1 does);
-      rest = subst (λ (l : List Event). DoesStepsBy specs c steps l [])
-          (ap (λ (l : List Event). (before ++ first) ++ l) none.1 ∙ append-nil (before ++ first) ∙ start)
-          (subst (λ (l : List Event). DoesStepsBy specs c steps ((before ++ first) ++ done) l) none.2 rest);
+      does = subst (λ l. DoesStepBy specs c step l []) start (subst (λ l. DoesStepBy specs c step (before ++ first) l) none.1 does);
+      rest = subst (λ l. DoesStepsBy specs c steps l []) (ap (λ l. (before ++ first) ++ l) none.1 ∙ append-nil (before ++ first) ∙ start)
+          (subst (λ l. DoesStepsBy specs c steps ((before ++ first) ++ done) l) none.2 rest);
     }
 
 no_event : {x : Event} → ◌≡◌ {A = List Event} [] (x ∷ []) → ⊥
@@ -74,28 +72,27 @@ finish specs plans c before [] closing p play is left does = (
 )
 finish specs plans c before (Kill a ∷ steps) closing p play is left does =
     let s = silent_step specs c (Kill a) (steps ++ closings closing) before does in
-    let silent = leaves_out specs plans c a before p play is (next_is plans c p (Kill a) steps left) (left_out s.does) in
+    let silent = leaves_out specs plans c a before p play is (next_is plans c p left) (left_out s.does) in
     let q = skipped c p in
     later specs plans c before p q silent
-    (finish specs plans c before steps closing q silent.play (silent.same ∙ is) (rest_is plans c p q (Kill a) steps silent.one left) s.rest)
+    (finish specs plans c before steps closing q silent.play (silent.same ∙ is) (rest_is plans c p silent.one left) s.rest)
   where
     left_out : DoesStepBy specs c (Kill a) before [] → Contains (history specs before).collected (DeathPost c a)
     left_out (inl asked) = absurd (no_event asked)
     left_out (inr dead) = dead.1
 finish specs plans c before (Await k ∷ steps) closing p play is left does =
     let s = silent_step specs c (Await k) (steps ++ closings closing) before does in
-    let silent = awaits specs plans c k before p play is (next_is plans c p (Await k) steps left) s.does.1 in
+    let silent = awaits specs plans c k before p play is (next_is plans c p left) s.does.1 in
     let q = taken c (Await k) p in
     later specs plans c before p q silent
-    (finish specs plans c before steps closing q silent.play (silent.same ∙ is) (rest_is plans c p q (Await k) steps silent.one left) s.rest)
+    (finish specs plans c before steps closing q silent.play (silent.same ∙ is) (rest_is plans c p silent.one left) s.rest)
 finish specs plans c before (step ∷ steps) closing p play is left does = let s =
     silent_step specs c step (steps ++ closings closing) before does in absurd (no_event s.does)
 
 -- what another caller still does stays
-left_stays : (specs : List ActorSpec) (plans : ℕ → List Step) (before later : List Event) (p q : At) (d : ℕ) → steps_of d q ≡ steps_of d p
+left_stays : {specs : List ActorSpec} (plans : ℕ → List Step) {before : List Event} (later : List Event) (p q : At) (d : ℕ) → steps_of d q ≡ steps_of d p
     → Left specs plans before later p d → Left specs plans before later q d
-left_stays specs plans before later p q d same l =
-    record { steps = l.steps; closing = l.closing; is = l.is ∙ ap (λ (n : ℕ). drop n (plans d)) (sym same); does = l.does }
+left_stays plans later p q d same l = record { steps = l.steps; closing = l.closing; is = l.is ∙ ap (λ n. drop n (plans d)) (sym same); does = l.does }
 
 record AreFinished (specs : List ActorSpec) (plans : ℕ → List Step) (before : List Event) (cs : List ℕ) (p q : At) : Type 0 where
   play : IsPlay specs plans q
@@ -104,14 +101,14 @@ record AreFinished (specs : List ActorSpec) (plans : ℕ → List Step) (before 
   done : AllByRecursion (λ c. next_step plans c q ≡ None) cs
   stay : (d : ℕ) → next_step plans d p ≡ None → next_step plans d q ≡ None
 
-finish_all : (specs : List ActorSpec) (plans : ℕ → List Step) (before : List Event) (cs : List ℕ) (p : At) → IsPlay specs plans p
+finish_all : {specs : List ActorSpec} {plans : ℕ → List Step} (before : List Event) (cs : List ℕ) (p : At) → IsPlay specs plans p
     → p.history ≡ history specs before → ((d : ℕ) → Left specs plans before [] p d) → (q : At) × AreFinished specs plans before cs p q
-finish_all specs plans before [] p play is left = (p, record { play = play; same = refl; left = left; done = tt; stay = λ d e. e })
-finish_all specs plans before (c ∷ cs) p play is left =
+finish_all before [] p play is left = (p, record { play = play; same = refl; left = left; done = tt; stay = λ d e. e })
+finish_all {specs} {plans} before (c ∷ cs) p play is left =
     let own = left c in
     let one = finish specs plans c before own.steps own.closing p play is own.is own.does in
     let q = one.0 in
-    let rest = finish_all specs plans before cs q one.1.play (one.1.same ∙ is) (λ d. later q d (c == d) refl one.1) in (
+    let rest = finish_all before cs q one.1.play (one.1.same ∙ is) (λ d. later q d (c == d) refl one.1) in (
       rest.0,
       record {
         play = rest.1.play;
@@ -123,12 +120,12 @@ finish_all specs plans before (c ∷ cs) p play is left =
     )
   where
     later : (q : At) (d : ℕ) (x : Bool) → (c == d) ≡ x → IsFinished specs plans c before p q → Left specs plans before [] q d
-    later q d true e one = subst (λ (n : ℕ). Left specs plans before [] q n) (eqb-true c d e) one.own
-    later q d false e one = left_stays specs plans before [] p q d (one.others d e) (left d)
+    later q d true e one = subst (λ n. Left specs plans before [] q n) (eqb-true c d e) one.own
+    later q d false e one = left_stays plans [] p q d (one.others d e) (left d)
 
     stays : (q : At) (d : ℕ) (x : Bool) → (c == d) ≡ x → IsFinished specs plans c before p q → next_step plans d p ≡ None → next_step plans d q ≡ None
-    stays q d true e one none = subst (λ (n : ℕ). next_step plans n q ≡ None) (eqb-true c d e) one.done
-    stays q d false e one none = ap (λ (n : ℕ). slice_get (plans d) n) (one.others d e) ∙ none
+    stays q d true e one none = subst (λ n. next_step plans n q ≡ None) (eqb-true c d e) one.done
+    stays q d false e one none = ap (λ n. slice_get (plans d) n) (one.others d e) ∙ none
 
 -- ---- all plans are done
 
@@ -146,22 +143,21 @@ left_listed specs plans before q d (Kill a) steps play is does = go (silent_step
     go (inl asked) = absurd (no_event asked)
     go (inr dead) =
         let named = (collected_death specs plans q d a play (subst (λ (h : History). Contains h.collected (DeathPost d a)) (sym is) dead.1)).0 in
-        (named_as_listed specs q.history d a (world specs plans q play).casts named).0
+        (named_as_listed q.history d a (world specs plans q play).casts named).0
 left_listed specs plans before q d (Await k) steps play is does =
     let s = silent_step specs d (Await k) steps before does in
-    may_listed specs q.history d (Await k) (world specs plans q play) (ap (λ (h : History). is_some (kept_at (kept_of d h) k)) is ∙ s.does.1)
+    may_listed specs d (Await k) (world specs plans q play) (ap (λ h. is_some (kept_at (kept_of d h) k)) is ∙ s.does.1)
 left_listed specs plans before q d step steps play is does = let s = silent_step specs d step steps before does in absurd (no_event s.does)
 
 whole : (specs : List ActorSpec) (plans : ℕ → List Step) (before : List Event) (p : At) → IsPlay specs plans p → p.history ≡ history specs before
     → ((d : ℕ) → Left specs plans before [] p d) → (q : At) × IsWholePlay specs plans before q
 whole specs plans before p play is left =
-    let all = finish_all specs plans before (all_callers specs) p play is left in (
+    let all = finish_all before (all_callers specs) p play is left in (
       all.0,
       record {
         play = all.1.play;
         is = all.1.same ∙ is;
-        done =
-            λ d. done all.0 d all.1 (all.1.left d).steps (all.1.left d).closing (all.1.left d).is (all.1.left d).does;
+        done = λ d. done all.0 d all.1 (all.1.left d).steps (all.1.left d).closing (all.1.left d).is (all.1.left d).does;
       },
     )
   where
@@ -187,60 +183,51 @@ record IsOneOn (specs : List ActorSpec) (plans : ℕ → List Step) (before : Li
   is : q.history ≡ history specs (before ++ other ∷ [])
   left : (d : ℕ) → Left specs plans (before ++ other ∷ []) events q d
 
-shifted : (specs : List ActorSpec) (plans : ℕ → List Step) (before : List Event) (other : Event) (events : List Event) (p q : At) (d : ℕ)
-    → steps_of d q ≡ steps_of d p → is_step_by d other ≡ false → Left specs plans before (other ∷ events) p d
-    → Left specs plans (before ++ other ∷ []) events q d
-shifted specs plans before other events p q d same none l = record {
+shifted : (specs : List ActorSpec) (plans : ℕ → List Step) {before : List Event} (other : Event) {events : List Event} (p q : At) (d : ℕ) →
+    steps_of d q ≡ steps_of d p → is_step_by d other ≡ false → Left specs plans before (other ∷ events) p d → Left specs plans (before ++ other ∷ []) events q d
+shifted specs plans {before} other {events} p q d same none l = record {
   steps = l.steps;
   closing = l.closing;
-  is = l.is ∙ ap (λ (n : ℕ). drop n (plans d)) (sym same);
+  is = l.is ∙ ap (λ n. drop n (plans d)) (sym same);
   does = shift specs d (l.steps ++ closings l.closing) before other events none l.does;
 }
 
-own_on : (specs : List ActorSpec) (plans : ℕ → List Step) (c : ℕ) (before : List Event) (other : Event) (events : List Event) (p : At)
-    → ((d : ℕ) → is_step_by d other ≡ (c == d)) → IsPlay specs plans p → p.history ≡ history specs before
-    → refusal_of (history specs before) other ≡ None → ((d : ℕ) → Left specs plans before (other ∷ events) p d)
-    → (q : At) × IsOneOn specs plans before other events q
-own_on specs plans c before other events p mine play is accepted left =
+own_on : {specs : List ActorSpec} {plans : ℕ → List Step} (c : ℕ) (before : List Event) (other : Event) (events : List Event) (p : At) →
+    ((d : ℕ) → is_step_by d other ≡ (c == d)) → IsPlay specs plans p → p.history ≡ history specs before → refusal_of (history specs before) other ≡ None →
+    ((d : ℕ) → Left specs plans before (other ∷ events) p d) → (q : At) × IsOneOn specs plans before other events q
+own_on {specs} {plans} c before other events p mine play is accepted left =
     let l = left c in
     let done = does_own specs plans c before other events (mine c ∙ eq-eqb c c refl) accepted l.steps l.closing p play is l.is l.does in
     (done.0, record { play = done.1.play; is = done.1.left; left = λ d. later done.0 done.1 d (c == d) refl })
   where
     later : (q : At) → IsOwn specs plans c before other events p q → (d : ℕ) (x : Bool) → (c == d) ≡ x → Left specs plans (before ++ other ∷ []) events q d
-    later q o d true e = subst (λ (n : ℕ). Left specs plans (before ++ other ∷ []) events q n) (eqb-true c d e) o.own
-    later q o d false e = shifted specs plans before other events p q d (o.others d e) (mine d ∙ e) (left d)
+    later q o d true e = subst (λ n. Left specs plans (before ++ other ∷ []) events q n) (eqb-true c d e) o.own
+    later q o d false e = shifted specs plans other p q d (o.others d e) (mine d ∙ e) (left d)
 
-free_on : (specs : List ActorSpec) (plans : ℕ → List Step) (before : List Event) (other : Event) (events : List Event) (p : At) → is_free other ≡ true
-    → ((d : ℕ) → is_step_by d other ≡ false) → IsPlay specs plans p → p.history ≡ history specs before
-    → refusal_of (history specs before) other ≡ None → ((d : ℕ) → Left specs plans before (other ∷ events) p d)
-    → (q : At) × IsOneOn specs plans before other events q
+free_on : (specs : List ActorSpec) (plans : ℕ → List Step) (before : List Event) (other : Event) (events : List Event) (p : At) → is_free other ≡ true →
+    ((d : ℕ) → is_step_by d other ≡ false) → IsPlay specs plans p → p.history ≡ history specs before → refusal_of (history specs before) other ≡ None →
+    ((d : ℕ) → Left specs plans before (other ∷ events) p d) → (q : At) × IsOneOn specs plans before other events q
 free_on specs plans before other events p free none play is accepted left = (
   with_event other p,
   record {
-    play = Happens p other play free (ap (λ (h : History). refusal_of h other) is ∙ accepted);
-    is = after_one specs before other p.history is accepted;
-    left = λ d. shifted specs plans before other events p (with_event other p) d refl (none d) (left d);
+    play = Happens p other play free (ap (λ h. refusal_of h other) is ∙ accepted);
+    is = after_one specs before other is accepted;
+    left = λ d. shifted specs plans other p (with_event other p) d refl (none d) (left d);
   },
 )
 
-one_on : (specs : List ActorSpec) (plans : ℕ → List Step) (before : List Event) (other : Event) (events : List Event) (p : At) → IsPlay specs plans p
-    → p.history ≡ history specs before
-    → refusal_of (history specs before) other ≡ None → ((d : ℕ) → Left specs plans before (other ∷ events) p d)
-    → (q : At) × IsOneOn specs plans before other events q
+one_on : (specs : List ActorSpec) (plans : ℕ → List Step) (before : List Event) (other : Event) (events : List Event) (p : At) → IsPlay specs plans p →
+    p.history ≡ history specs before → refusal_of (history specs before) other ≡ None → ((d : ℕ) → Left specs plans before (other ∷ events) p d) →
+    (q : At) × IsOneOn specs plans before other events q
 one_on specs plans before (event.Submit c a method args) events p play is accepted left =
-    own_on specs plans c before (event.Submit c a method args) events p (λ d. refl) play is accepted left
-one_on specs plans before (event.Copy c a) events p play is accepted left =
-    own_on specs plans c before (event.Copy c a) events p (λ d. refl) play is accepted left
-one_on specs plans before (event.Release c a) events p play is accepted left =
-    own_on specs plans c before (event.Release c a) events p (λ d. refl) play is accepted left
-one_on specs plans before (event.AskKill c a) events p play is accepted left =
-    own_on specs plans c before (event.AskKill c a) events p (λ d. refl) play is accepted left
-one_on specs plans before other events p play is accepted left =
-    free_on specs plans before other events p refl (λ d. refl) play is accepted left
+    own_on c before (event.Submit c a method args) events p (λ d. refl) play is accepted left
+one_on specs plans before (event.Copy c a) events p play is accepted left = own_on c before (event.Copy c a) events p (λ d. refl) play is accepted left
+one_on specs plans before (event.Release c a) events p play is accepted left = own_on c before (event.Release c a) events p (λ d. refl) play is accepted left
+one_on specs plans before (event.AskKill c a) events p play is accepted left = own_on c before (event.AskKill c a) events p (λ d. refl) play is accepted left
+one_on specs plans before other events p play is accepted left = free_on specs plans before other events p refl (λ d. refl) play is accepted left
 
-all_on : (specs : List ActorSpec) (plans : ℕ → List Step) (before events : List Event) (p : At) → IsPlay specs plans p → p.history ≡ history specs before
-    → All IsOk (outcomes (history specs before) events)
-    → ((d : ℕ) → Left specs plans before events p d) → (q : At) × IsWholePlay specs plans (before ++ events) q
+all_on : (specs : List ActorSpec) (plans : ℕ → List Step) (before events : List Event) (p : At) → IsPlay specs plans p → p.history ≡ history specs before →
+    All IsOk (outcomes (history specs before) events) → ((d : ℕ) → Left specs plans before events p d) → (q : At) × IsWholePlay specs plans (before ++ events) q
 all_on specs plans before [] p play is ok left = let done =
     whole specs plans before p play is left in
     (done.0, record { play = done.1.play; is = done.1.is ∙ ap (history specs) (sym (append-nil before)); done = done.1.done })
@@ -250,13 +237,12 @@ all_on specs plans before (other ∷ events) p play is ok left =
     let rest : All IsOk (outcomes (after h other) events) = λ i d within. ok (suc i) d (omega arith) in
     let one = one_on specs plans before other events p play is (accepted_none h other first) left in
     let next = all_on specs plans (before ++ other ∷ []) events one.0 one.1.play one.1.is
-    (subst (λ (g : History). All IsOk (outcomes g events)) (sym (history_more specs before other)) rest) one.1.left in
+    (subst (λ g. All IsOk (outcomes g events)) (sym (history_more specs before other)) rest) one.1.left in
     (next.0, record { play = next.1.play; is = next.1.is ∙ ap (history specs) (append_assoc before (other ∷ []) events); done = next.1.done })
 
 -- accepted events that keep to plans are a play of these plans, and each plan is done
-pub list_play : (casts : List ActorSpec) (plans : ℕ → List Step) (events : List Event) → All IsOk (outcomes (opening casts) events)
-    → KeepsToPlans casts plans events
-    → (at : At) × IsPlay casts plans at × (at.history ≡ history casts events) × ((c : ℕ) → next_step plans c at ≡ None)
+pub list_play : (casts : List ActorSpec) (plans : ℕ → List Step) (events : List Event) → All IsOk (outcomes (opening casts) events) →
+    KeepsToPlans casts plans events → (at : At) × IsPlay casts plans at × (at.history ≡ history casts events) × ((c : ℕ) → next_step plans c at ≡ None)
 list_play casts plans events ok keeps =
     let done = all_on casts plans [] events (opened casts) Opens refl ok
     (λ c. let k = keeps c in record { steps = plans c; closing = k.0; is = refl; does = k.1 }) in

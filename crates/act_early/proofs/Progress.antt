@@ -56,15 +56,14 @@ submitted_one c d step h = no_call (calls_of d h) (c == d) step refl
 -- to the copies that a caller made of a handle a step adds one if it is this caller's and copies that, else none
 pub copied_one : (c d a : ℕ) (step : Step) (h : History)
     → count_pairs d a (after_step c step h).copied ≡ count_pairs d a h.copied + length (filter (is_copy_of a) (cond (c == d) (step ∷ []) []))
-copied_one c d a (Copy b) h = times-push d a c b h.copied
-    ∙ ap (λ (n : ℕ). count_pairs d a h.copied + n) (one_pair (c == d) (b == a) (is_copy_of a) (Copy b) refl)
+copied_one c d a (Copy b) h = times-push d a c b h.copied ∙ ap (λ n. count_pairs d a h.copied + n) (one_pair (c == d) (b == a) (is_copy_of a) (Copy b) refl)
 copied_one c d a step h = no_pair _ (c == d) (is_copy_of a) step refl
 
 -- to the copies that a caller released of a handle a step adds one if it is this caller's and releases that, else none
 pub released_one : (c d a : ℕ) (step : Step) (h : History)
     → count_pairs d a (after_step c step h).released ≡ count_pairs d a h.released + length (filter (is_release_of a) (cond (c == d) (step ∷ []) []))
 released_one c d a (Release b) h = times-push d a c b h.released
-    ∙ ap (λ (n : ℕ). count_pairs d a h.released + n) (one_pair (c == d) (b == a) (is_release_of a) (Release b) refl)
+    ∙ ap (λ n. count_pairs d a h.released + n) (one_pair (c == d) (b == a) (is_release_of a) (Release b) refl)
 released_one c d a step h = no_pair _ (c == d) (is_release_of a) step refl
 
 -- ---- what no step adds
@@ -102,19 +101,18 @@ pub counted : (p : Step → Bool) (before more all : List Step) (n : ℕ) → n 
     → n + length (filter p more) ≡ length (filter p all)
 counted p before more all n e is = rw (is, filter-append p before more, length-append, e) refl
 
-taken_follows : (plans : ℕ → List Step) (c d : ℕ) (step : Step) (at : At) → next_step plans c at ≡ Some step → Follows plans d at
+taken_follows : (plans : ℕ → List Step) (c d : ℕ) {step : Step} (at : At) → next_step plans c at ≡ Some step → Follows plans d at
     → Follows plans d (taken c step at)
-taken_follows plans c d step at is f =
+taken_follows plans c d {step} at is f =
     let more : List Step = cond (c == d) (step ∷ []) [] in
     let all : done_steps plans d (taken c step at) ≡ done_steps plans d at ++ more = done-push plans c d at step is in
     record {
-      calls = submitted_one c d step at.history ∙ ap (λ (l : List Submission). l ++ filter_map submission_in more) f.calls
+      calls = submitted_one c d step at.history ∙ ap (λ l. l ++ filter_map submission_in more) f.calls
           ∙ sym (filter_map-append submission_in (done_steps plans d at) more) ∙ ap (filter_map submission_in) (sym all);
       copied = λ a. copied_one c d a step at.history
           ∙ counted (is_copy_of a) (done_steps plans d at) more (done_steps plans d (taken c step at)) (count_pairs d a at.history.copied) (f.copied a) all;
-      released = λ a later next. released_one c d a step at.history
-          ∙ counted (is_release_of a) (done_steps plans d at) more (done_steps plans d (taken c step at)) (count_pairs d a at.history.released)
-          (old a later next) all;
+      released = λ a later next. released_one c d a step at.history ∙ counted (is_release_of a) (done_steps plans d at) more
+          (done_steps plans d (taken c step at)) (count_pairs d a at.history.released) (old a later next) all;
     }
   where
     old : (a : ℕ) (later : Step) → next_step plans d (taken c step at) ≡ Some later
@@ -122,12 +120,11 @@ taken_follows plans c d step at is f =
     old a later next = go (c == d) refl
       where
         go : (same : Bool) → (c == d) ≡ same → count_pairs d a at.history.released ≡ length (filter (is_release_of a) (done_steps plans d at))
-        go true e = f.released a step (subst (λ (x : ℕ). next_step plans x at ≡ Some step) (eqb-true c d e) is)
+        go true e = f.released a step (subst (λ x. next_step plans x at ≡ Some step) (eqb-true c d e) is)
         go false e = f.released a later (sym (other_next plans c d at e) ∙ next)
 
 skipped_follows : (plans : ℕ → List Step) (c d a : ℕ) (at : At) → next_step plans c at ≡ Some (Kill a) → Follows plans d at → Follows plans d (skipped c at)
-skipped_follows plans c d a at is f =
-    let g = taken_follows plans c d (Kill a) at is f in record { calls = g.calls; copied = g.copied; released = g.released }
+skipped_follows plans c d a at is f = let g = taken_follows plans c d at is f in record { calls = g.calls; copied = g.copied; released = g.released }
 
 closed_follows : (plans : ℕ → List Step) (c d a : ℕ) (at : At) → next_step plans c at ≡ None → Follows plans d at
     → Follows plans d (with_event (event.Release c a) at)
@@ -139,23 +136,18 @@ closed_follows plans c d a at none f = record {
   where
     same : (b : ℕ) (step : Step) → next_step plans d at ≡ Some step → (x : Bool) → (c == d) ≡ x
         → count_pairs d b at.history.released + cond (x && (a == b)) 1 0 ≡ length (filter (is_release_of b) (done_steps plans d at))
-    same b step next true e = let bad : None ≡ Some step = sym (subst (λ (x : ℕ). next_step plans x at ≡ None) (eqb-true c d e) none) ∙ next in cc
+    same b step next true e = let bad : None ≡ Some step = sym (subst (λ x. next_step plans x at ≡ None) (eqb-true c d e) none) ∙ next in cc
     same b step next false e = let zero_more : count_pairs d b at.history.released + 0 ≡ count_pairs d b at.history.released =
         omega arith in zero_more ∙ f.released b step next
 
-idle_follows : (plans : ℕ → List Step) (d : ℕ) (at : At) (g : History) → IsIdle at.history g → Follows plans d at
+idle_follows : {plans : ℕ → List Step} (d : ℕ) (at : At) {g : History} → IsIdle at.history g → Follows plans d at
     → Follows plans d (record { history = g; stepped = at.stepped })
-idle_follows plans d at g idle f = record {
-  calls = rw idle.submitted f.calls;
-  copied = rw idle.copied f.copied;
-  released = rw idle.released f.released;
-}
+idle_follows d at idle f = record { calls = rw idle.submitted f.calls; copied = rw idle.copied f.copied; released = rw idle.released f.released }
 
 -- in a play of plans each caller made the calls and copies of its done steps, and, until its plan is done, the releases
 pub follows : (casts : List ActorSpec) (plans : ℕ → List Step) (at : At) → IsPlay casts plans at → (d : ℕ) → Follows plans d at
 follows casts plans at Opens d = record { calls = refl; copied = λ a. refl; released = λ a step next. refl }
-follows casts plans at (Takes before c step play is may) d = taken_follows plans c d step before is (follows casts plans before play d)
+follows casts plans at (Takes before c step play is may) d = taken_follows plans c d before is (follows casts plans before play d)
 follows casts plans at (Skips before c a play is named dead) d = skipped_follows plans c d a before is (follows casts plans before play d)
 follows casts plans at (Closes before c a play none may) d = closed_follows plans c d a before none (follows casts plans before play d)
-follows casts plans at (Happens before other play free may) d =
-    idle_follows plans d before (add_event before.history other) (free_idle before.history other free) (follows casts plans before play d)
+follows casts plans at (Happens before other play free may) d = idle_follows d before (free_idle before.history other free) (follows casts plans before play d)

@@ -1,7 +1,7 @@
 -- Where a quiescent play ends as an ended one did, its actors can retire.
-use Rattle.act_early.proofs.Common.{◌≡◌, ℕ, Bool, true, false, List, [], ◌∷◌, ◌++◌, Option, None, refl, ap, sym, ◌∙◌, subst, ◌==◌, ◌||◌, find, slice_get}
-use Rattle.act_early.proofs.Common.{is_some, AllByRecursion, eqb-true, eq-eqb, Submission, Step, Answer, kept_at, ActorSpec, contains, cast_of, is_dead}
-use Rattle.act_early.proofs.Common.{is_retired, is_ended, refusal_of, At, IsPlay, Happens, IsQuiescent, IsEnded, EndsAlike, IsSameEnd, or_left, both_ways}
+use Rattle.act_early.proofs.Common.{◌≡◌, ℕ, Bool, true, false, List, [], ◌∷◌, ◌++◌, None, refl, ap, sym, ◌∙◌, subst, ◌==◌, ◌||◌, find, slice_get, is_some}
+use Rattle.act_early.proofs.Common.{AllByRecursion, eqb-true, eq-eqb, Step, kept_at, ActorSpec, contains, cast_of, is_dead, is_retired, is_ended, refusal_of}
+use Rattle.act_early.proofs.Common.{At, IsPlay, Happens, IsQuiescent, IsEnded, EndsAlike, IsSameEnd, or_left, both_ways}
 use Rattle.act_rules.specs.declared.event.Event.TheVariants as event
 use Rattle.act_early.proofs.Worlds.{IsWorld, world, contains_push, either_of, or_second, not_dead, retire_needs}
 use Rattle.act_early.proofs.Listed.{all_actors, all_listed, cast_listed}
@@ -30,20 +30,19 @@ retire_one specs plans early late x before ends play only = go (is_retired x lat
     go true false is has =
         let needed = retire_needs early.history x (ends.retires x is) in
         let alive : is_ended x (with_retired early before).history ≡ false =
-        ap (λ (d : Bool). d || contains x before) (not_dead x early.history needed.1) ∙ has in
+        ap (λ d. d || contains x before) (not_dead x early.history needed.1) ∙ has in
         let may : refusal_of (with_retired early before).history (event.Retire x) ≡ None = rw (needed.0, alive, needed.2) refl in
         record {
           now = before ++ x ∷ [];
           play = Happens (with_retired early before) (event.Retire x) play refl may;
           only = λ a e. either_of (contains a before) (x == a) (is_retired a late.history ≡ true) (sym (contains_push a x before) ∙ e) (only a)
-              (λ same. subst (λ (y : ℕ). is_retired y late.history ≡ true) (eqb-true x a same) is);
+              (λ same. subst (λ y. is_retired y late.history ≡ true) (eqb-true x a same) is);
           stay = λ a e. contains_push a x before ∙ or_left (contains a before) (x == a) e;
-          all = ((λ _. contains_push x x before ∙ or_second (contains x before) (x == x) (eq-eqb x x refl)), tt);
+          all = ((λ _. contains_push x x before ∙ or_second (contains x before) (eq-eqb x x refl)), tt);
         }
 
-retire_all : (specs : List ActorSpec) (plans : ℕ → List Step) (early late : At) (xs before : List ℕ) → EndsAlike plans early late.history
-    → IsPlay specs plans (with_retired early before) → ((a : ℕ) → contains a before ≡ true → is_retired a late.history ≡ true)
-    → HasRetired specs plans early late xs before
+retire_all : (specs : List ActorSpec) (plans : ℕ → List Step) (early late : At) (xs before : List ℕ) → EndsAlike plans early late.history → IsPlay specs plans
+    (with_retired early before) → ((a : ℕ) → contains a before ≡ true → is_retired a late.history ≡ true) → HasRetired specs plans early late xs before
 retire_all specs plans early late [] before ends play only = record { now = before; play = play; only = only; stay = λ a e. e; all = tt }
 retire_all specs plans early late (x ∷ xs) before ends play only =
     let one = retire_one specs plans early late x before ends play only in
@@ -57,16 +56,15 @@ retire_all specs plans early late (x ∷ xs) before ends play only =
     }
 
 -- where a quiescent play ends as an ended one did, there is an ended play with just that end, who retired included
-pub retired_play : (casts : List ActorSpec) (plans : ℕ → List Step) (early late : At) → IsPlay casts plans early → IsQuiescent plans early
+pub retired_play : (casts : List ActorSpec) (plans : ℕ → List Step) {early : At} (late : At) → IsPlay casts plans early → IsQuiescent plans early
     → IsPlay casts plans late → IsEnded plans late → EndsAlike plans early late.history
     → (end : At) × IsPlay casts plans end × IsEnded plans end × IsSameEnd end.history late.history
-retired_play casts plans early late play quiescent goes ended ends =
-    let begun : IsPlay casts plans (with_retired early []) = subst (λ (xs : List ℕ). IsPlay casts plans (with_retired early xs)) quiescent.live play in
+retired_play casts plans {early} late play quiescent goes ended ends =
+    let begun : IsPlay casts plans (with_retired early []) = subst (λ xs. IsPlay casts plans (with_retired early xs)) quiescent.live play in
     let done : HasRetired casts plans early late (all_actors casts) [] = retire_all casts plans early late (all_actors casts) [] ends begun (λ a e. cc) in
-    let end = with_retired early done.now in
-    let w : IsWorld casts late.history = world casts plans late goes in
+    let end = with_retired early done.now in let w : IsWorld casts late.history = world casts plans late goes in
     let listed : (a : ℕ) → is_retired a late.history ≡ true → contains a (all_actors casts) ≡ true =
-    λ a retired. cast_listed a casts (ap (λ (l : List ActorSpec). is_some (find (λ (cast : ActorSpec). cast.actor == a) l)) (sym w.casts) ∙ w.cast a retired) in
+    λ a retired. cast_listed a casts (ap (λ l. is_some (find (λ (cast : ActorSpec). cast.actor == a) l)) (sym w.casts) ∙ w.cast a retired) in
     let same : IsSameEnd end.history late.history =
     record {
       calls = ends.calls;
@@ -81,14 +79,13 @@ retired_play casts plans early late play quiescent goes ended ends =
     record {
       done = ends.done;
       over = record {
-        answered = λ c k call at.
-            ap (λ (l : List (Option Answer)). is_some (kept_at l k)) (ends.kept c)
-            ∙ ended.over.answered c k call (ap (λ (l : List Submission). slice_get l k) (sym (ends.calls c)) ∙ at);
+        answered =
+            λ c k call at. ap (λ l. is_some (kept_at l k)) (ends.kept c) ∙ ended.over.answered c k call (ap (λ l. slice_get l k) (sym (ends.calls c)) ∙ at);
         ended = λ a cast.
             let there : is_some (cast_of a late.history) ≡ true =
-            ap (λ (l : List ActorSpec). is_some (find (λ (cast : ActorSpec). cast.actor == a) l)) (sym alike_casts) ∙ cast in
-            ap (λ (x : Bool). x || contains a done.now) (ends.dead a)
-            ∙ ap (λ (x : Bool). is_dead a late.history || x) (same.retired a)
+            ap (λ l. is_some (find (λ (cast : ActorSpec). cast.actor == a) l)) (sym alike_casts) ∙ cast in
+            ap (λ x. x || contains a done.now) (ends.dead a)
+            ∙ ap (λ x. is_dead a late.history || x) (same.retired a)
             ∙ ended.over.ended a there;
       };
     } in

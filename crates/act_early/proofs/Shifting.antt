@@ -18,7 +18,7 @@ kept_after casts before other c k e = go (kept_at (kept_of c (history casts befo
     go (Some answer) is some =
         let stays = after_all_keeps (KeepsAnswer c k answer) (kept_step c k answer) (history casts before) (other ∷ [])
         (record { sound = (world_sound casts before).posts; kept = is }) in
-        ap (λ (h : History). is_some (kept_at (kept_of c h) k)) (history_more casts before other) ∙ ap (λ (o : Option Answer). is_some o) stays.kept
+        ap (λ h. is_some (kept_at (kept_of c h) k)) (history_more casts before other) ∙ ap (λ o. is_some o) stays.kept
 
 collected_after : (casts : List ActorSpec) (before : List Event) (other : Event) (post : Post) → Contains (history casts before).collected post
     → Contains (history casts (before ++ other ∷ [])).collected post
@@ -27,7 +27,7 @@ collected_after casts before other post has =
     let front : IsPrefix h.collected (after h other).collected =
     after_keeps (λ g. IsPrefix h.collected g.collected) h other (whole_front h.collected) (λ _. (added_grows h other).collected) in
     subst (λ (g : History). Contains g.collected post) (sym (history_more casts before other))
-    (subst (λ (posts : List Post). Contains posts post) front.1 (Contains-append_left h.collected front.0 post has))
+    (subst (λ posts. Contains posts post) front.1 (Contains-append_left h.collected front.0 post has))
 
 -- ---- lists
 
@@ -63,23 +63,22 @@ pub record IsPassed (casts : List ActorSpec) (c : ℕ) (step : Step) (before : L
   pub none : done ≡ []
   pub rest : later ≡ other ∷ events
 
-passes : (casts : List ActorSpec) (c : ℕ) (step : Step) (before : List Event) (other : Event) (events done later : List Event) → is_step_by c other ≡ false
-    → other ∷ events ≡ done ++ later → DoesStepBy casts c step before done
-    → IsPassed casts c step before other events done later
+passes : (casts : List ActorSpec) (c : ℕ) (step : Step) (before : List Event) (other : Event) (events done later : List Event) → is_step_by c other ≡ false →
+    other ∷ events ≡ done ++ later → DoesStepBy casts c step before done → IsPassed casts c step before other events done later
 passes casts c (Kill a) before other events done later none is (inl asked) =
-    absurd (own_step c other (event.AskKill c a) (eq-eqb c c refl) (head_same _ _ _ _ (is ∙ ap (λ (l : List Event). l ++ later) asked)) none)
+    absurd (own_step c other (event.AskKill c a) (eq-eqb c c refl) (head_same _ _ _ _ (is ∙ ap (λ l. l ++ later) asked)) none)
 passes casts c (Kill a) before other events done later none is (inr dead) = record {
   still = inr (refl, collected_after casts before other (DeathPost c a) dead.1);
   none = dead.0;
-  rest = sym (is ∙ ap (λ (l : List Event). l ++ later) dead.0);
+  rest = sym (is ∙ ap (λ l. l ++ later) dead.0);
 }
 passes casts c (Await k) before other events done later none is does = record {
   still = (refl, kept_after casts before other c k does.1);
   none = does.0;
-  rest = sym (is ∙ ap (λ (l : List Event). l ++ later) does.0);
+  rest = sym (is ∙ ap (λ l. l ++ later) does.0);
 }
 passes casts c step before other events done later none is does =
-    absurd (own_step c other (event_of c step) (eq-eqb c c refl) (head_same _ _ _ _ (is ∙ ap (λ (l : List Event). l ++ later) does)) none)
+    absurd (own_step c other (event_of c step) (eq-eqb c c refl) (head_same _ _ _ _ (is ∙ ap (λ l. l ++ later) does)) none)
 
 pub shift : (casts : List ActorSpec) (c : ℕ) (steps : List Step) (before : List Event) (other : Event) (events : List Event) → is_step_by c other ≡ false
     → DoesStepsBy casts c steps before (other ∷ events) → DoesStepsBy casts c steps (before ++ other ∷ []) events
@@ -87,28 +86,28 @@ shift casts c [] before other events none does = others_rest c other events does
 shift casts c (step ∷ steps) before other events none (x ∷ first, done, later, is, others, does, rest) =
     let same : x ≡ other = sym (head_same _ _ _ _ is) in
     let joined : (l : List Event) → before ++ x ∷ l ≡ (before ++ other ∷ []) ++ l =
-    λ l. ap (λ (y : Event). before ++ y ∷ l) same ∙ sym (append_assoc before (other ∷ []) l) in (
+    λ l. ap (λ y. before ++ y ∷ l) same ∙ sym (append_assoc before (other ∷ []) l) in (
       first,
       done,
       later,
       tail_same _ _ _ _ is,
       others_rest c x first others,
-      subst (λ (l : List Event). DoesStepBy casts c step l done) (joined first) does,
-      subst (λ (l : List Event). DoesStepsBy casts c steps l later) (ap (λ (l : List Event). l ++ done) (joined first)) rest,
+      subst (λ l. DoesStepBy casts c step l done) (joined first) does,
+      subst (λ l. DoesStepsBy casts c steps l later) (ap (λ l. l ++ done) (joined first)) rest,
     )
 shift casts c (step ∷ steps) before other events none ([], done, later, is, others, does, rest) =
     let passed = passes casts c step before other events done later none is
-    (subst (λ (l : List Event). DoesStepBy casts c step l done) (append-nil before) does) in
+    (subst (λ l. DoesStepBy casts c step l done) (append-nil before) does) in
     let back : DoesStepsBy casts c steps before (other ∷ events)
-    = subst (λ (l : List Event). DoesStepsBy casts c steps before l) passed.rest
-    (subst (λ (l : List Event). DoesStepsBy casts c steps l later)
-    (ap (λ (l : List Event). (before ++ []) ++ l) passed.none ∙ append-nil (before ++ []) ∙ append-nil before) rest) in (
+    = subst (λ l. DoesStepsBy casts c steps before l) passed.rest
+    (subst (λ l. DoesStepsBy casts c steps l later)
+    (ap (λ l. (before ++ []) ++ l) passed.none ∙ append-nil (before ++ []) ∙ append-nil before) rest) in (
       [],
       [],
       events,
       refl,
       none_others c,
-      subst (λ (l : List Event). DoesStepBy casts c step l []) (sym (append-nil (before ++ other ∷ []))) passed.still,
-      subst (λ (l : List Event). DoesStepsBy casts c steps l events) (sym (append-nil ((before ++ other ∷ []) ++ []) ∙ append-nil (before ++ other ∷ [])))
+      subst (λ l. DoesStepBy casts c step l []) (sym (append-nil (before ++ other ∷ []))) passed.still,
+      subst (λ l. DoesStepsBy casts c steps l events) (sym (append-nil ((before ++ other ∷ []) ++ []) ∙ append-nil (before ++ other ∷ [])))
           (shift casts c steps before other events none back),
     )

@@ -23,15 +23,13 @@ step_keeps P kept c (Await k) h held may = held
 step_keeps P kept c step h held may = kept h (event_of c step) held may
 
 -- what holds of the world as it is opened, and each accepted event keeps, holds after each play of plans
-pub play_keeps : (P : History → Type 0) → IsKept P → (casts : List ActorSpec) (plans : ℕ → List Step) (at : At) → P (opening casts) → IsPlay casts plans at
+pub play_keeps : (P : History → Type 0) → IsKept P → {casts : List ActorSpec} {plans : ℕ → List Step} (at : At) → P (opening casts) → IsPlay casts plans at
     → P at.history
-play_keeps P kept casts plans at first Opens = first
-play_keeps P kept casts plans at first (Takes before c step play is may) =
-    step_keeps P kept c step before.history (play_keeps P kept casts plans before first play) may
-play_keeps P kept casts plans at first (Skips before c a play is named dead) = play_keeps P kept casts plans before first play
-play_keeps P kept casts plans at first (Closes before c a play is may) =
-    kept before.history (event.Release c a) (play_keeps P kept casts plans before first play) may
-play_keeps P kept casts plans at first (Happens before other play free may) = kept before.history other (play_keeps P kept casts plans before first play) may
+play_keeps P kept at first Opens = first
+play_keeps P kept {casts} {plans} at first (Takes before c step play is may) = step_keeps P kept c step before.history (play_keeps P kept before first play) may
+play_keeps P kept {casts} {plans} at first (Skips before c a play is named dead) = play_keeps P kept before first play
+play_keeps P kept {casts} {plans} at first (Closes before c a play is may) = kept before.history (event.Release c a) (play_keeps P kept before first play) may
+play_keeps P kept {casts} {plans} at first (Happens before other play free may) = kept before.history other (play_keeps P kept before first play) may
 
 -- ---- a retired actor isn't dead
 
@@ -51,13 +49,13 @@ either_of true y P e f g = f refl
 either_of false y P e f g = g e
 
 -- one of two tests passes where the second does
-pub or_second : (x y : Bool) → y ≡ true → (x || y) ≡ true
-or_second true y e = refl
-or_second false y e = e
+pub or_second : (x : Bool) {y : Bool} → y ≡ true → (x || y) ≡ true
+or_second true e = refl
+or_second false e = e
 
 -- no test comes out both ways
-pub not_so : (b : Bool) → b ≡ true → b ≡ false → ⊥
-not_so b yes_is no_is = let e : true ≡ false = sym yes_is ∙ no_is in cc
+pub not_so : {b : Bool} → b ≡ true → b ≡ false → ⊥
+not_so yes_is no_is = let e : true ≡ false = sym yes_is ∙ no_is in cc
 
 -- an actor that may take a kill has a cast, hasn't ended, and its kill was asked
 pub take_needs : (h : History) (a : ℕ) → refusal_of h (event.TakeKill a) ≡ None
@@ -88,11 +86,11 @@ retired_run h b c live accepted a retired = go (next_item b c h) refl retired
     go : (o : Option RunItem) → next_item b c h ≡ o → is_retired a (after_run b c h o) ≡ true → is_dead a (after_run b c h o) ≡ false
     go None e r = live a r
     go (Some item) e r =
-        let ended : is_ended a h ≡ true = or_second (is_dead a h) (is_retired a h) r in
+        let ended : is_ended a h ≡ true = or_second (is_dead a h) r in
         let same = (ended_stays a (runs_of a h) h (event.Run b c) (record { ended = ended; same = refl }) accepted).same in
         let same' : runs_of a (after_run b c h (Some item)) ≡ runs_of a h =
-        subst (λ (o : Option RunItem). runs_of a (after_run b c h o) ≡ runs_of a h) e same in
-        subst (λ (items : List RunItem). (contains a h.killed || has_terminated items) ≡ false) (sym same') (live a r)
+        subst (λ o. runs_of a (after_run b c h o) ≡ runs_of a h) e same in
+        subst (λ items. (contains a h.killed || has_terminated items) ≡ false) (sym same') (live a r)
 
 pub retired_live_step : IsKept RetiredLive
 retired_live_step h (event.Run b c) live accepted a retired = retired_run h b c live accepted a retired
@@ -100,15 +98,14 @@ retired_live_step h (event.TakeKill b) live accepted a retired = go (b == a) ref
   where
     go : (same : Bool) → (b == a) ≡ same → (contains a (h.killed ++ b ∷ []) || has_terminated (runs_of a h)) ≡ false
     go true e =
-        let is : b ≡ a = eqb-true b a e in
-        let ended : is_ended a h ≡ true = or_second (is_dead a h) (is_retired a h) retired in
-        let lives : is_ended a h ≡ false = subst (λ (x : ℕ). is_ended x h ≡ false) is (take_needs h b accepted).1 in
+        let is : b ≡ a = eqb-true b a e in let ended : is_ended a h ≡ true = or_second (is_dead a h) retired in
+        let lives : is_ended a h ≡ false = subst (λ x. is_ended x h ≡ false) is (take_needs h b accepted).1 in
         let bad : true ≡ false = sym ended ∙ lives in cc
     go false e = let lives = or_parts (contains a h.killed) (has_terminated (runs_of a h)) (live a retired) in
         rw (contains_push a b h.killed, e, lives.0) lives.1
 retired_live_step h (event.Retire b) live accepted a retired =
     either_of (contains a h.retired) (b == a) (is_dead a h ≡ false) (sym (contains_push a b h.retired) ∙ retired) (live a)
-    (λ e. not_dead a h (subst (λ (x : ℕ). is_ended x h ≡ false) (eqb-true b a e) (retire_needs h b accepted).1))
+    (λ e. not_dead a h (subst (λ x. is_ended x h ≡ false) (eqb-true b a e) (retire_needs h b accepted).1))
 retired_live_step h other live accepted a retired = live a retired
 
 -- ---- a retired actor has a cast
@@ -124,7 +121,7 @@ retired_cast_step h (event.Run b c) cast accepted a retired = go (next_item b c 
     go (Some item) r = cast a r
 retired_cast_step h (event.Retire b) cast accepted a retired =
     either_of (contains a h.retired) (b == a) (is_some (cast_of a h) ≡ true) (sym (contains_push a b h.retired) ∙ retired) (cast a)
-    (λ e. subst (λ (x : ℕ). is_some (cast_of x h) ≡ true) (eqb-true b a e) (retire_needs h b accepted).0)
+    (λ e. subst (λ x. is_some (cast_of x h) ≡ true) (eqb-true b a e) (retire_needs h b accepted).0)
 retired_cast_step h other cast accepted a retired = cast a retired
 
 -- ---- all of it
@@ -150,7 +147,7 @@ world_step casts h other w accepted = record {
 
 -- what a play of plans leaves is a world of its casts: sound, and what retired has a cast and isn't dead
 pub world : (casts : List ActorSpec) (plans : ℕ → List Step) (at : At) → IsPlay casts plans at → IsWorld casts at.history
-world casts plans at play = play_keeps (IsWorld casts) (world_step casts) casts plans at (record {
+world casts plans at play = play_keeps (IsWorld casts) (world_step casts) at (record {
   sound = world_sound casts [];
   retires = world_retires casts [];
   follows = λ a place ends. cc;

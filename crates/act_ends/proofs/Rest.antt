@@ -1,6 +1,6 @@
 -- Actors that retire, one after another.
-use Rattle.act_ends.proofs.Common.{◌≡◌, ℕ, ◌+◌, ◌≤◌, arith, Bool, true, false, List, [], ◌∷◌, ◌++◌, Option, Some, None, Ok, refl, ap, sym, ◌∙◌, subst, ◌||◌}
-use Rattle.act_ends.proofs.Common.{◌==◌, is_some, map, ActorSpec, History, contains, cast_of, is_dead, is_ended, history, WorldView, world_summary, IsResting}
+use Rattle.act_ends.proofs.Common.{◌≡◌, ℕ, ◌+◌, ◌≤◌, arith, Bool, true, false, List, [], ◌∷◌, ◌++◌, Option, Some, None, Ok, refl, ap, sym, ◌∙◌, ◌||◌, ◌==◌}
+use Rattle.act_ends.proofs.Common.{is_some, map, ActorSpec, History, contains, cast_of, is_dead, history, WorldView, world_summary, IsResting}
 use Rattle.std.proofs.lemmas.Bool.{eqb-true, eqb-false, eq-eqb}
 use Rattle.act_rules.specs.declared.event.Event.{Event}
 use Rattle.act_rules.specs.declared.event.Event.TheVariants as event
@@ -20,11 +20,10 @@ accepted h event None did e = refl
 accepted h event (Some refusal) did e = cc
 
 -- one actor more, which retires
-pub rest_more : (casts : List ActorSpec) (h : History) (n a : ℕ) (old new : WorldView) (did : Did) → a ≡ n + 1
-    → ((events : List Event) → IsReachedBy casts events old → Ok did ≡ outcome_of (history casts events) (event.Retire a))
-    → ((events : List Event) → IsReachedBy casts events old → IsReachedBy casts (events ++ event.Retire a ∷ []) new)
-    → IsResting casts h n old → IsResting casts h (n + 1) new
-rest_more casts h n a old new did next told reached is = record {
+pub rest_more : (casts : List ActorSpec) (h : History) {n a : ℕ} {old : WorldView} (new : WorldView) (did : Did) → a ≡ n + 1 →
+    ((events : List Event) → IsReachedBy casts events old → Ok did ≡ outcome_of (history casts events) (event.Retire a)) → ((events : List Event) →
+    IsReachedBy casts events old → IsReachedBy casts (events ++ event.Retire a ∷ []) new) → IsResting casts h n old → IsResting casts h (n + 1) new
+rest_more casts h {n} {a} new did next told reached is = record {
   events = is.events ++ event.Retire a ∷ [];
   reached = reached is.events is.reached;
   retired = is.retired ++ a ∷ [];
@@ -38,8 +37,8 @@ rest_more casts h n a old new did next told reached is = record {
     same : history casts (is.events ++ event.Retire a ∷ []) ≡ record h { retired = is.retired ++ a ∷ [] }
     same =
         history_more casts is.events (event.Retire a)
-        ∙ ap (λ (refusal : Option WorldRefusal). after_by (history casts is.events) (event.Retire a) refusal) none
-        ∙ ap (λ (g : History). add_event g (event.Retire a)) is.same
+        ∙ ap (λ refusal. after_by (history casts is.events) (event.Retire a) refusal) none
+        ∙ ap (λ g. add_event g (event.Retire a)) is.same
 
     Rests : ℕ → Type 0
     Rests b = is_some (cast_of b h) ≡ true → (is_dead b h || contains b (is.retired ++ a ∷ [])) ≡ true
@@ -51,11 +50,11 @@ rest_more casts h n a old new did next told reached is = record {
 
     go : (b : ℕ) → 1 ≤ b → (c : Bool) → (b == a) ≡ c → b ≤ n + 1 → Rests b
     go b low true same high there =
-        or_second (is_dead b h) (contains b (is.retired ++ a ∷ []))
-        (contains_push b a is.retired ∙ or_second (contains b is.retired) (a == b) (eq-eqb a b (sym (eqb-true b a same))))
+        or_second (is_dead b h)
+        (contains_push b a is.retired ∙ or_second (contains b is.retired) (eq-eqb a b (sym (eqb-true b a same))))
     go b low false other high there =
         let differs : b ≡ a → ⊥ = eqb-false b a other in
-        ap (λ (x : Bool). is_dead b h || x) (contains_push b a is.retired)
+        ap (λ x. is_dead b h || x) (contains_push b a is.retired)
         ∙ grown (is_dead b h) (contains b is.retired) (a == b) (is.rests b low (omega arith) there)
 
     rests : (b : ℕ) → 1 ≤ b → b ≤ n + 1 → Rests b
@@ -73,9 +72,9 @@ rest_none_yet casts events world reached = record {
 }
 
 -- what the world shows in the end
-pub rest_shown : (casts : List ActorSpec) (h : History) (world : WorldView) → IsResting casts h 8 world → world_summary world ≡ told_at_rest h
-rest_shown casts h world is =
+pub rest_shown : (casts : List ActorSpec) {h : History} {world : WorldView} → IsResting casts h 8 world → world_summary world ≡ told_at_rest h
+rest_shown casts {h} {world} is =
     summary_is casts is.events world is.reached
-    ∙ ap (λ (g : History). summary g) is.same
+    ∙ ap (λ g. summary g) is.same
     ∙ ended_told (record h { retired = is.retired }) (record h { retired = map (λ cast. cast.actor) h.casts }) refl
     (λ c. refl) (λ c. refl) (λ a. refl) (λ a. refl) is.rests (at_rest h)

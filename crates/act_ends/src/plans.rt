@@ -5,7 +5,7 @@ ghost use Rattle.act_ends.specs.Frontier.{Extends};
 
 use crate::fault::PlansFault;
 use act_actor::{Cast, cast_fits};
-use act_console::{Sorted, StepLine, first_stranger, line_of, sort};
+use act_console::{Sorted, StepAt, first_stranger, line_of, sort};
 use act_plans::{CallerSetup, Plan, Prepared, first_bad_setup, plans_fit, prepare};
 use act_rules::{KindName, Mode, Role, Step, Wrong};
 use act_scripts::{Items, Script, ScriptFault, read_script};
@@ -34,7 +34,7 @@ fn good_plans(
     alloc: Global,
     casts: Vec<Cast<KindName>>,
     plans: Vec<(CallerId, Plan)>,
-    step_lines: &[StepLine],
+    step_lines: &[StepAt],
 ) -> Result<Plans, PlansFault> {
     if !cast_fits(&casts) || !plans_fit(&casts, &plans) {
         drop(casts);

@@ -1,6 +1,6 @@
 -- One epoch more.
-use Rattle.act_epochs.proofs.Common.{◌≡◌, ℕ, List, [], ◌∷◌, ◌++◌, refl, ap, ◌∙◌, append-nil, flat_map-append, RunItem, ActorSpec, SessionView, log_in, Epoch}
-use Rattle.act_epochs.proofs.Common.{IsEpoch, casts_left, AreEpochs, casts_after, runs, GoesOn}
+use Rattle.act_epochs.proofs.Common.{◌≡◌, ℕ, List, [], ◌∷◌, ◌++◌, refl, ap, ◌∙◌, append-nil, flat_map-append, ActorSpec, SessionView, log_in, Epoch, IsEpoch}
+use Rattle.act_epochs.proofs.Common.{casts_left, AreEpochs, casts_after, runs, GoesOn}
 
 -- an epoch that opens with the casts that are left joins them
 pub are_more : {C : Type 0} (tells : C → SessionView → SessionView → Type 0) (casts : List ActorSpec) (epochs : List (Epoch C)) (epoch : Epoch C)
@@ -17,7 +17,7 @@ left_more casts (one ∷ epochs) epoch = left_more (casts_left one) epochs epoch
 pub runs_more : {C : Type 0} (epochs : List (Epoch C)) (epoch : Epoch C) (a : ℕ) → runs a (epochs ++ epoch ∷ []) ≡ runs a epochs ++ log_in epoch.ends a
 runs_more {C} epochs epoch a =
     flat_map-append (λ (one : Epoch C). log_in one.ends a) epochs (epoch ∷ [])
-    ∙ ap (λ (l : List RunItem). runs a epochs ++ l) (append-nil (log_in epoch.ends a))
+    ∙ ap (λ l. runs a epochs ++ l) (append-nil (log_in epoch.ends a))
 
 -- an epoch that opens with the casts that are left joins the others, leaves its own, and its runs come last
 pub goes_on : {C : Type 0} (tells : C → SessionView → SessionView → Type 0) (casts : List ActorSpec) (epochs : List (Epoch C)) (epoch : Epoch C)

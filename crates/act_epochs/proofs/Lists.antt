@@ -1,7 +1,7 @@
 -- Laws of lists: prefixes of joined lists, lists in which no element stands twice, and runs one after another.
 use Rattle.act_epochs.proofs.Common.{◌≡◌, ◌≢◌, ℕ, zero, suc, ◌+◌, ◌≤◌, List, [], ◌∷◌, ◌++◌, length, Option, Some, None, refl, ap, sym, ◌∙◌, arith, append_assoc}
 use Rattle.act_epochs.proofs.Common.{append-nil, All, AllPairs, filter_map, slice_get, enumerate_from, cons_option, All-nil, All-cons, All-weaker}
-use Rattle.act_epochs.proofs.Common.{AllPairs-cons, KindState, RunItem, Answer, after_item, answers_from, answer_at, state_after, IsPrefix, IsIn, place_behind}
+use Rattle.act_epochs.proofs.Common.{AllPairs-cons, KindState, RunItem, after_item, answers_from, answer_at, state_after, IsPrefix, IsIn, place_behind}
 use Rattle.act_rules.proofs.Kept.{answers_from-append, length-answers_from, answer_at-front}
 
 -- ---- prefixes
@@ -10,7 +10,7 @@ use Rattle.act_rules.proofs.Kept.{answers_from-append, length-answers_from, answ
 pub front_before : {A : Type 0} (xs ys zs : List A) → IsPrefix xs ys → IsPrefix (xs ++ []) (ys ++ zs)
 front_before {A} xs ys zs f = (
   f.0 ++ zs,
-  ap (λ (l : List A). l ++ (f.0 ++ zs)) (append-nil xs) ∙ sym (append_assoc xs f.0 zs) ∙ ap (λ (l : List A). l ++ zs) f.1,
+  ap (λ l. l ++ (f.0 ++ zs)) (append-nil xs) ∙ sym (append_assoc xs f.0 zs) ∙ ap (λ l. l ++ zs) f.1,
 )
 
 -- ---- what a list is made of
@@ -22,7 +22,7 @@ pub record CameFrom {A B : Type 0} (f : A → Option B) (xs : List A) (y : B) : 
 
 pub came_from : {A B : Type 0} (f : A → Option B) (xs : List A) (k : ℕ) (y : B) → slice_get (filter_map f xs) k ≡ Some y → CameFrom f xs y
 came_from f [] k y e = cc
-came_from {A} {B} f (x ∷ xs) k y e = go (f x) refl k (λ (m : ℕ). came_from f xs m y) e
+came_from {A} {B} f (x ∷ xs) k y e = go (f x) refl k (λ m. came_from f xs m y) e
   where
     later : CameFrom f xs y → CameFrom f (x ∷ xs) y
     later r = record { one = r.one; inside = record { place = suc r.inside.place; at = r.inside.at }; gives = r.gives }
@@ -62,7 +62,7 @@ pub answer_between : (state : KindState) (xs ys zs : List RunItem) (k : ℕ) (it
     → answer_at state (xs ++ (ys ++ zs)) (length xs + k) ≡ answer_at (state_after state xs) ys k
 answer_between state xs ys zs k item at =
     let long : length (answers_from state xs) ≡ length xs = length-answers_from state xs in
-    ap (λ (l : List Answer). slice_get l (length xs + k)) (answers_from-append state xs (ys ++ zs))
-    ∙ ap (λ (n : ℕ). slice_get (answers_from state xs ++ answers_from (state_after state xs) (ys ++ zs)) (n + k)) (sym long)
+    ap (λ l. slice_get l (length xs + k)) (answers_from-append state xs (ys ++ zs))
+    ∙ ap (λ n. slice_get (answers_from state xs ++ answers_from (state_after state xs) (ys ++ zs)) (n + k)) (sym long)
     ∙ place_behind (answers_from state xs) (answers_from (state_after state xs) (ys ++ zs)) k
-    ∙ answer_at-front (state_after state xs) ys (ys ++ zs) k item (zs, refl) at
+    ∙ answer_at-front (state_after state xs) ys (ys ++ zs) k (zs, refl) at

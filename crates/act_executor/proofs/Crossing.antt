@@ -16,8 +16,7 @@ use Rattle.act_executor.specs.contracts.work.Driving as driving
 
 -- what a caller's thread is given may go there, where its conduct and its notes may
 pub driving_sent : (a : NamedLft) (D N : RattleType) → IsSend D → IsSend N → IsSend (driving.the_row a D N)
-driving_sent a D N conduct notes =
-    search (owner_part, step.the_send, lines.the_field_send, passes.the_field_send, crosses, sendable) depth 60 fits 20000
+driving_sent a D N conduct notes = search (owner_part, step.the_send, lines.the_field_send, passes.the_field_send, crosses, sendable) depth 60 fits 20000
 
 -- what a caller's thread leaves may come back
 pub driven_sent : IsSend driven.the_row
@@ -25,5 +24,4 @@ driven_sent = search (owner_part, passes.the_field_send, crosses, sendable) dept
 
 -- a pair may go to another thread where both of its members may
 pub pair_sent : (ν : Sym) (T U : RattleType) → IsSend T → IsSend U → IsSend (TupleAt ν (T ∷ U ∷ []))
-pair_sent ν T U one other =
-    recorded_send _ _ _ (type_at ν (T ∷ U ∷ [])).to_one (struct_send (declared.shape (type_at ν (T ∷ U ∷ []))) (one, (other, tt)))
+pair_sent ν T U one other = recorded_send _ _ _ (type_at ν (T ∷ U ∷ [])).to_one (struct_send (declared.shape (type_at ν (T ∷ U ∷ []))) (one, (other, tt)))

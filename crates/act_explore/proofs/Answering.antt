@@ -1,5 +1,5 @@
 -- A whole search answers for each end of plans, and for each run in threads.
-use Rattle.act_explore.proofs.Common.{◌≡◌, ℕ, ◌<◌, length, Option, true, false, List, Some, is_some, slice_get, sym, ap, ◌∙◌, subst, Contains, slice_get_within}
+use Rattle.act_explore.proofs.Common.{◌≡◌, ℕ, ◌<◌, length, true, false, List, Some, is_some, slice_get, sym, ap, ◌∙◌, subst, Contains, slice_get_within}
 use Rattle.act_explore.proofs.Common.{All-contains, Event, Submission, Step, ActorSpec, History, calls_of, kept_of, kept_at, At, IsPlay, EndsAlike, enough}
 use Rattle.act_explore.proofs.Common.{named_among, named_call, world, OwnerView, EndView, plan_of, IsJoined, calls_of_owner, kept_of_owner, calls_in, kept_in}
 use Rattle.act_explore.proofs.Common.{IsOwnerIn, all_in, AreOfARun, EndsAsThreads, seen_end, is_named, owner_left, IsDone, HasPassed, EachEndHas, EachRunHas}
@@ -21,15 +21,15 @@ module _ (casts : List ActorSpec) (plans : List (ℕ × List Step)) (owners : Li
   all_answered : (c k : ℕ) (call : Submission) → slice_get (calls_of c early.history) k ≡ Some call → is_some (kept_at (kept_of c early.history) k) ≡ true
   all_answered c k call at =
       let is = world casts (λ d. plan_of d plans) early play in
-      let named = named_among c call.actor early.history.casts (named_call early.history c k call is.retires.named at) in
-      let left = owner_left casts plans owners of joined.callers c (subst (λ (l : List ActorSpec). is_named l c ≡ true) is.casts named) in
-      let here = all_in (IsOwnerIn early.history) owners left.owner alike.callers left.inside in
-      let calls : left.owner.calls ≡ calls_of c early.history = here.calls ∙ ap (λ (n : ℕ). calls_of n early.history) left.id in
+      let named = named_among c call.actor early.history.casts (named_call early.history c k is.retires.named at) in
+      let left = owner_left owners of joined.callers c (subst (λ l. is_named l c ≡ true) is.casts named) in
+      let here = all_in (IsOwnerIn early.history) alike.callers left.inside in
+      let calls : left.owner.calls ≡ calls_of c early.history = here.calls ∙ ap (λ n. calls_of n early.history) left.id in
       let below : k < length left.owner.calls =
-      slice_get_within left.owner.calls k call (subst (λ (l : List Submission). slice_get l k ≡ Some call) (sym calls) at) in
-      let listed : k < length (calls_in owners c) = subst (λ (o : Option OwnerView). k < length (calls_of_owner o)) (sym left.is) below in
+      slice_get_within left.owner.calls k call (subst (λ l. slice_get l k ≡ Some call) (sym calls) at) in
+      let listed : k < length (calls_in owners c) = subst (λ o. k < length (calls_of_owner o)) (sym left.is) below in
       let same : kept_at (kept_in owners c) k ≡ kept_at (kept_of c early.history) k =
-      ap (λ (o : Option OwnerView). kept_at (kept_of_owner o) k) left.is ∙ here.answers k below ∙ ap (λ (n : ℕ). kept_at (kept_of n early.history) k) left.id in
+      ap (λ o. kept_at (kept_of_owner o) k) left.is ∙ here.answers k below ∙ ap (λ n. kept_at (kept_of n early.history) k) left.id in
       ap is_some (sym same) ∙ joined.answered c k listed
 
   pub done_as_threads : IsDone (λ c. plan_of c plans) early
@@ -52,7 +52,7 @@ module _ (casts : List ActorSpec) (plans : List (ℕ × List Step)) (Passed : Li
 
   pub each_run : AreOfARun casts plans → EachRunHas casts plans (HasPassed casts Passed)
   each_run of owners ends joined played =
-      let early = seen_end casts plans (λ a. false) seen owners ends of searched.whole joined played in
+      let early = seen_end casts plans (λ a. false) seen ends of searched.whole joined played in
       let play = searched.whole.plays early.0 early.1 in
       record {
         early = early.0;
@@ -65,12 +65,10 @@ module _ (casts : List ActorSpec) (plans : List (ℕ × List Step)) (Passed : Li
 pub each_end_weaker : (casts : List ActorSpec) (plans : List (ℕ × List Step)) (P Q : History → Type 0) → ((h : History) → P h → Q h) → EachEndHas casts plans P
     → EachEndHas casts plans Q
 each_end_weaker casts plans P Q weaker each late is ended losing =
-    let so = each late is ended losing in
-    record { early = so.early; play = so.play; holds = weaker so.early.history so.holds; ends = so.ends }
+    let so = each late is ended losing in record { early = so.early; play = so.play; holds = weaker so.early.history so.holds; ends = so.ends }
 
 -- where the early play for each run in threads has a property, it has each that follows from it
 pub each_run_weaker : (casts : List ActorSpec) (plans : List (ℕ × List Step)) (P Q : History → Type 0) → ((h : History) → P h → Q h) → EachRunHas casts plans P
     → EachRunHas casts plans Q
 each_run_weaker casts plans P Q weaker each owners ends joined played =
-    let so = each owners ends joined played in
-    record { early = so.early; play = so.play; holds = weaker so.early.history so.holds; ends_so = so.ends_so }
+    let so = each owners ends joined played in record { early = so.early; play = so.play; holds = weaker so.early.history so.holds; ends_so = so.ends_so }

@@ -31,23 +31,19 @@ module _ (casts : List ActorSpec) (plans : ℕ → List Step) (Passed : List Eve
   maker path known =
       let found = seen_key (key_of path) known.known in (
         found.at,
-        record {
-          seen_at = found.seen_at;
-          made = made_same found.path path found.at.history (same_key found.path path found.numbers known.numbers found.keyed) found.made;
-        },
+        record { seen_at = found.seen_at; made = made_same path (same_key found.path path found.numbers known.numbers found.keyed) found.made },
       )
 
   next_of : (at : At) (choice : Choice) → (here : Contains seen at) → IsKnown left ((looked at here).path ++ choice ∷ []) → (next : At) × Contains seen next
       × HasChosen choice at.history next.history
   next_of at choice here known =
-      let is = looked at here in
-      let next = maker (is.path ++ choice ∷ []) known in
-      (next.0, next.1.seen_at, chosen_more is.path choice at.history next.0.history is.stands.made next.1.made)
+      let is = looked at here in let next = maker (is.path ++ choice ∷ []) known in
+      (next.0, next.1.seen_at, chosen_more is.path choice is.stands.made next.1.made)
 
   start : (at : At) × Contains seen at × ((a : ℕ) → runs_of a at.history ≡ []) × (at.history.killed ≡ [])
   start =
       let first = maker [] (record { numbers = All-nil HasNumber; known = searched.first }) in
-      (first.0, first.1.seen_at, λ a. none_ran first.0.history a first.1.made, none_killed first.0.history first.1.made)
+      (first.0, first.1.seen_at, λ a. none_ran first.0.history a first.1.made, none_killed first.1.made)
 
   kept : (heard : Bool) → (heard || false) ≡ true → heard ≡ true
   kept true e = refl

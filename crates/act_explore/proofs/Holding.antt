@@ -5,22 +5,20 @@ use Rattle.act_explore.proofs.Common.{callers_of_casts, PlansFit, setups_view, p
 use Rattle.act_explore.proofs.Common.{contains_from_in, all_in, in_filter, any_is, contains_is, AreOfARun, is_named, no_plan, AreSuited}
 
 -- a caller that a cast names is one of the callers
-named_caller : (casts : List ActorSpec) (plans : List (ℕ × List Step)) → AreOfARun casts plans → (c : ℕ) → is_named casts c ≡ true
+named_caller : {casts : List ActorSpec} {plans : List (ℕ × List Step)} → AreOfARun casts plans → (c : ℕ) → is_named casts c ≡ true
     → IsIn (callers_of_casts casts) c
-named_caller casts plans of c named =
+named_caller {casts} of c named =
     let cast = any_is (λ (x : ActorSpec). contains c x.callers) casts named in
-    let listed = all_in (λ (x : ActorSpec). All (λ d. Contains (one_to MAX_CALLERS) d) x.callers) casts cast.0 of.callers cast.1.inside in
-    let number = all_in (λ (d : ℕ). Contains (one_to MAX_CALLERS) d) cast.0.callers c listed (contains_is c cast.0.callers cast.1.passes) in
-    in_filter (is_named casts) (one_to MAX_CALLERS) c (in_from_contains (one_to MAX_CALLERS) c number) named
+    let listed = all_in (λ (x : ActorSpec). All (λ d. Contains (one_to MAX_CALLERS) d) x.callers) of.callers cast.1.inside in
+    let number = all_in (λ d. Contains (one_to MAX_CALLERS) d) listed (contains_is c cast.0.callers cast.1.passes) in
+    in_filter (is_named casts) (in_from_contains (one_to MAX_CALLERS) c number) named
 
 pub holding : {K : Type 0} (state : K → KindState) (casts : List (Cast K)) (plans : List (ℕ × Vec Step)) (setups : List CallerSetup)
     → map setup_view setups ≡ map (setup_of casts plans) (callers_named_by casts) → AreOfARun (map (actor_spec state) casts) (map plan_view plans)
     → HoldPlans (map (actor_spec state) casts) (λ c. plan_of c (map plan_view plans)) setups
 holding state casts plans setups is of = record {
   parts = λ k d lt. record { plan = sym (plans_are state casts plans setups is k d lt); actors = actors_are state casts plans setups is k d lt };
-  named = λ c named. contains_from_in (map (λ (setup : CallerSetup). setup.caller) setups) c
-      (subst (λ (l : List ℕ). IsIn l c) (sym (setups_view state casts plans setups is))
-      (named_caller (map (actor_spec state) casts) (map plan_view plans) of c named));
+  named = λ c named. contains_from_in (subst (λ l. IsIn l c) (sym (setups_view state casts plans setups is)) (named_caller of c named));
   others = λ c none. no_plan (map (actor_spec state) casts) c (map plan_view plans) of.named none;
 }
 

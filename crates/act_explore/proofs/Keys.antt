@@ -20,12 +20,9 @@ cut [] [] r s e = record { front = refl; back = cc }
 cut [] (y ∷ ys) r s e = let apart : 10 ≡ 96 + y = cc in absurd (omega (arith, apart))
 cut (x ∷ xs) [] r s e = let apart : 96 + x ≡ 10 = cc in absurd (omega (arith, apart))
 cut (x ∷ xs) (y ∷ ys) r s e =
-    let heads : 96 + x ≡ 96 + y = cc in
-    let same : x ≡ y = omega (arith, heads) in
+    let heads : 96 + x ≡ 96 + y = cc in let same : x ≡ y = omega (arith, heads) in
     let tails : map letter_of xs ++ 10 ∷ r ≡ map letter_of ys ++ 10 ∷ s = cc in
-    let later = cut xs ys r s tails in
-    let front = later.front in
-    record { front = cc; back = later.back }
+    let later = cut xs ys r s tails in let front = later.front in record { front = cc; back = later.back }
 
 abbrev mark : Bool → ℕ
 mark taken = if taken then 33 else 46
@@ -43,8 +40,7 @@ part p a r = ap (λ l. mark (takes_in a p) ∷ l) (append_assoc (map letter_of (
 parts : (p q : List Choice) (actors : List ℕ) → flat_map (part_of p) actors ≡ flat_map (part_of q) actors → All (AreSame p q) actors
 parts p q [] e = All-nil (AreSame p q)
 parts p q (a ∷ actors) e =
-    let m : ℕ = mark (takes_in a p) in
-    let n : ℕ = mark (takes_in a q) in
+    let m : ℕ = mark (takes_in a p) in let n : ℕ = mark (takes_in a q) in
     let whole : m ∷ (map letter_of (runs_in a p) ++ 10 ∷ flat_map (part_of p) actors) ≡ n ∷ (map letter_of (runs_in a q) ++ 10 ∷ flat_map (part_of q) actors) =
     sym (part p a (flat_map (part_of p) actors)) ∙ e ∙ part q a (flat_map (part_of q) actors) in
     let head : m ≡ n = cc in
@@ -65,10 +61,7 @@ module _ (a : ℕ) (out : (b : ℕ) → Contains (one_to 8) b → (b == a) ≡ f
   none_take (Take b ∷ p) of = rw (out b (All-head HasNumber (Take b) p of)) (none_take p (All-tail HasNumber (Take b) p of))
 
 beyond : (p q : List Choice) (a : ℕ) → All HasNumber p → All HasNumber q → ((b : ℕ) → Contains (one_to 8) b → (b == a) ≡ false) → AreSame p q a
-beyond p q a of by out = record {
-  runs = none_run a out p of ∙ sym (none_run a out q by);
-  takes = none_take a out p of ∙ sym (none_take a out q by);
-}
+beyond p q a of by out = record { runs = none_run a out p of ∙ sym (none_run a out q by); takes = none_take a out p of ∙ sym (none_take a out q by) }
 
 pub same_key : (p q : List Choice) → All HasNumber p → All HasNumber q → key_of p ≡ key_of q → (a : ℕ) → AreSame p q a
 unfolding key_of
@@ -77,4 +70,4 @@ same_key p q of by e (suc n) = go (cases_lt 8 (suc n))
   where
     go : (8 < suc n) ⊎ (suc n ≤ 8) → AreSame p q (suc n)
     go (inl above) = beyond p q (suc n) of by (λ b at. let in_it = in_limit 8 b at in ne_eqb b (suc n) (λ same. omega (arith, in_it.1, same)))
-    go (inr within) = All-contains (AreSame p q) (one_to 8) (suc n) (parts p q (one_to 8) e) (in_one_to 8 (suc n) (omega arith) within)
+    go (inr within) = All-contains (AreSame p q) (one_to 8) (suc n) (parts p q (one_to 8) e) (in_one_to 8 (omega arith) within)

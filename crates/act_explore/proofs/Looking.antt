@@ -2,7 +2,7 @@
 use Rattle.act_explore.proofs.Common.{◌≡◌, ◌⊎◌, ℕ, true, List, [], ◌∷◌, ◌++◌, ap, ◌∙◌, inl, inr, All, Contains, is_some, None, All-contains, All-nil, All-cons}
 use Rattle.act_explore.proofs.Common.{All-weaker, Contains-push, Contains-push_cases, Contains-append_left, Contains-append_right, Event, Step, ActorSpec}
 use Rattle.act_explore.proofs.Common.{next_item, refusal_of, At, Choice, Run, Take, IsDone, HasPassed, HasNumber, key_of, Left, with_path, IsKnown, Waits}
-use Rattle.act_explore.proofs.Common.{IsOpened, Grows, HasAdded, IsPlayAt, IsLookedAt, IsSeen, HasSearched}
+use Rattle.act_explore.proofs.Common.{IsOpened, HasAdded, IsPlayAt, IsLookedAt, IsSeen, HasSearched}
 use Rattle.act_rules.specs.declared.event.Event.TheVariants as event
 
 -- at first nothing was looked at

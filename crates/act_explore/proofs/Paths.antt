@@ -13,7 +13,7 @@ single : (a : ℕ) (choice : Choice) → runs_in a (choice ∷ []) ≡ option_to
 single a (Take b) = refl
 single a (Run b c) = go (b == a)
   where
-    go : (t : Bool) → filter_map (λ (o : Option ℕ). o) ((if t then Some c else None) ∷ []) ≡ option_to_list (if t then Some c else None)
+    go : (t : Bool) → filter_map (λ o. o) ((if t then Some c else None) ∷ []) ≡ option_to_list (if t then Some c else None)
     go true = refl
     go false = refl
 
@@ -37,37 +37,32 @@ one_more true c = refl
 one_more false c = refl
 
 -- the history made one choice more
-pub made_more : (path : List Choice) (choice : Choice) (h g : History) → HasMade path h → HasChosen choice h g → HasMade (path ++ choice ∷ []) g
-made_more path (Run a c) h g made chosen = record {
-  choices = λ b. chosen.0 b ∙ ap (λ l. l ++ (if a == b then (c, true) ∷ [] else [])) (made.choices b)
-      ∙ ap (λ l. map heard (runs_in b path) ++ l) (sym (one_more (a == b) c))
-      ∙ sym (ap (map heard) (runs_more b path (Run a c)) ∙ map-append heard (runs_in b path) (option_to_list (run_at b (Run a c))));
+pub made_more : (path : List Choice) (choice : Choice) {h : History} (g : History) → HasMade path h → HasChosen choice h g → HasMade (path ++ choice ∷ []) g
+made_more path (Run a c) g made chosen = record {
+  choices = λ b. chosen.0 b ∙ ap (λ l. l ++ (if a == b then (c, true) ∷ [] else [])) (made.choices b) ∙ ap (λ l. map heard (runs_in b path) ++ l)
+      (sym (one_more (a == b) c)) ∙ sym (ap (map heard) (runs_more b path (Run a c)) ∙ map-append heard (runs_in b path) (option_to_list (run_at b (Run a c))));
   killed = λ b. chosen.1 b ∙ made.killed b ∙ sym (takes_more b path (Run a c) ∙ or_false (takes_in b path));
 }
-made_more path (Take a) h g made chosen = record {
+made_more path (Take a) g made chosen = record {
   choices = λ b. chosen.0 b ∙ made.choices b ∙ sym (ap (map heard) (runs_more b path (Take a) ∙ append-nil (runs_in b path)));
   killed = λ b. chosen.1 b ∙ ap (λ t. t || (a == b)) (made.killed b) ∙ sym (takes_more b path (Take a));
 }
 
 -- and whoever made one choice more has chosen it
-pub chosen_more : (path : List Choice) (choice : Choice) (h g : History) → HasMade path h → HasMade (path ++ choice ∷ []) g → HasChosen choice h g
-chosen_more path (Run a c) h g made more = (
-  λ b. more.choices b ∙ ap (map heard) (runs_more b path (Run a c)) ∙ map-append heard (runs_in b path) (option_to_list (run_at b (Run a c)))
-      ∙ ap (λ l. map heard (runs_in b path) ++ l) (one_more (a == b) c)
-      ∙ ap (λ l. l ++ (if a == b then (c, true) ∷ [] else [])) (sym (made.choices b)),
+pub chosen_more : (path : List Choice) (choice : Choice) {h g : History} → HasMade path h → HasMade (path ++ choice ∷ []) g → HasChosen choice h g
+chosen_more path (Run a c) made more = (
+  λ b. more.choices b ∙ ap (map heard) (runs_more b path (Run a c)) ∙ map-append heard (runs_in b path) (option_to_list (run_at b (Run a c))) ∙
+      ap (λ l. map heard (runs_in b path) ++ l) (one_more (a == b) c) ∙ ap (λ l. l ++ (if a == b then (c, true) ∷ [] else [])) (sym (made.choices b)),
   λ b. more.killed b ∙ takes_more b path (Run a c) ∙ or_false (takes_in b path) ∙ sym (made.killed b),
 )
-chosen_more path (Take a) h g made more = (
+chosen_more path (Take a) made more = (
   λ b. more.choices b ∙ ap (map heard) (runs_more b path (Take a) ∙ append-nil (runs_in b path)) ∙ sym (made.choices b),
   λ b. more.killed b ∙ takes_more b path (Take a) ∙ ap (λ t. t || (a == b)) (sym (made.killed b)),
 )
 
 -- whoever made the choices of a path made those of each path that is the same
-pub made_same : (p q : List Choice) (h : History) → ((a : ℕ) → AreSame p q a) → HasMade p h → HasMade q h
-made_same p q h same made = record {
-  choices = λ a. made.choices a ∙ ap (map heard) (same a).runs;
-  killed = λ a. made.killed a ∙ (same a).takes;
-}
+pub made_same : {p : List Choice} (q : List Choice) {h : History} → ((a : ℕ) → AreSame p q a) → HasMade p h → HasMade q h
+made_same q same made = record { choices = λ a. made.choices a ∙ ap (map heard) (same a).runs; killed = λ a. made.killed a ∙ (same a).takes }
 
 -- no choice was made
 pub none_ran : (h : History) (a : ℕ) → HasMade [] h → runs_of a h ≡ []
@@ -76,23 +71,20 @@ none_ran h a made = map_none (λ (i : RunItem). (i.caller, is_heard h i)) (runs_
 contains_head : (x : ℕ) (xs : List ℕ) → contains x (x ∷ xs) ≡ true
 contains_head x xs = ap (λ t. t || contains x xs) (eq-eqb x x refl)
 
-pub none_killed : (h : History) → HasMade [] h → h.killed ≡ []
-none_killed h made = go h.killed made.killed
+pub none_killed : {h : History} → HasMade [] h → h.killed ≡ []
+none_killed {h} made = go h.killed made.killed
   where
     go : (killed : List ℕ) → ((a : ℕ) → contains a killed ≡ false) → killed ≡ []
     go [] none = refl
     go (x ∷ xs) none = let here = contains_head x xs in let no_more = none x in cc
 
 pub made_none : (h : History) → ((a : ℕ) → runs_of a h ≡ []) → h.killed ≡ [] → HasMade [] h
-made_none h runs killed = record {
-  choices = λ a. ap (map (λ (i : RunItem). (i.caller, is_heard h i))) (runs a);
-  killed = λ a. ap (contains a) killed;
-}
+made_none h runs killed = record { choices = λ a. ap (map (λ (i : RunItem). (i.caller, is_heard h i))) (runs a); killed = λ a. ap (contains a) killed }
 
 -- one choice more, at a step of a loop
-pub runs_step : (a : ℕ) (path : List Choice) (i : ℕ) (choice : Choice) → i < length path → choice ≡ get_or path i choice →
+pub runs_step : (a : ℕ) (path : List Choice) {i : ℕ} {choice : Choice} → i < length path → choice ≡ get_or path i choice →
     runs_in a (take (i + 1) path) ≡ runs_in a (take i path) ++ option_to_list (run_at a choice)
-runs_step a path i choice within is =
+runs_step a path {i} {choice} within is =
     ap (runs_in a) (take_more path i choice within ∙ ap (λ x. take i path ++ x ∷ []) (sym is)) ∙ runs_more a (take i path) choice
 
 pub letters_more : (old runs : List ℕ) (o : Option ℕ) → (old ++ map letter_of runs) ++ map letter_of (option_to_list o) ≡ old ++ map letter_of

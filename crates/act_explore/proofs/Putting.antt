@@ -35,10 +35,7 @@ module _ (path : List Choice) (old new : Left) (numbers : All HasNumber path) (w
 
 -- the first path
 pub put_first : (old new : Left) → HasPut [] old new → ((key : List ℕ) → old.known key ≡ false) → IsOpened new
-put_first old new put none = record {
-  first = put.put.known;
-  waits = λ key is. go key (put.grows.fresh key is);
-}
+put_first old new put none = record { first = put.put.known; waits = λ key is. go key (put.grows.fresh key is) }
   where
     go : (key : List ℕ) → (old.known key ≡ true) ⊎ Waits new key → Waits new key
     go key (inl was) = let never = none key in cc
@@ -70,12 +67,11 @@ added_none path left = record {
   added = All-nil (λ choice. IsKnown left (path ++ choice ∷ []));
 }
 
-pub added_more : (path choices : List Choice) (i : ℕ) (choice : Choice) (old mid new : Left) → i < length choices → choice ≡ get_or choices i choice →
-    HasAdded path (take i choices) old mid → HasPut (path ++ choice ∷ []) mid new → HasAdded path (take (i + 1) choices) old new
-added_more path choices i choice old mid new within is added put = record {
+pub added_more : {path : List Choice} (choices : List Choice) {i : ℕ} {choice : Choice} {old : Left} (mid new : Left) → i < length choices → choice ≡
+    get_or choices i choice → HasAdded path (take i choices) old mid → HasPut (path ++ choice ∷ []) mid new → HasAdded path (take (i + 1) choices) old new
+added_more {path} choices {i} {choice} {old} mid new within is added put = record {
   grows = grows_on old mid new added.grows put.grows;
-  added = All-more (λ one. IsKnown new (path ++ one ∷ [])) choices i choice within
-      (All-weaker (λ one. IsKnown mid (path ++ one ∷ [])) (λ one. IsKnown new (path ++ one ∷ []))
-      (λ one known. record { numbers = known.numbers; known = put.grows.known (key_of (path ++ one ∷ [])) known.known }) (take i choices) added.added)
-      (subst (λ one. IsKnown new (path ++ one ∷ [])) is put.put);
+  added = All-more (λ one. IsKnown new (path ++ one ∷ [])) choices i choice within (All-weaker (λ one. IsKnown mid (path ++ one ∷ []))
+      (λ one. IsKnown new (path ++ one ∷ [])) (λ one known. record { numbers = known.numbers; known = put.grows.known (key_of (path ++ one ∷ [])) known.known })
+      (take i choices) added.added) (subst (λ one. IsKnown new (path ++ one ∷ [])) is put.put);
 }

@@ -17,36 +17,44 @@ copy_holds copies is = positive (copies_held copies) (needs-none _ _ _ (needs-no
 
 occurs_more : (a : ℕ) (xs : List ℕ) → occurrences a (xs ++ a ∷ []) ≡ occurrences a xs + 1
 occurs_more a xs =
-    ap (λ (l : List ℕ). length l) (filter-append (λ b. b == a) xs (a ∷ []))
+    ap (λ l. length l) (filter-append (λ b. b == a) xs (a ∷ []))
     ∙ length-append (filter (λ b. b == a) xs) (filter (λ b. b == a) (a ∷ []))
-    ∙ ap (λ (t : Bool). occurrences a xs + length (if t then a ∷ [] else [])) (let same : (a == a) ≡ true = search rules in same)
+    ∙ ap (λ t. occurrences a xs + length (if t then a ∷ [] else [])) (let same : (a == a) ≡ true = search rules in same)
 
 occurs_other : (a b : ℕ) (xs : List ℕ) → a ≢ b → occurrences b (xs ++ a ∷ []) ≡ occurrences b xs
 occurs_other a b xs apart =
-    ap (λ (l : List ℕ). length l) (filter-append (λ c. c == b) xs (a ∷ []) ∙ ap (λ (t : Bool). filter (λ c. c == b) xs ++ (if t then a ∷ [] else [])) (ne_eqb a b apart) ∙ append-nil (filter (λ c. c == b) xs))
+    ap (λ l. length l) (filter-append (λ c. c == b) xs (a ∷ []) ∙ ap (λ t. filter (λ c. c == b) xs ++ (if t then a ∷ [] else [])) (ne_eqb a b apart) ∙
+    append-nil (filter (λ c. c == b) xs))
 
-copy_count : (listed : Bool) (c r c2 : ℕ) → c2 ≡ c + 1 → copies_held (if listed then Some ((1 + c) - r) else None) ≢ 0 → option_map (λ n. n + 1) (if listed then Some ((1 + c) - r) else None) ≡ (if listed then Some ((1 + c2) - r) else None)
-copy_count true c r c2 more some = ap Some (omega (arith, more, some))
-copy_count false c r c2 more some = refl
+copy_count : (listed : Bool) (c r : ℕ) {c2 : ℕ} → c2 ≡ c + 1 → copies_held (if listed then Some ((1 + c) - r) else None) ≢ 0 →
+    option_map (λ n. n + 1) (if listed then Some ((1 + c) - r) else None) ≡ (if listed then Some ((1 + c2) - r) else None)
+copy_count true c r more some = ap Some (omega (arith, more, some))
+copy_count false c r more some = refl
 
-release_count : (listed : Bool) (c r r2 : ℕ) → r2 ≡ r + 1 → option_map (λ n. n - 1) (if listed then Some ((1 + c) - r) else None) ≡ (if listed then Some ((1 + c) - r2) else None)
-release_count true c r r2 more = ap Some (omega (arith, more))
-release_count false c r r2 more = refl
+release_count : (listed : Bool) (c r : ℕ) {r2 : ℕ} → r2 ≡ r + 1 →
+    option_map (λ n. n - 1) (if listed then Some ((1 + c) - r) else None) ≡ (if listed then Some ((1 + c) - r2) else None)
+release_count true c r more = ap Some (omega (arith, more))
+release_count false c r more = refl
 
 -- where the copies are as a plan's steps say, they are so after a copy that nothing refuses
-pub copy_copies : (handles : List Handle) (a b : ℕ) (actors : List ℕ) (p : Progress) → ((c : ℕ) → copies_in c handles ≡ holds c actors p) → copy_refusal (holds a actors p) ≡ None → copies_in b (with_copy a handles) ≡ holds b actors (do_step p (Copy a))
+pub copy_copies : (handles : List Handle) (a b : ℕ) (actors : List ℕ) (p : Progress) → ((c : ℕ) → copies_in c handles ≡ holds c actors p) →
+    copy_refusal (holds a actors p) ≡ None → copies_in b (with_copy a handles) ≡ holds b actors (do_step p (Copy a))
 copy_copies handles a b actors p same fine =
     elim (eqb_tells a b) [
-      | inl t ↦ subst (λ (n : ℕ). copies_in n (with_copy a handles) ≡ holds n actors (do_step p (Copy a))) t.1
-          (copies-with_copy a handles ∙ ap (option_map (λ n. n + 1)) (same a) ∙ copy_count (list_any (λ c. c == a) actors) (occurrences a p.copied) (occurrences a p.released) (occurrences a (p.copied ++ a ∷ [])) (occurs_more a p.copied) (copy_holds (holds a actors p) fine))
-      | inr f ↦ copies-with_copy-other a b handles f.1 ∙ same b ∙ ap (λ (n : ℕ). if list_any (λ c. c == b) actors then Some ((1 + n) - occurrences b p.released) else None) (sym (occurs_other a b p.copied f.1))
+      | inl t ↦ subst (λ n. copies_in n (with_copy a handles) ≡ holds n actors (do_step p (Copy a))) t.1
+          (copies-with_copy a handles ∙ ap (option_map (λ n. n + 1)) (same a) ∙ copy_count (list_any (λ c. c == a) actors) (occurrences a p.copied)
+          (occurrences a p.released) (occurs_more a p.copied) (copy_holds (holds a actors p) fine))
+      | inr f ↦ copies-with_copy-other a b handles f.1 ∙ same b ∙
+          ap (λ n. if list_any (λ c. c == b) actors then Some ((1 + n) - occurrences b p.released) else None) (sym (occurs_other a b p.copied f.1))
     ]
 
 -- where the copies are as a plan's steps say, they are so after a release
-pub release_copies : (handles : List Handle) (a b : ℕ) (actors : List ℕ) (p : Progress) → ((c : ℕ) → copies_in c handles ≡ holds c actors p) → copies_in b (without_copy a handles) ≡ holds b actors (do_step p (Release a))
+pub release_copies : (handles : List Handle) (a b : ℕ) (actors : List ℕ) (p : Progress) → ((c : ℕ) → copies_in c handles ≡ holds c actors p) →
+    copies_in b (without_copy a handles) ≡ holds b actors (do_step p (Release a))
 release_copies handles a b actors p same =
     elim (eqb_tells a b) [
-      | inl t ↦ subst (λ (n : ℕ). copies_in n (without_copy a handles) ≡ holds n actors (do_step p (Release a))) t.1
-          (copies-without_copy a handles ∙ ap (option_map (λ n. n - 1)) (same a) ∙ release_count (list_any (λ c. c == a) actors) (occurrences a p.copied) (occurrences a p.released) (occurrences a (p.released ++ a ∷ [])) (occurs_more a p.released))
-      | inr f ↦ copies-without_copy-other a b handles f.1 ∙ same b ∙ ap (λ (n : ℕ). if list_any (λ c. c == b) actors then Some ((1 + occurrences b p.copied) - n) else None) (sym (occurs_other a b p.released f.1))
+      | inl t ↦ subst (λ n. copies_in n (without_copy a handles) ≡ holds n actors (do_step p (Release a))) t.1 (copies-without_copy a handles ∙ ap (option_map
+          (λ n. n - 1)) (same a) ∙ release_count (list_any (λ c. c == a) actors) (occurrences a p.copied) (occurrences a p.released) (occurs_more a p.released))
+      | inr f ↦ copies-without_copy-other a b handles f.1 ∙ same b ∙
+          ap (λ n. if list_any (λ c. c == b) actors then Some ((1 + occurrences b p.copied) - n) else None) (sym (occurs_other a b p.released f.1))
     ]

@@ -1,6 +1,6 @@
 -- Where the lines of what was left begin, line by line.
-use Rattle.act_histories.proofs.Common.{◌≡◌, ◌≢◌, inl, inr, ℕ, ◌+◌, ◌-◌, ◌==◌, cond, Bool, true, false, List, [], ◌∷◌, ◌++◌, refl, sym, ap, ◌∙◌, append_assoc}
-use Rattle.act_histories.proofs.Common.{tells_left, told_part}
+use Rattle.act_histories.proofs.Common.{◌≡◌, ◌≢◌, inl, inr, ℕ, ◌==◌, cond, Bool, true, false, List, [], ◌∷◌, ◌++◌, refl, sym, ap, ◌∙◌, append_assoc, tells_left}
+use Rattle.act_histories.proofs.Common.{told_part}
 use Rattle.std.proofs.lemmas.Bool.{eqb-true}
 use Rattle.std.proofs.lemmas.List.Elements.{All-head, All-tail}
 use Rattle.act_decisions.proofs.Exact.{IsOfOneLine, IsCut}
@@ -10,31 +10,30 @@ other_byte b line plain = go (b == 10) refl
   where
     go : (is : Bool) → (b == 10) ≡ is → (b == 10) ≡ false
     go false e = e
-    go true e = absurd (All-head (λ (b : ℕ). b ≢ 10) b line plain (eqb-true b 10 e))
+    go true e = absurd (All-head (λ b. b ≢ 10) b line plain (eqb-true b 10 e))
 
 -- within a line nothing begins
 inside : (line below : List ℕ) → IsOfOneLine line → told_part false (line ++ 10 ∷ below) ≡ told_part true below
 inside [] below plain = refl
 inside (b ∷ line) below plain =
-    ap (λ (begins : Bool). told_part begins (line ++ 10 ∷ below)) (other_byte b line plain) ∙ inside line below (All-tail (λ (b : ℕ). b ≢ 10) b line plain)
+    ap (λ begins. told_part begins (line ++ 10 ∷ below)) (other_byte b line plain) ∙ inside line below (All-tail (λ b. b ≢ 10) b line plain)
 
 inside_last : (line : List ℕ) → IsOfOneLine line → told_part false line ≡ []
 inside_last [] plain = refl
-inside_last (b ∷ line) plain = ap (λ (begins : Bool). told_part begins line) (other_byte b line plain)
-    ∙ inside_last line (All-tail (λ (b : ℕ). b ≢ 10) b line plain)
+inside_last (b ∷ line) plain = ap (λ begins. told_part begins line) (other_byte b line plain) ∙ inside_last line (All-tail (λ b. b ≢ 10) b line plain)
 
 -- a first line that tells nothing of what was left
 first_line : (line below : List ℕ) → IsOfOneLine line → tells_left (line ++ 10 ∷ below) ≡ false → told_part true (line ++ 10 ∷ below) ≡ told_part true below
-first_line [] below plain none = ap (λ (tells : Bool). cond tells (10 ∷ below) (told_part true below)) none
+first_line [] below plain none = ap (λ tells. cond tells (10 ∷ below) (told_part true below)) none
 first_line (b ∷ line) below plain none =
-    ap (λ (tells : Bool). cond tells (b ∷ line ++ 10 ∷ below) (told_part (b == 10) (line ++ 10 ∷ below))) none
-    ∙ ap (λ (begins : Bool). told_part begins (line ++ 10 ∷ below)) (other_byte b line plain) ∙ inside line below (All-tail (λ (b : ℕ). b ≢ 10) b line plain)
+    ap (λ tells. cond tells (b ∷ line ++ 10 ∷ below) (told_part (b == 10) (line ++ 10 ∷ below))) none
+    ∙ ap (λ begins. told_part begins (line ++ 10 ∷ below)) (other_byte b line plain) ∙ inside line below (All-tail (λ b. b ≢ 10) b line plain)
 
 only_line : (line : List ℕ) → IsOfOneLine line → tells_left line ≡ false → told_part true line ≡ []
 only_line [] plain none = refl
 only_line (b ∷ line) plain none =
-    ap (λ (tells : Bool). cond tells (b ∷ line) (told_part (b == 10) line)) none
-    ∙ ap (λ (begins : Bool). told_part begins line) (other_byte b line plain) ∙ inside_last line (All-tail (λ (b : ℕ). b ≢ 10) b line plain)
+    ap (λ tells. cond tells (b ∷ line) (told_part (b == 10) line)) none
+    ∙ ap (λ begins. told_part begins line) (other_byte b line plain) ∙ inside_last line (All-tail (λ b. b ≢ 10) b line plain)
 
 -- what is left to look through
 pub record IsLeft (bytes left : List ℕ) : Type 0 where
@@ -43,26 +42,25 @@ pub record IsLeft (bytes left : List ℕ) : Type 0 where
   pub told : told_part true bytes ≡ told_part true left
 
 -- one line less
-pub one_less : (bytes left line below : List ℕ) → IsOfOneLine line → IsCut left line below → tells_left left ≡ false → IsLeft bytes left → IsLeft bytes below
-one_less bytes left line below plain (inl cut) none so_far = record {
+pub one_less : {bytes left : List ℕ} (line below : List ℕ) → IsOfOneLine line → IsCut left line below → tells_left left ≡ false → IsLeft bytes left →
+    IsLeft bytes below
+one_less line below plain (inl cut) none so_far = record {
   front = so_far.front ++ (line ++ 10 ∷ []);
-  parts = so_far.parts ∙ ap (λ (l : List ℕ). so_far.front ++ l) (cut ∙ sym (append_assoc line (10 ∷ []) below))
-      ∙ sym (append_assoc so_far.front (line ++ 10 ∷ []) below);
+  parts = so_far.parts ∙ ap (λ l. so_far.front ++ l) (cut ∙ sym (append_assoc line (10 ∷ []) below)) ∙ sym (append_assoc so_far.front (line ++ 10 ∷ []) below);
   told = so_far.told ∙ ap (told_part true) cut ∙ first_line line below plain (ap tells_left (sym cut) ∙ none);
 }
-one_less bytes left line below plain (inr (all, empty)) none so_far = record {
+one_less {left} line below plain (inr (all, empty)) none so_far = record {
   front = so_far.front ++ left;
-  parts = so_far.parts ∙ (let e : so_far.front ++ left ≡ (so_far.front ++ left) ++ [] = sym (append_assoc so_far.front left []
-      ∙ ap (λ (l : List ℕ). so_far.front ++ l) (append_none left)) in e)
-      ∙ ap (λ (l : List ℕ). (so_far.front ++ left) ++ l) (sym empty);
+  parts = so_far.parts ∙ (let e : so_far.front ++ left ≡ (so_far.front ++ left) ++ [] =
+      sym (append_assoc so_far.front left [] ∙ ap (λ l. so_far.front ++ l) (append_none left)) in e) ∙ ap (λ l. (so_far.front ++ left) ++ l) (sym empty);
   told = so_far.told ∙ ap (told_part true) all ∙ only_line line plain (ap tells_left (sym all) ∙ none) ∙ sym (ap (told_part true) empty);
 }
   where
     append_none : (l : List ℕ) → l ++ [] ≡ l
     append_none [] = refl
-    append_none (b ∷ l) = ap (λ (m : List ℕ). b ∷ m) (append_none l)
+    append_none (b ∷ l) = ap (λ m. b ∷ m) (append_none l)
 
 -- a line that tells what was left is where it begins
 here : (left : List ℕ) → tells_left left ≡ true → told_part true left ≡ left
 here [] tells = refl
-here (b ∷ left) tells = ap (λ (is : Bool). cond is (b ∷ left) (told_part (b == 10) left)) tells
+here (b ∷ left) tells = ap (λ is. cond is (b ∷ left) (told_part (b == 10) left)) tells

@@ -1,6 +1,6 @@
 -- What was read, played and written of a history.
-use Rattle.act_histories.proofs.Common.{◌≡◌, ℕ, ◌+◌, true, List, ◌++◌, Option, Result, Ok, Err, IfOk, string_bytes, Play, Threads, Checked, IsVerdict}
-use Rattle.act_histories.proofs.Common.{IsVerdictOf, WroteVerdict, told_part}
+use Rattle.act_histories.proofs.Common.{◌≡◌, ℕ, ◌+◌, true, List, ◌++◌, Option, Result, Ok, Err, IfOk, string_bytes, Threads, Checked, IsVerdict, IsVerdictOf}
+use Rattle.act_histories.proofs.Common.{WroteVerdict, told_part}
 use Rattle.act_types.specs.declared.limits.TheConstants.{MAX_SCRIPT_BYTES}
 use Rattle.act_rules.specs.Grammar.{Script, spelled}
 use Rattle.act_console.specs.Input.{IsWholeInput}
@@ -14,14 +14,13 @@ use Rattle.act_histories.specs.declared.check.Verdict.TheVariants as verdicts
 -- ---- a verdict
 
 -- the verdict of the script and the other lines is that of all
-pub of_parts : (bytes front rest : List ℕ) (script : Script) (verdict : Verdict) → bytes ≡ front ++ rest → rest ≡ told_part true bytes
-    → spelled Threads front ≡ Ok script
-    → IsVerdictOf script rest verdict → IsVerdict bytes verdict
-of_parts bytes front rest script (verdicts.Play text) parts told read is =
+pub of_parts : {bytes : List ℕ} (front rest : List ℕ) {script : Script} (verdict : Verdict) → bytes ≡ front ++ rest → rest ≡ told_part true bytes →
+    spelled Threads front ≡ Ok script → IsVerdictOf script rest verdict → IsVerdict bytes verdict
+of_parts front rest {script} (verdicts.Play text) parts told read is =
     record { script = script; rest = rest; read = record { front = front; parts = parts; told = told; read = read }; play = is }
-of_parts bytes front rest script (verdicts.Refused text) parts told read is =
+of_parts front rest {script} (verdicts.Refused text) parts told read is =
     record { script = script; rest = rest; read = record { front = front; parts = parts; told = told; read = read }; nowhere = is }
-of_parts bytes front rest script (verdicts.Mistake text) parts told read is = tt
+of_parts front rest (verdicts.Mistake text) parts told read is = tt
 
 -- ---- what was written
 

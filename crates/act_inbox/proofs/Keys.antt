@@ -7,8 +7,9 @@ use Rattle.act_inbox.proofs.Packets.{both_equal, is_call_tells}
 use Rattle.act_inbox.proofs.Slots.{find-slot, find-no_slot, All-filled, slot-All, slice_get-set_same, slice_get-set_other}
 
 -- what a caller's index tells
-pub key_at : (keys : List (List ℕ)) (place : ℕ) (index : List ℕ) → place < length keys → index ≡ get_or keys place index → (caller number : ℕ) → place ≡ caller → key_of keys caller number ≡ key_in index number
-key_at keys place index within reached caller number same =
+pub key_at : (keys : List (List ℕ)) {place : ℕ} {index : List ℕ} → place < length keys → index ≡ get_or keys place index → {caller : ℕ} (number : ℕ) →
+    place ≡ caller → key_of keys caller number ≡ key_in index number
+key_at keys {place} {index} within reached {caller} number same =
     let here : slice_get keys caller ≡ Some index = ap (slice_get keys) (sym same) ∙ slice_get-get_or keys place index within ∙ ap Some (sym reached) in
     rw here refl
 
@@ -19,11 +20,13 @@ is_same place number caller count = (place == caller) && (number == count)
 -- a caller's index after a change at one number
 module _ (keys : List (List ℕ)) (place : ℕ) (old new : List ℕ) (within : place < length keys) (reached : old ≡ get_or keys place old) where
   -- only the key of the caller's call of that number changes
-  pub key_of-set : (number : ℕ) (slot : Option ℕ) → ((count : ℕ) → key_in new count ≡ (if number == count then slot else key_in old count)) → (caller count : ℕ) → key_of (set keys place new) caller count ≡ (if is_same place number caller count then slot else key_of keys caller count)
+  pub key_of-set : (number : ℕ) (slot : Option ℕ) → ((count : ℕ) → key_in new count ≡ (if number == count then slot else key_in old count)) →
+      (caller count : ℕ) → key_of (set keys place new) caller count ≡ (if is_same place number caller count then slot else key_of keys caller count)
   key_of-set number slot updates caller count = elim (eqb_tells place caller) [
     | inl t ↦
         let here : slice_get keys caller ≡ Some old = ap (slice_get keys) (sym t.1) ∙ slice_get-get_or keys place old within ∙ ap Some (sym reached) in
-        let there : slice_get (set keys place new) caller ≡ Some new = ap (slice_get (set keys place new)) (sym t.1) ∙ slice_get-set_same keys place new within in
+        let there : slice_get (set keys place new) caller ≡ Some new =
+        ap (slice_get (set keys place new)) (sym t.1) ∙ slice_get-set_same keys place new within in
         rw (t.0, here, there) (updates count)
     | inr f ↦
         let same : slice_get (set keys place new) caller ≡ slice_get keys caller = slice_get-set_other keys place caller new (λ e. f.1 (sym e)) in
@@ -35,20 +38,21 @@ module _ (keys : List (List ℕ)) (place : ℕ) (old new : List ℕ) (within : p
   key_of-kept unchanged caller count = elim (eqb_tells place caller) [
     | inl t ↦
         let here : slice_get keys caller ≡ Some old = ap (slice_get keys) (sym t.1) ∙ slice_get-get_or keys place old within ∙ ap Some (sym reached) in
-        let there : slice_get (set keys place new) caller ≡ Some new = ap (slice_get (set keys place new)) (sym t.1) ∙ slice_get-set_same keys place new within in
-        rw (here, there) (ap (λ (index : List ℕ). key_in index count) unchanged)
-    | inr f ↦ ap (option_and_then (λ (index : List ℕ). key_in index count)) (slice_get-set_other keys place caller new (λ e. f.1 (sym e)))
+        let there : slice_get (set keys place new) caller ≡ Some new =
+        ap (slice_get (set keys place new)) (sym t.1) ∙ slice_get-set_same keys place new within in
+        rw (here, there) (ap (λ index. key_in index count) unchanged)
+    | inr f ↦ ap (option_and_then (λ index. key_in index count)) (slice_get-set_other keys place caller new (λ e. f.1 (sym e)))
   ]
 
-both_same : (a b c d : ℕ) → a ≡ b → c ≡ d → ((a == b) && (c == d)) ≡ true
-both_same a b c d e f = grind (arith, nat_tests)
+both_same : {a : ℕ} (b : ℕ) {c : ℕ} (d : ℕ) → a ≡ b → c ≡ d → ((a == b) && (c == d)) ≡ true
+both_same b d e f = grind (arith, nat_tests)
 
 pub is_same_itself : (caller number : ℕ) → is_same caller number caller number ≡ true
-is_same_itself caller number = both_same caller caller number number refl refl
+is_same_itself caller number = both_same {a = caller} caller {c = number} number refl refl
 
 -- a packet of the caller and number is that call
-pub is_call_from : (caller number : ℕ) (packet : Packet) → packet.caller ≡ caller → packet.number ≡ number → is_packet_of caller number packet ≡ true
-is_call_from caller number packet of_caller numbered = both_same packet.caller caller packet.number number of_caller numbered
+pub is_call_from : {caller number : ℕ} (packet : Packet) → packet.caller ≡ caller → packet.number ≡ number → is_packet_of caller number packet ≡ true
+is_call_from {caller} {number} packet of_caller numbered = both_same caller number of_caller numbered
 
 -- what a key names
 pub record Names (packets : Slab Packet) (caller number key : ℕ) : Type 0 where
@@ -57,7 +61,8 @@ pub record Names (packets : Slab Packet) (caller number key : ℕ) : Type 0 wher
   pub of_caller : packet.caller ≡ caller
   pub numbered : packet.number ≡ number
 
-names_by : (packets : Slab Packet) (caller number key : ℕ) (slot : Option Packet) → get packets key ≡ slot → IsSomeAnd slot (λ packet. (packet.caller ≡ caller) × (packet.number ≡ number)) → Names packets caller number key
+names_by : (packets : Slab Packet) (caller number key : ℕ) (slot : Option Packet) → get packets key ≡ slot →
+    IsSomeAnd slot (λ packet. (packet.caller ≡ caller) × (packet.number ≡ number)) → Names packets caller number key
 names_by packets caller number key None at told = absurd told
 names_by packets caller number key (Some packet) at told = record { packet = packet; reached = at; of_caller = told.0; numbered = told.1 }
 
@@ -66,34 +71,37 @@ module _ (packets : Slab Packet) (keys : List (List ℕ)) (held : IsHeld packets
   pub names : (key : ℕ) → key_of keys caller number ≡ Some key → Names packets caller number key
   names key at = names_by packets caller number key (get packets key) refl (held.named caller number key at)
 
-  key_is : (key : ℕ) (packet : Packet) → get packets key ≡ Some packet → is_packet_of caller number packet ≡ true → key_of keys caller number ≡ Some key
-  key_is key packet reached is = let told = is_call_tells caller number packet is in rw (told.0, told.1) at (held.indexed key packet reached)
+  key_is : (key : ℕ) {packet : Packet} → get packets key ≡ Some packet → is_packet_of caller number packet ≡ true → key_of keys caller number ≡ Some key
+  key_is key {packet} reached is = let told = is_call_tells caller number packet is in rw (told.0, told.1) at (held.indexed key packet reached)
 
-  not_call : key_of keys caller number ≡ None → (key : ℕ) (packet : Packet) → get packets key ≡ Some packet → (b : Bool) → is_packet_of caller number packet ≡ b → b ≡ false
-  not_call nowhere key packet reached true is = let at = key_is key packet reached is in absurd (cc)
-  not_call nowhere key packet reached false is = refl
+  not_call : key_of keys caller number ≡ None → (key : ℕ) {packet : Packet} → get packets key ≡ Some packet → (b : Bool) →
+      is_packet_of caller number packet ≡ b → b ≡ false
+  not_call nowhere key {packet} reached true is = let at = key_is key reached is in absurd (cc)
+  not_call nowhere key reached false is = refl
 
   -- a call without a key has no packet that is held
   pub none_held : key_of keys caller number ≡ None → find (is_packet_of caller number) (values packets) ≡ None
-  none_held nowhere = find-no_slot (is_packet_of caller number) packets.slots (λ key packet reached. not_call nowhere key packet reached (is_packet_of caller number packet) refl)
+  none_held nowhere =
+      find-no_slot (is_packet_of caller number) packets.slots (λ key packet reached. not_call nowhere key reached (is_packet_of caller number packet) refl)
 
-  same_packet : (key : ℕ) (packet : Packet) → key_of keys caller number ≡ Some key → get packets key ≡ Some packet → (other : ℕ) (second : Packet) → get packets other ≡ Some second → is_packet_of caller number second ≡ true → second ≡ packet
-  same_packet key packet at reached other second there is =
-      let at_other = key_is other second there is in
-      let same : other ≡ key = cc in
-      let here : get packets key ≡ Some second = ap (get packets) (sym same) ∙ there in
-      cc
+  same_packet : (key : ℕ) {packet : Packet} → key_of keys caller number ≡ Some key → get packets key ≡ Some packet → (other : ℕ) (second : Packet) →
+      get packets other ≡ Some second → is_packet_of caller number second ≡ true → second ≡ packet
+  same_packet key at reached other second there is =
+      let at_other = key_is other there is in let same : other ≡ key = cc in
+      let here : get packets key ≡ Some second = ap (get packets) (sym same) ∙ there in cc
 
-  pub one_held : (key : ℕ) (packet : Packet) → key_of keys caller number ≡ Some key → get packets key ≡ Some packet → find (is_packet_of caller number) (values packets) ≡ Some packet
-  one_held key packet at reached =
-      let named = names key at in
-      let same : named.packet ≡ packet = let one = named.reached in cc in
-      let is : is_packet_of caller number packet ≡ true = subst (λ (p : Packet). is_packet_of caller number p ≡ true) same (is_call_from caller number named.packet named.of_caller named.numbered) in
-      find-slot (is_packet_of caller number) packets.slots key packet reached is (same_packet key packet at reached)
+  pub one_held : {key : ℕ} {packet : Packet} → key_of keys caller number ≡ Some key → get packets key ≡ Some packet →
+      find (is_packet_of caller number) (values packets) ≡ Some packet
+  one_held {key} {packet} at reached =
+      let named = names key at in let same : named.packet ≡ packet = let one = named.reached in cc in
+      let is : is_packet_of caller number packet ≡ true =
+      subst (λ p. is_packet_of caller number p ≡ true) same (is_call_from named.packet named.of_caller named.numbered) in
+      find-slot (is_packet_of caller number) packets.slots key packet reached is (same_packet key at reached)
 
-  finds_by : (key : Option ℕ) → key_of keys caller number ≡ key → find (is_packet_of caller number) (values packets) ≡ option_and_then (λ key. get packets key) key
+  finds_by : (key : Option ℕ) → key_of keys caller number ≡ key →
+      find (is_packet_of caller number) (values packets) ≡ option_and_then (λ key. get packets key) key
   finds_by None at = none_held at
-  finds_by (Some key) at = let named = names key at in one_held key named.packet at named.reached ∙ sym named.reached
+  finds_by (Some key) at = let named = names key at in one_held at named.reached ∙ sym named.reached
 
   -- the packet of a call is found by its key
   pub finds : find (is_packet_of caller number) (values packets) ≡ option_and_then (λ key. get packets key) (key_of keys caller number)
@@ -101,14 +109,16 @@ module _ (packets : Slab Packet) (keys : List (List ℕ)) (held : IsHeld packets
 
   not_keyed_by : (key : Option ℕ) → key_of keys caller number ≡ key → find (is_packet_of caller number) (values packets) ≡ None → key ≡ None
   not_keyed_by None at none = refl
-  not_keyed_by (Some key) at none = let named = names key at in let one = one_held key named.packet at named.reached in absurd (cc)
+  not_keyed_by (Some key) at none = let named = names key at in let one = one_held at named.reached in absurd (cc)
 
   pub not_keyed : find (is_packet_of caller number) (values packets) ≡ None → key_of keys caller number ≡ None
   not_keyed none = not_keyed_by (key_of keys caller number) refl none
 
 -- the same slots and the same keys
-pub held_same : (packets after : Slab Packet) (keys keys_after : List (List ℕ)) → IsHeld packets keys → ((key : ℕ) → get after key ≡ get packets key) → length keys_after ≡ length keys → ((caller number : ℕ) → key_of keys_after caller number ≡ key_of keys caller number) → IsHeld after keys_after
-held_same packets after keys keys_after held slots long same = record {
+pub held_same : {packets : Slab Packet} (after : Slab Packet) {keys : List (List ℕ)} (keys_after : List (List ℕ)) → IsHeld packets keys →
+    ((key : ℕ) → get after key ≡ get packets key) → length keys_after ≡ length keys →
+    ((caller number : ℕ) → key_of keys_after caller number ≡ key_of keys caller number) → IsHeld after keys_after
+held_same after keys_after held slots long same = record {
   one_each = long ∙ held.one_each;
   named = λ caller number key at. rw (slots key) (held.named caller number key (sym (same caller number) ∙ at));
   indexed = λ key packet reached. same packet.caller packet.number ∙ held.indexed key packet (sym (slots key) ∙ reached);
@@ -128,16 +138,19 @@ module _ (packets after : Slab Packet) (slot : ℕ) (content : Option Packet) (w
   ])
 
 -- no calls
-no_index : (keys : List (List ℕ)) → All (λ (index : List ℕ). index ≡ []) keys → (caller number : ℕ) (index : Option (List ℕ)) → slice_get keys caller ≡ index → option_and_then (λ (index : List ℕ). key_in index number) index ≡ None
+no_index : (keys : List (List ℕ)) → All (λ index. index ≡ []) keys → (caller number : ℕ) (index : Option (List ℕ)) → slice_get keys caller ≡ index →
+    option_and_then (λ index. key_in index number) index ≡ None
 no_index keys empty caller number None at = refl
 no_index keys empty caller number (Some index) at =
-    let none : index ≡ [] = subst (λ (i : List ℕ). i ≡ []) (get_or_from_slice_get keys caller index index at) (empty caller index (slice_get_within keys caller index at)) in
-    ap (λ (index : List ℕ). key_in index number) none
+    let none : index ≡ [] =
+    subst (λ i. i ≡ []) (get_or_from_slice_get keys caller index index at) (empty caller index (slice_get_within keys caller index at)) in
+    ap (λ index. key_in index number) none
 
 no_slot : (packets : Slab Packet) → packets.slots ≡ [] → (key : ℕ) → get packets key ≡ None
 no_slot packets empty key = rw empty refl
 
-pub held_at_first : (packets : Slab Packet) (keys : List (List ℕ)) → packets.slots ≡ [] → length keys ≡ 17 → All (λ (index : List ℕ). index ≡ []) keys → IsHeld packets keys
+pub held_at_first : (packets : Slab Packet) (keys : List (List ℕ)) → packets.slots ≡ [] → length keys ≡ 17 → All (λ index. index ≡ []) keys →
+    IsHeld packets keys
 held_at_first packets keys no_packets one_each no_keys = record {
   one_each = one_each;
   named = λ caller number key at. let none = no_index keys no_keys caller number (slice_get keys caller) refl in absurd (cc);
@@ -150,27 +163,28 @@ module _ (packets after : Slab Packet) (keys keys_after : List (List ℕ)) (pack
     (long : length keys_after ≡ length keys)
     (keyed : (caller number : ℕ) → key_of keys_after caller number ≡ (if is_packet_of caller number packet then Some slot else key_of keys caller number)) where
   not_vacant : (caller number key : ℕ) → key_of keys caller number ≡ Some key → key ≢ slot
-  not_vacant caller number key at same = let named = names packets keys held caller number key at in let one = named.reached in let none : get packets key ≡ None = ap (get packets) same ∙ vacant in absurd (cc)
+  not_vacant caller number key at same = let named = names packets keys held caller number key at in let one = named.reached in
+      let none : get packets key ≡ None = ap (get packets) same ∙ vacant in absurd (cc)
 
-  came_named : (caller number key : ℕ) (b : Bool) → is_packet_of caller number packet ≡ b → key_of keys_after caller number ≡ Some key → IsSomeAnd (get after key) (λ each. (each.caller ≡ caller) × (each.number ≡ number))
+  came_named : (caller number key : ℕ) (b : Bool) → is_packet_of caller number packet ≡ b → key_of keys_after caller number ≡ Some key →
+      IsSomeAnd (get after key) (λ each. (each.caller ≡ caller) × (each.number ≡ number))
   came_named caller number key true is at =
       let there : key_of keys_after caller number ≡ Some slot = rw is at (keyed caller number) in
-      let same : slot ≡ key = cc in
-      rw (ap (get after) (sym same) ∙ written.changed) (is_call_tells caller number packet is)
+      let same : slot ≡ key = cc in rw (ap (get after) (sym same) ∙ written.changed) (is_call_tells caller number packet is)
   came_named caller number key false is at =
       let there : key_of keys caller number ≡ Some key = sym (rw is at (keyed caller number)) ∙ at in
       rw (written.others key (not_vacant caller number key there)) (held.named caller number key there)
 
-  came_indexed : (key : ℕ) (each : Packet) (b : Bool) → is_packet_of each.caller each.number packet ≡ b → get packets key ≡ Some each → key_of keys_after each.caller each.number ≡ Some key
+  came_indexed : (key : ℕ) (each : Packet) (b : Bool) → is_packet_of each.caller each.number packet ≡ b → get packets key ≡ Some each →
+      key_of keys_after each.caller each.number ≡ Some key
   came_indexed key each true is reached =
       let told = is_call_tells each.caller each.number packet is in
       let nowhere : key_of keys each.caller each.number ≡ None = rw (told.0, told.1) at absent in
-      let at = held.indexed key each reached in
-      absurd (cc)
+      let at = held.indexed key each reached in absurd (cc)
   came_indexed key each false is reached = rw is at (keyed each.caller each.number) ∙ held.indexed key each reached
 
   own_key : (each : Packet) → packet ≡ each → key_of keys_after each.caller each.number ≡ Some slot
-  own_key each same = rw (is_call_from each.caller each.number packet (ap (λ (p : Packet). p.caller) same) (ap (λ (p : Packet). p.number) same)) at (keyed each.caller each.number)
+  own_key each same = rw (is_call_from packet (ap (λ (p : Packet). p.caller) same) (ap (λ (p : Packet). p.number) same)) at (keyed each.caller each.number)
 
   pub held_came : IsHeld after keys_after
   held_came = record {
@@ -179,20 +193,22 @@ module _ (packets after : Slab Packet) (keys keys_after : List (List ℕ)) (pack
     indexed = λ key each reached. elim (cases_eq key slot) [
       | inl same ↦
           let here : Some packet ≡ Some each = sym written.changed ∙ ap (get after) (sym same) ∙ reached in
-          let one : packet ≡ each = cc in
-          own_key each one ∙ ap Some (sym same)
+          let one : packet ≡ each = cc in own_key each one ∙ ap Some (sym same)
       | inr differs ↦ came_indexed key each (is_packet_of each.caller each.number packet) refl (sym (written.others key differs) ∙ reached)
     ];
   }
 
-  found_by : (caller number : ℕ) (b : Bool) → is_packet_of caller number packet ≡ b → find (is_packet_of caller number) (values after) ≡ (if b then Some packet else find (is_packet_of caller number) (values packets))
-  found_by caller number true is = finds after keys_after held_came caller number ∙ ap (option_and_then (λ key. get after key)) (rw is at (keyed caller number)) ∙ written.changed
+  found_by : (caller number : ℕ) (b : Bool) → is_packet_of caller number packet ≡ b →
+      find (is_packet_of caller number) (values after) ≡ (if b then Some packet else find (is_packet_of caller number) (values packets))
+  found_by caller number true is =
+      finds after keys_after held_came caller number ∙ ap (option_and_then (λ key. get after key)) (rw is at (keyed caller number)) ∙ written.changed
   found_by caller number false is =
       finds after keys_after held_came caller number ∙ ap (option_and_then (λ key. get after key)) (rw is at (keyed caller number))
       ∙ elsewhere packets after slot (Some packet) written (key_of keys caller number) (not_vacant caller number)
       ∙ sym (finds packets keys held caller number)
 
-  pub found_came : (caller number : ℕ) → find (is_packet_of caller number) (values after) ≡ (if is_packet_of caller number packet then Some packet else find (is_packet_of caller number) (values packets))
+  pub found_came : (caller number : ℕ) → find (is_packet_of caller number)
+      (values after) ≡ (if is_packet_of caller number packet then Some packet else find (is_packet_of caller number) (values packets))
   found_came caller number = found_by caller number (is_packet_of caller number packet) refl
 
 -- a call goes
@@ -202,33 +218,32 @@ module _ (packets after : Slab Packet) (keys keys_after : List (List ℕ)) (pack
     (keyed : (other count : ℕ) → key_of keys_after other count ≡ (if is_same caller number other count then None else key_of keys other count)) where
   mine : (packet.caller ≡ caller) × (packet.number ≡ number)
   mine =
-      let named = names packets keys held caller number slot at in
-      let reached = named.reached in
-      let same : named.packet ≡ packet = cc in
+      let named = names packets keys held caller number slot at in let reached = named.reached in let same : named.packet ≡ packet = cc in
       (ap (λ (p : Packet). p.caller) (sym same) ∙ named.of_caller, ap (λ (p : Packet). p.number) (sym same) ∙ named.numbered)
 
   -- another call has another key
   not_there : (other count key : ℕ) → is_same caller number other count ≡ false → key_of keys other count ≡ Some key → key ≢ slot
   not_there other count key apart there same =
-      let named = names packets keys held other count key there in
-      let reached = named.reached in
+      let named = names packets keys held other count key there in let reached = named.reached in
       let here : get packets key ≡ Some packet = ap (get packets) same ∙ stood in
       let one : named.packet ≡ packet = cc in
-      let is : is_same caller number other count ≡ true = both_same caller other number count (sym mine.0 ∙ ap (λ (p : Packet). p.caller) (sym one) ∙ named.of_caller) (sym mine.1 ∙ ap (λ (p : Packet). p.number) (sym one) ∙ named.numbered) in
+      let is : is_same caller number other count ≡ true = both_same other count (sym mine.0 ∙ ap (λ (p : Packet). p.caller) (sym one) ∙ named.of_caller)
+      (sym mine.1 ∙ ap (λ (p : Packet). p.number) (sym one) ∙ named.numbered) in
       absurd (cc)
 
-  gone_named : (other count key : ℕ) (b : Bool) → is_same caller number other count ≡ b → key_of keys_after other count ≡ Some key → IsSomeAnd (get after key) (λ each. (each.caller ≡ other) × (each.number ≡ count))
+  gone_named : (other count key : ℕ) (b : Bool) → is_same caller number other count ≡ b → key_of keys_after other count ≡ Some key →
+      IsSomeAnd (get after key) (λ each. (each.caller ≡ other) × (each.number ≡ count))
   gone_named other count key true is there = let none : key_of keys_after other count ≡ None = rw is at (keyed other count) in absurd (cc)
   gone_named other count key false is there =
       let before : key_of keys other count ≡ Some key = sym (rw is at (keyed other count)) ∙ there in
       rw (written.others key (not_there other count key is before)) (held.named other count key before)
 
-  gone_indexed : (key : ℕ) (each : Packet) (b : Bool) → is_same caller number each.caller each.number ≡ b → key ≢ slot → get packets key ≡ Some each → key_of keys_after each.caller each.number ≡ Some key
+  gone_indexed : (key : ℕ) (each : Packet) (b : Bool) → is_same caller number each.caller each.number ≡ b → key ≢ slot → get packets key ≡ Some each →
+      key_of keys_after each.caller each.number ≡ Some key
   gone_indexed key each true is differs reached =
       let told = both_equal caller each.caller number each.number is in
       let there : key_of keys caller number ≡ Some key = rw (told.0, told.1) (held.indexed key each reached) in
-      let same : key ≡ slot = cc in
-      absurd (differs same)
+      let same : key ≡ slot = cc in absurd (differs same)
   gone_indexed key each false is differs reached = rw is at (keyed each.caller each.number) ∙ held.indexed key each reached
 
   pub held_gone : IsHeld after keys_after
@@ -241,7 +256,8 @@ module _ (packets after : Slab Packet) (keys keys_after : List (List ℕ)) (pack
     ];
   }
 
-  pub found_gone : (other count : ℕ) → is_packet_of other count packet ≡ false → find (is_packet_of other count) (values after) ≡ find (is_packet_of other count) (values packets)
+  pub found_gone : (other count : ℕ) → is_packet_of other count packet ≡ false →
+      find (is_packet_of other count) (values after) ≡ find (is_packet_of other count) (values packets)
   found_gone other count apart =
       let is : is_same caller number other count ≡ false = rw (mine.0, mine.1) at apart in
       finds after keys_after held_gone other count ∙ ap (option_and_then (λ key. get after key)) (rw is at (keyed other count))

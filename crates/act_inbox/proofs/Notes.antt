@@ -8,7 +8,7 @@ use Rattle.act_inbox.proofs.Lanes.{caller_at, listed_handed, within}
 -- who has a lane is listed
 listed_by : (inbox : InboxView) (caller : ℕ) (place : Option ℕ) → position (is_lane_of caller) inbox.lanes ≡ place → is_some place ≡ is_listed inbox caller
 listed_by inbox caller None at = rw (find-None (is_lane_of caller) inbox.lanes at) refl
-listed_by inbox caller (Some place) at = rw (find-Some (is_lane_of caller) inbox.lanes place (lane_at_first 0) at) refl
+listed_by inbox caller (Some place) at = rw (find-Some (is_lane_of caller) inbox.lanes (lane_at_first 0) at) refl
 
 -- a caller is listed exactly where a place of its lane is found
 pub listed_is : (inbox : InboxView) (caller : ℕ) → is_some (position (is_lane_of caller) inbox.lanes) ≡ is_listed inbox caller
@@ -18,19 +18,21 @@ listed_is inbox caller = listed_by inbox caller (position (is_lane_of caller) in
 abbrev pub AreDone : InboxView → Type 0
 AreDone inbox = All (λ (lane : Lane). note_of inbox lane.caller ≡ Some lane.handed) inbox.lanes
 
-done_by : (inbox : InboxView) → AreDone inbox → (caller : ℕ) (place : Option ℕ) → position (is_lane_of caller) inbox.lanes ≡ place → is_some place ≡ true → note_of inbox caller ≡ Some (handed_of inbox caller)
+done_by : (inbox : InboxView) → AreDone inbox → (caller : ℕ) (place : Option ℕ) → position (is_lane_of caller) inbox.lanes ≡ place → is_some place ≡ true →
+    note_of inbox caller ≡ Some (handed_of inbox caller)
 done_by inbox done caller None at listed = absurd (cc)
 done_by inbox done caller (Some place) at listed =
     let lane : Lane = get_or inbox.lanes place (lane_at_first 0) in
-    let found : lane_of inbox caller ≡ Some lane = find-Some (is_lane_of caller) inbox.lanes place (lane_at_first 0) at in
+    let found : lane_of inbox caller ≡ Some lane = find-Some (is_lane_of caller) inbox.lanes (lane_at_first 0) at in
     let here : note_of inbox lane.caller ≡ Some lane.handed = done place (lane_at_first 0) (within inbox caller place at) in
-    subst (λ (c : ℕ). note_of inbox c ≡ Some lane.handed) (caller_at inbox caller place at (lane_at_first 0)) here ∙ ap Some (listed_handed inbox caller lane found)
+    subst (λ c. note_of inbox c ≡ Some lane.handed) (caller_at inbox caller place at (lane_at_first 0)) here ∙ ap Some (listed_handed inbox caller found)
 
 drained_from_done : (inbox : InboxView) → AreDone inbox → IsDrained inbox
 drained_from_done inbox done caller listed = done_by inbox done caller (position (is_lane_of caller) inbox.lanes) refl (listed_is inbox caller ∙ listed)
 
 -- where no caller has two lanes, each lane is found
-module _ (lanes : List Lane) (distinct : AllPairs (λ (one other : ℕ). one ≢ other) (map (λ lane. lane.caller) lanes)) (place : ℕ) (d : Lane) (within : place < length lanes) where
+module _ (lanes : List Lane) (distinct : AllPairs (λ one other. one ≢ other) (map (λ lane. lane.caller) lanes)) (place : ℕ) (d : Lane)
+    (within : place < length lanes) where
   not_earlier : (earlier : ℕ) → earlier < place → is_lane_of (get_or lanes place d).caller (get_or lanes earlier d) ≡ false
   not_earlier earlier before =
       let here = get_or-map (λ (lane : Lane). lane.caller) lanes place d 0 within in
@@ -41,14 +43,15 @@ module _ (lanes : List Lane) (distinct : AllPairs (λ (one other : ℕ). one ≢
   found_at : find (is_lane_of (get_or lanes place d).caller) lanes ≡ Some (get_or lanes place d)
   found_at =
       let caller = (get_or lanes place d).caller in
-      let first = position_or_len_is (is_lane_of caller) lanes place d (omega arith) not_earlier (λ _. elim (eqb_tells caller caller) [ inl t ↦ t.0 | inr f ↦ absurd (f.1 refl) ]) in
+      let first = position_or_len_is (is_lane_of caller) lanes place d (omega arith) not_earlier
+      (λ _. elim (eqb_tells caller caller) [ inl t ↦ t.0 | inr f ↦ absurd (f.1 refl) ]) in
       find_at (is_lane_of caller) lanes ∙ ap (slice_get lanes) first ∙ slice_get-get_or lanes place d within
 
 done_from_drained : (inbox : InboxView) → IsInbox inbox.lanes inbox.held → IsDrained inbox → AreDone inbox
 done_from_drained inbox sound drained place d within =
     let lane : Lane = get_or inbox.lanes place d in
     let found : lane_of inbox lane.caller ≡ Some lane = found_at inbox.lanes sound.distinct place d within in
-    drained lane.caller (rw found refl) ∙ ap Some (sym (listed_handed inbox lane.caller lane found))
+    drained lane.caller (rw found refl) ∙ ap Some (sym (listed_handed inbox lane.caller found))
 
 pub drained_decides : (inbox : InboxView) → IsInbox inbox.lanes inbox.held → (done : Bool) → Decides done (AreDone inbox) → Decides done (IsDrained inbox)
 drained_decides inbox sound done decides = (λ yes. drained_from_done inbox (decides.0 yes), λ drained. decides.1 (done_from_drained inbox sound drained))

@@ -8,14 +8,15 @@ use Rattle.act_inbox.proofs.Common.{Lane, IsInbox, InboxView, is_lane_of, lane_a
 -- numbers from 1 to 16 with no two equal are at most 16
 few_callers : (callers : List ℕ) → AllPairs (λ one other. one ≢ other) callers → All (λ caller. (1 ≤ caller) × (caller ≤ 16)) callers → length callers ≤ 16
 few_callers callers pairs valid =
-    let apart : All (λ caller. eqb 0 caller ≡ false) callers = λ k d within. let ok = valid k d within in elim (eqb_tells 0 (get_or callers k d)) [ inl t ↦ absurd (omega arith) | inr f ↦ f.0 ] in
-    let distinct : IsDistinct eqb (0 ∷ callers) = IsDistinct-cons eqb 0 callers (recursion_from_All (λ caller. eqb 0 caller ≡ false) callers apart) (IsDistinct-from_AllPairs Decides-eqb callers pairs) in
-    let below : All (λ caller. caller < 17) (0 ∷ callers) = All-cons (λ caller. caller < 17) 0 callers (omega arith) (λ k d within. let ok = valid k d within in omega arith) in
+    let apart : All (λ caller. eqb 0 caller ≡ false) callers = λ k d within. let ok = valid k d within in
+    elim (eqb_tells 0 (get_or callers k d)) [ inl t ↦ absurd (omega arith) | inr f ↦ f.0 ] in
+    let distinct : IsDistinct eqb (0 ∷ callers) = IsDistinct-cons eqb 0 callers (recursion_from_All (λ caller. eqb 0 caller ≡ false) callers apart)
+    (IsDistinct-from_AllPairs Decides-eqb callers pairs) in
+    let below : All (λ caller. caller < 17) (0 ∷ callers) =
+    All-cons (λ caller. caller < 17) 0 callers (omega arith) (λ k d within. let ok = valid k d within in omega arith) in
     let most : length (0 ∷ callers) ≤ 17 = length-le_from_distinct_below (0 ∷ callers) 17 distinct
-    (λ q is. let any = Any-from_list_any (eqb q) (0 ∷ callers) is in
-    let same : q ≡ any.1 = eqb-true q any.1 any.4 in
-    let there : get_or (0 ∷ callers) any.0 any.1 ≡ any.1 = any.3 in
-    let small : get_or (0 ∷ callers) any.0 any.1 < 17 = below any.0 any.1 any.2 in omega arith) in
+    (λ q is. let any = Any-from_list_any (eqb q) (0 ∷ callers) is in let same : q ≡ any.1 = eqb-true q any.1 any.4 in let there : get_or
+    (0 ∷ callers) any.0 any.1 ≡ any.1 = any.3 in let small : get_or (0 ∷ callers) any.0 any.1 < 17 = below any.0 any.1 any.2 in omega arith) in
     omega arith
 
 -- lanes at first
@@ -29,7 +30,8 @@ handed_at_first (one ∷ callers) caller = elim (eqb_tells one caller) [ inl t �
 
 in_all_at_first : (callers : List ℕ) → sum_by (λ lane. lane.handed) (map lane_at_first callers) ≡ 0
 in_all_at_first callers =
-    let most = sum_by-le (λ (lane : Lane). lane.handed) 0 (map lane_at_first callers) (All-map (λ lane. lane.handed ≤ 0) lane_at_first callers (λ k d within. omega arith)) in
+    let most = sum_by-le (λ (lane : Lane). lane.handed) 0 (map lane_at_first callers)
+    (All-map (λ lane. lane.handed ≤ 0) lane_at_first callers (λ k d within. omega arith)) in
     omega arith
 
 callers_at_first : (callers : List ℕ) → map (λ lane. lane.caller) (map lane_at_first callers) ≡ callers
@@ -46,7 +48,8 @@ no_note count caller = elim (leb_tells (suc caller) count) [
   | inr f ↦ let long : length (no_notes count) ≡ count = length-replicate count None in get_or_past (no_notes count) caller None (omega (arith, f.1))
 ]
 
-module _ (callers : List ℕ) (inbox : InboxView) (lanes : inbox.lanes ≡ map lane_at_first callers) (held : inbox.held ≡ []) (notes : inbox.notes ≡ no_notes 17) where
+module _ (callers : List ℕ) (inbox : InboxView) (lanes : inbox.lanes ≡ map lane_at_first callers) (held : inbox.held ≡ [])
+    (notes : inbox.notes ≡ no_notes 17) where
   -- an inbox with these lanes, with no packets and no notes, is as just opened for the callers
   pub opened : IsOpened callers inbox
   opened = record {

@@ -14,12 +14,14 @@ key_in_more [] m count = zeros m count
 key_in_more (p ∷ ps) m zero = refl
 key_in_more (p ∷ ps) m (suc count) = key_in_more ps m count
 
-pub key_in_set : (index : List ℕ) (number place : ℕ) → number < length index → (count : ℕ) → key_in (set index number place) count ≡ (if number == count then told_key place else key_in index count)
+pub key_in_set : (index : List ℕ) (number place : ℕ) → number < length index → (count : ℕ) →
+    key_in (set index number place) count ≡ (if number == count then told_key place else key_in index count)
 key_in_set index number place within count = elim (eqb_tells number count) [
   | inl t ↦ rw (t.0, ← t.1, slice_get-set_same index number place within) refl
   | inr f ↦ rw (f.0, slice_get-set_other index number count place (λ e. f.1 (sym e))) refl
 ]
 
 -- a table that is filled up to a length
-pub key_in_filled : (old new : List ℕ) (n : ℕ) → length old ≤ n → new ≡ take n old ++ replicate (n - length old) 0 → (count : ℕ) → key_in new count ≡ key_in old count
+pub key_in_filled : (old new : List ℕ) (n : ℕ) → length old ≤ n → new ≡ take n old ++ replicate (n - length old) 0 → (count : ℕ) →
+    key_in new count ≡ key_in old count
 key_in_filled old new n le is count = rw (is, take_all n old le) (key_in_more old (n - length old) count)

@@ -13,15 +13,18 @@ module _ {X : Type 0} where
   head_fits p false x y rest is here there = there refl
 
   -- the one value that passes is found
-  pub find-slot : (p : X → Bool) (slots : List (Option X)) (key : ℕ) (x : X) → get_or slots key None ≡ Some x → p x ≡ true → ((other : ℕ) (y : X) → get_or slots other None ≡ Some y → p y ≡ true → y ≡ x) → find p (filled slots) ≡ Some x
+  pub find-slot : (p : X → Bool) (slots : List (Option X)) (key : ℕ) (x : X) → get_or slots key None ≡ Some x → p x ≡ true →
+      ((other : ℕ) (y : X) → get_or slots other None ≡ Some y → p y ≡ true → y ≡ x) → find p (filled slots) ≡ Some x
   find-slot p [] key x at passes only = absurd (cc)
   find-slot p (None ∷ rest) zero x at passes only = absurd (cc)
   find-slot p (None ∷ rest) (suc key) x at passes only = find-slot p rest key x at passes (λ other y. only (suc other) y)
   find-slot p (Some y ∷ rest) zero x at passes only = head_fits p (p y) x y (find p (filled rest)) refl (λ yes. only zero y refl yes) (λ no. absurd (cc))
-  find-slot p (Some y ∷ rest) (suc key) x at passes only = head_fits p (p y) x y (find p (filled rest)) refl (λ yes. only zero y refl yes) (λ no. find-slot p rest key x at passes (λ other z. only (suc other) z))
+  find-slot p (Some y ∷ rest) (suc key) x at passes only =
+      head_fits p (p y) x y (find p (filled rest)) refl (λ yes. only zero y refl yes) (λ no. find-slot p rest key x at passes (λ other z. only (suc other) z))
 
   -- no value passes
-  pub find-no_slot : (p : X → Bool) (slots : List (Option X)) → ((key : ℕ) (x : X) → get_or slots key None ≡ Some x → p x ≡ false) → find p (filled slots) ≡ None
+  pub find-no_slot : (p : X → Bool) (slots : List (Option X)) → ((key : ℕ) (x : X) → get_or slots key None ≡ Some x → p x ≡ false) →
+      find p (filled slots) ≡ None
   find-no_slot p [] fails = refl
   find-no_slot p (None ∷ rest) fails = find-no_slot p rest (λ key x. fails (suc key) x)
   find-no_slot p (Some y ∷ rest) fails = rw (fails zero y refl) (find-no_slot p rest (λ key x. fails (suc key) x))
@@ -54,8 +57,8 @@ module _ {X : Type 0} where
   slice_get-set_other (y ∷ xs) (suc place) (suc other) x differs = slice_get-set_other xs place other x (λ same. differs (ap suc same))
 
   -- where no slot counts, there are no values
-  pub none_decides : (slots : List (Option X)) (empty : Bool) → empty ≡ (count_by is_some slots == 0) → Decides empty (filled slots ≡ [])
-  none_decides slots empty is = (
+  pub none_decides : (slots : List (Option X)) {empty : Bool} → empty ≡ (count_by is_some slots == 0) → Decides empty (filled slots ≡ [])
+  none_decides slots is = (
     λ yes. nil_from_length (filled slots) (sym (length-values slots) ∙ eqb-true _ _ (sym is ∙ yes)),
-    λ none. is ∙ eq-eqb _ _ (length-values slots ∙ ap (λ (values : List X). length values) none),
+    λ none. is ∙ eq-eqb _ _ (length-values slots ∙ ap (λ values. length values) none),
   )

@@ -11,7 +11,8 @@ pub is_there : {X : Type 0} (o : Option X) → is_some o ≡ true → IsSome o
 is_there None e = absurd (cc)
 is_there (Some x) e = refl
 
-if_masked : (b b' : Bool) (x y : Option Packet) → (b' ≡ true → b ≡ true) → (b ≡ false → x ≡ y) → (if b then None else x) ≡ (if b then None else (if b' then None else y))
+if_masked : (b b' : Bool) (x y : Option Packet) → (b' ≡ true → b ≡ true) → (b ≡ false → x ≡ y) →
+    (if b then None else x) ≡ (if b then None else (if b' then None else y))
 if_masked true b' x y low same = refl
 if_masked false true x y low same = let bad : false ≡ true = low refl in absurd (cc)
 if_masked false false x y low same = same refl
@@ -20,33 +21,31 @@ module _ (old : InboxView) (caller place : ℕ) (lane : Lane) (packet : Packet)
     (at : position (is_lane_of caller) old.lanes ≡ Some place) (lane_stands : lane ≡ get_or old.lanes place lane)
     (found : find (is_packet_of caller lane.handed) old.held ≡ Some packet) (sound : IsInbox old.lanes old.held) where
   listed : lane_of old caller ≡ Some lane
-  listed = lane_is old caller place at lane lane_stands
+  listed = lane_is old caller place at lane_stands
 
   handed_is : handed_of old caller ≡ lane.handed
   handed_is = rw listed refl
 
   mine : (packet.number < 65536) × (packet.caller ≡ caller) × (packet.number ≡ lane.handed)
   mine =
-      let told = find-tells (λ (each : Packet). each.number < 65536) (is_packet_of caller lane.handed) old.held packet sound.numbered found in
-      let is = is_call_tells caller lane.handed packet told.1 in
-      (told.0, is.0, is.1)
+      let told = find-tells (λ (each : Packet). each.number < 65536) (is_packet_of caller lane.handed) old.held sound.numbered found in
+      let is = is_call_tells caller lane.handed packet told.1 in (told.0, is.0, is.1)
 
   pub next_found : Some packet ≡ next_of old caller
-  next_found = sym (listed_next old caller lane listed ∙ found)
+  next_found = sym (listed_next old caller listed ∙ found)
 
   -- what is held of a call after this one went out
-  pub held_out : (new : List Packet) → find (is_packet_of caller lane.handed) new ≡ None
-      → ((other number : ℕ) → is_packet_of other number packet ≡ false → find (is_packet_of other number) new ≡ find (is_packet_of other number) old.held)
-      → (other number : ℕ) (b : Bool) → is_packet_of other number packet ≡ b → find (is_packet_of other number) new ≡ (if b then None else find (is_packet_of other number) old.held)
+  pub held_out : (new : List Packet) → find (is_packet_of caller lane.handed) new ≡ None → ((other number : ℕ) → is_packet_of other number packet ≡ false →
+      find (is_packet_of other number) new ≡ find (is_packet_of other number) old.held) → (other number : ℕ) (b : Bool) → is_packet_of other number packet ≡ b →
+      find (is_packet_of other number) new ≡ (if b then None else find (is_packet_of other number) old.held)
   held_out new gone others other number false is = others other number is
   held_out new gone others other number true is =
-      let is_mine = mine in
-      let theirs = is_call_tells other number packet is in
-      rw (sym theirs.0 ∙ is_mine.1, sym theirs.1 ∙ is_mine.2) gone
+      let is_mine = mine in let theirs = is_call_tells other number packet is in rw (sym theirs.0 ∙ is_mine.1, sym theirs.1 ∙ is_mine.2) gone
 
   module _ (new : InboxView) (written : Lane) (written_stands : written ≡ get_or old.lanes place written)
       (lanes : new.lanes ≡ slice_set old.lanes place (one_more written))
-      (held : (other number : ℕ) → is_packet_of other number packet ≡ false → find (is_packet_of other number) new.held ≡ find (is_packet_of other number) old.held)
+      (held : (other number : ℕ) → is_packet_of other number packet ≡ false →
+      find (is_packet_of other number) new.held ≡ find (is_packet_of other number) old.held)
       (numbered : All (λ each. each.number < 65536) new.held) (notes : new.notes ≡ old.notes) where
     same : written.caller ≡ caller
     same = ap (λ (l : Lane). l.caller) written_stands ∙ caller_at old caller place at written
@@ -57,11 +56,11 @@ module _ (old : InboxView) (caller place : ℕ) (lane : Lane) (packet : Packet)
     -- what is true of each inbox is true of the one after the call went out
     pub sound_then : IsInbox new.lanes new.held
     sound_then =
-        let is_mine = mine in
-        let same_count = more in
-        let little : written.handed + 1 ≤ 65536 = omega arith in
+        let is_mine = mine in let same_count = more in let little : written.handed + 1 ≤ 65536 = omega arith in
         record {
-          distinct = rw (lanes, map-set_same (λ (lane : Lane). lane.caller) old.lanes place (one_more written) written (ap (λ (l : Lane). l.caller) written_stands)) sound.distinct;
+          distinct =
+              rw (lanes, map-set_same (λ (lane : Lane). lane.caller) old.lanes place (one_more written) written (ap (λ (l : Lane). l.caller) written_stands))
+              sound.distinct;
           few = rw (lanes, length-set) sound.few;
           counted = rw lanes (All-set (λ lane. lane.handed ≤ 65536) old.lanes place (one_more written) little sound.counted);
           numbered = numbered;
@@ -72,13 +71,13 @@ module _ (old : InboxView) (caller place : ℕ) (lane : Lane) (packet : Packet)
 
     handed_then : (other : ℕ) → handed_of new other ≡ (if other == caller then handed_of old other + 1 else handed_of old other)
     handed_then other = elim (eqb_tells other caller) [
-      | inl t ↦ rw t.0 (subst (λ (c : ℕ). handed_of new c ≡ handed_of old c + 1) (sym t.1) handed_here)
+      | inl t ↦ rw t.0 (subst (λ c. handed_of new c ≡ handed_of old c + 1) (sym t.1) handed_here)
       | inr f ↦ rw (f.0, lanes, lane_left old caller place at (one_more written) same other f.1) refl
     ]
 
     listed_then : (other : ℕ) → is_listed new other ≡ is_listed old other
     listed_then other = elim (eqb_tells other caller) [
-      | inl t ↦ subst (λ (c : ℕ). is_listed new c ≡ is_listed old c) (sym t.1) (rw (lanes, lane_written old caller place at (one_more written) same, listed) refl)
+      | inl t ↦ subst (λ c. is_listed new c ≡ is_listed old c) (sym t.1) (rw (lanes, lane_written old caller place at (one_more written) same, listed) refl)
       | inr f ↦ rw (lanes, lane_left old caller place at (one_more written) same other f.1) refl
     ]
 
@@ -88,14 +87,14 @@ module _ (old : InboxView) (caller place : ℕ) (lane : Lane) (packet : Packet)
       | inr f ↦ let e : handed_of new other ≡ handed_of old other = rw f.0 at (handed_then other) in omega arith
     ]
 
-    held_same : (other number : ℕ) (b : Bool) → is_packet_of other number packet ≡ b → handed_of new other ≤ number → find (is_packet_of other number) new.held ≡ find (is_packet_of other number) old.held
+    held_same : (other number : ℕ) (b : Bool) → is_packet_of other number packet ≡ b → handed_of new other ≤ number →
+        find (is_packet_of other number) new.held ≡ find (is_packet_of other number) old.held
     held_same other number false is past = held other number is
     held_same other number true is past =
-        let is_mine = mine in
-        let theirs = is_call_tells other number packet is in
-        let here : handed_of new other ≡ handed_of old caller + 1 = subst (λ (c : ℕ). handed_of new c ≡ handed_of old caller + 1) (sym is_mine.1 ∙ theirs.0) handed_here in
-        let count = handed_is in
-        absurd (omega arith)
+        let is_mine = mine in let theirs = is_call_tells other number packet is in
+        let here : handed_of new other ≡ handed_of old caller + 1 =
+        subst (λ c. handed_of new c ≡ handed_of old caller + 1) (sym is_mine.1 ∙ theirs.0) handed_here in
+        let count = handed_is in absurd (omega arith)
 
     -- the caller's next call was handed out, and nothing else changed
     pub next_taken : IsNextTaken caller packet old new
@@ -106,9 +105,9 @@ module _ (old : InboxView) (caller place : ℕ) (lane : Lane) (packet : Packet)
       handed = handed_then;
       in_all = rw lanes (in_all_written old caller place at (one_more written) same lane lane_stands more);
       bound = in_all_bound new sound_then.few sound_then.counted;
-      waits = λ other number. if_masked (was_handed new other number) (was_handed old other number) (find (is_packet_of other number) new.held) (find (is_packet_of other number) old.held)
-          (λ below. let less : number < handed_of old other = ltb-true _ _ below in let up = grows other in lt-ltb _ _ (omega arith))
-          (λ past. held_same other number (is_packet_of other number packet) refl (ltb-false _ _ past));
+      waits = λ other number. if_masked (was_handed new other number) (was_handed old other number) (find (is_packet_of other number) new.held)
+          (find (is_packet_of other number) old.held) (λ below. let less : number < handed_of old other = ltb-true _ _ below in let up = grows other in
+          lt-ltb _ _ (omega arith)) (λ past. held_same other number (is_packet_of other number packet) refl (ltb-false _ _ past));
       notes = λ other. rw notes refl;
     }
 
@@ -126,7 +125,7 @@ module _ (inbox : InboxView) (packet : Packet) (place : ℕ) (lane : Lane)
 
   held_first : find (is_packet_of packet.caller lane.handed) (packet ∷ inbox.held) ≡ Some packet
   held_first =
-      let here : packet.number ≡ lane.handed = next.numbered ∙ sym (listed_handed inbox packet.caller lane (lane_is inbox packet.caller place at lane lane_stands)) in
+      let here : packet.number ≡ lane.handed = next.numbered ∙ sym (listed_handed inbox packet.caller (lane_is inbox packet.caller place at lane_stands)) in
       rw (eq-eqb packet.caller packet.caller refl, eq-eqb packet.number lane.handed here) refl
 
   abbrev passed : InboxView

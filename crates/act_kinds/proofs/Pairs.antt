@@ -28,8 +28,8 @@ insert_is key value (pair ∷ pairs) =
     by (bytes_eq key pair.0) refl (insert_is key value pairs)
     ∙ (λ i. cond (nat_list_eq_equiv.symm key pair.0 i) ((key, value) ∷ pairs) (pair ∷ with_pair key value pairs))
   where
-    by : (here : Bool) → bytes_eq key pair.0 ≡ here → insert_entry bytes_eq pairs key value ≡ with_pair key value pairs
-        → cond here ((pair.0, value) ∷ pairs) (pair ∷ insert_entry bytes_eq pairs key value) ≡ cond here ((key, value) ∷ pairs) (pair ∷ with_pair key value pairs)
+    by : (here : Bool) → bytes_eq key pair.0 ≡ here → insert_entry bytes_eq pairs key value ≡ with_pair key value pairs →
+        cond here ((pair.0, value) ∷ pairs) (pair ∷ insert_entry bytes_eq pairs key value) ≡ cond here ((key, value) ∷ pairs) (pair ∷ with_pair key value pairs)
     by true e rest = ap (λ k. (k, value) ∷ pairs) (sym ((bytes_eq-Decides key pair.0).0 e))
     by false e rest = ap (λ others. pair ∷ others) rest
 

@@ -9,10 +9,10 @@ use Rattle.std.proofs.lemmas.Option.{get_or_from_slice_get, slice_get-get_or, sl
 -- ---- what stands at a place
 
 -- what stands at a place still does when more is added
-pub slice_get_more : {A : Type 0} (xs ys : List A) (k : ℕ) (x : A) → slice_get xs k ≡ Some x → slice_get (xs ++ ys) k ≡ Some x
-slice_get_more [] ys k x e = cc
-slice_get_more (y ∷ xs) ys zero x e = e
-slice_get_more (y ∷ xs) ys (suc k) x e = slice_get_more xs ys k x e
+pub slice_get_more : {A : Type 0} (xs ys : List A) (k : ℕ) {x : A} → slice_get xs k ≡ Some x → slice_get (xs ++ ys) k ≡ Some x
+slice_get_more [] ys k e = cc
+slice_get_more (y ∷ xs) ys zero e = e
+slice_get_more (y ∷ xs) ys (suc k) {x} e = slice_get_more xs ys k e
 
 -- the one that was added last
 pub slice_get_last : {A : Type 0} (xs : List A) (x : A) → slice_get (xs ++ x ∷ []) (length xs) ≡ Some x
@@ -20,12 +20,12 @@ slice_get_last [] x = refl
 slice_get_last (y ∷ xs) x = slice_get_last xs x
 
 -- where one is added, each place is an old one or the last
-pub slice_get_pushed : {A : Type 0} (xs : List A) (x : A) (k : ℕ) (y : A) → slice_get (xs ++ x ∷ []) k ≡ Some y
+pub slice_get_pushed : {A : Type 0} (xs : List A) (x : A) (k : ℕ) {y : A} → slice_get (xs ++ x ∷ []) k ≡ Some y
     → (slice_get xs k ≡ Some y) ⊎ ((k ≡ length xs) × (x ≡ y))
-slice_get_pushed [] x zero y e = inr (refl, cc)
-slice_get_pushed [] x (suc k) y e = cc
-slice_get_pushed (z ∷ xs) x zero y e = inl e
-slice_get_pushed (z ∷ xs) x (suc k) y e = elim (slice_get_pushed xs x k y e) [ inl t ↦ inl t | inr f ↦ inr (ap suc f.0, f.1) ]
+slice_get_pushed [] x zero e = inr (refl, cc)
+slice_get_pushed [] x (suc k) e = cc
+slice_get_pushed (z ∷ xs) x zero e = inl e
+slice_get_pushed (z ∷ xs) x (suc k) {y} e = elim (slice_get_pushed xs x k e) [ inl t ↦ inl t | inr f ↦ inr (ap suc f.0, f.1) ]
 
 -- something stands at each place below the length
 pub element : {A : Type 0} (xs : List A) (i : ℕ) → i < length xs → (x : A) × (slice_get xs i ≡ Some x)
@@ -38,8 +38,8 @@ pub place_in : {A : Type 0} (xs : List A) (x : A) → Contains xs x → (k : ℕ
 place_in xs x has = (has.0, slice_get-get_or xs has.0 x has.1 ∙ ap Some has.2)
 
 -- what stands at a place is contained
-pub stands_in : {A : Type 0} (xs : List A) (k : ℕ) (x : A) → slice_get xs k ≡ Some x → Contains xs x
-stands_in xs k x at = (k, slice_get_within xs k x at, get_or_from_slice_get xs k x x at)
+pub stands_in : {A : Type 0} (xs : List A) (k : ℕ) {x : A} → slice_get xs k ≡ Some x → Contains xs x
+stands_in xs k {x} at = (k, slice_get_within xs k x at, get_or_from_slice_get xs k x x at)
 
 -- ---- what holds of all
 
@@ -70,21 +70,21 @@ pub filter_map_alike : {A B : Type 0} (f g : A → Option B) (xs : List A) → (
 filter_map_alike f g [] same = refl
 filter_map_alike f g (x ∷ xs) same = rw (same x) (ap (cons_option (g x)) (filter_map_alike f g xs same))
 
-kept_step : {X Y : Type 0} (f : X → Y) (x : X) (xs : List X) (ys : List Y) (b : Bool) → ys ≡ map f xs
+kept_step : {X Y : Type 0} (f : X → Y) (x : X) (xs : List X) {ys : List Y} (b : Bool) → ys ≡ map f xs
     → (if b then f x ∷ ys else ys) ≡ map f (if b then x ∷ xs else xs)
-kept_step f x xs ys true is = ap (λ (l : List _). f x ∷ l) is
-kept_step f x xs ys false is = is
+kept_step f x xs true is = ap (λ l. f x ∷ l) is
+kept_step f x xs false is = is
 
 -- what passes of a mapped list is what passes before it is mapped
 pub filter_mapped : {X Y : Type 0} (p : Y → Bool) (f : X → Y) (xs : List X) → filter p (map f xs) ≡ map f (filter (λ x. p (f x)) xs)
 filter_mapped p f [] = refl
-filter_mapped p f (x ∷ xs) = kept_step f x (filter (λ x. p (f x)) xs) (filter p (map f xs)) (p (f x)) (filter_mapped p f xs)
+filter_mapped p f (x ∷ xs) = kept_step f x (filter (λ x. p (f x)) xs) (p (f x)) (filter_mapped p f xs)
 
 -- numbers that were numbered, without the places
 pub map-enumerate_from : (n : ℕ) (xs : List ℕ) → map (λ (p : ℕ × ℕ). p.1) (enumerate_from n xs) ≡ xs
 map-enumerate_from n [] = refl
-map-enumerate_from n (x ∷ xs) = ap (λ (l : List ℕ). x ∷ l) (map-enumerate_from (n + 1) xs)
+map-enumerate_from n (x ∷ xs) = ap (λ l. x ∷ l) (map-enumerate_from (n + 1) xs)
 
 -- a list of the same length, written over the whole of another
-pub take_written_over : {X : Type 0} (n : ℕ) (xs ys : List X) → n ≡ length xs → length ys ≡ length xs → take n (ys ++ drop (length ys) xs) ≡ ys
-take_written_over n xs ys all same = rw (drop_all (length ys) xs (omega arith), append-nil ys) (take_all n ys (omega arith))
+pub take_written_over : {X : Type 0} {n : ℕ} (xs ys : List X) → n ≡ length xs → length ys ≡ length xs → take n (ys ++ drop (length ys) xs) ≡ ys
+take_written_over {n} xs ys all same = rw (drop_all (length ys) xs (omega arith), append-nil ys) (take_all n ys (omega arith))

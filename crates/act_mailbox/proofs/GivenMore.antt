@@ -22,19 +22,23 @@ init_is (a ∷ xs) (b ∷ ys) x y e = grind (arith, init_is xs ys x y)
 
 -- a place of a log is the same place of a longer one
 place_stays : (seen log : List RunItem) (notice : Notice) → IsPrefix seen log → NamesPlace seen notice → NamesPlace log notice
-place_stays seen log (Answered reply) p h = (h.0, subst (λ (l : List RunItem). slice_get l reply.place ≡ Some h.0) p.1 (get_grown seen p.0 reply.place h.0 h.1), h.2, h.3)
+place_stays seen log (Answered reply) p h = (h.0, subst (λ l. slice_get l reply.place ≡ Some h.0) p.1 (get_grown seen p.0 reply.place h.0 h.1), h.2, h.3)
 place_stays seen log (Death actor) p h = tt
 
-given_more : (actor : ℕ) (seen log : List RunItem) (given : List Notice) (notice : Notice) → IsGiven actor seen given → notice_actor notice ≡ actor → IsPrefix seen log → NamesPlace log notice → All IsNoDeath given → IsGiven actor log (given ++ notice ∷ [])
+given_more : (actor : ℕ) (seen log : List RunItem) (given : List Notice) (notice : Notice) → IsGiven actor seen given → notice_actor notice ≡ actor →
+    IsPrefix seen log → NamesPlace log notice → All IsNoDeath given → IsGiven actor log (given ++ notice ∷ [])
 given_more actor seen log given notice is names grown place alive = record {
   names = All-push (λ n. notice_actor n ≡ actor) given notice is.names names;
   places = All-push (NamesPlace log) given notice (All-weaker (NamesPlace seen) (NamesPlace log) (λ n h. place_stays seen log n grown h) given is.places) place;
-  alive = λ before last e. subst (λ (l : List Notice). All IsNoDeath l) (init_is given before notice last e) alive;
+  alive = λ before last e. subst (λ l. All IsNoDeath l) (init_is given before notice last e) alive;
 }
 
 -- the same of a pass, by what an attempt to give answers
-pub pass_given_more : (actor : ℕ) (old new : PutterView Notice RunItem) (log : List RunItem) (stamps : List ℕ) (notice : Notice) (result : Result (Unit {0}) Notice)
-    → OnOk result (new ≡ record old { put = old.put ++ notice ∷ []; stamps = stamps; note = log }) → OnErr result (new ≡ old)
-    → (old.number ≡ actor) × IsGiven actor old.note old.put → notice_actor notice ≡ actor → IsPrefix old.note log → NamesPlace log notice → All IsNoDeath old.put → (new.number ≡ actor) × IsGiven actor new.note new.put
-pass_given_more actor old new log stamps notice (Ok x) ok err is names grown place alive = subst (λ (v : PutterView Notice RunItem). (v.number ≡ actor) × IsGiven actor v.note v.put) (sym ok) (is.0, given_more actor old.note log old.put notice is.1 names grown place alive)
-pass_given_more actor old new log stamps notice (Err x) ok err is names grown place alive = subst (λ (v : PutterView Notice RunItem). (v.number ≡ actor) × IsGiven actor v.note v.put) (sym err) is
+pub pass_given_more : (actor : ℕ) (old new : PutterView Notice RunItem) (log : List RunItem) (stamps : List ℕ) (notice : Notice)
+    (result : Result (Unit {0}) Notice) → OnOk result (new ≡ record old { put = old.put ++ notice ∷ []; stamps = stamps; label = log }) →
+    OnErr result (new ≡ old) → (old.number ≡ actor) × IsGiven actor old.label old.put → notice_actor notice ≡ actor → IsPrefix old.label log →
+    NamesPlace log notice → All IsNoDeath old.put → (new.number ≡ actor) × IsGiven actor new.label new.put
+pass_given_more actor old new log stamps notice (Ok x) ok err is names grown place alive = subst (λ (v : PutterView Notice RunItem). (v.number ≡ actor) ×
+    IsGiven actor v.label v.put) (sym ok) (is.0, given_more actor old.label log old.put notice is.1 names grown place alive)
+pass_given_more actor old new log stamps notice (Err x) ok err is names grown place alive =
+    subst (λ (v : PutterView Notice RunItem). (v.number ≡ actor) × IsGiven actor v.label v.put) (sym err) is

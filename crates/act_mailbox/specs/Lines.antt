@@ -25,11 +25,11 @@ putter_of_stamped putter_of x = putter_of x.0
 module _ {T N : Type 0} where
   -- what a putter's pass knows
   abbrev pub putting : ℕ → List T → List N → List T → View T N
-  putting c put note seen = Puts (record { number = c; put = put; note = note; seen = seen })
+  putting c put label seen = Puts (record { number = c; put = put; label = label; seen = seen })
 
   -- what the taker's pass knows
   abbrev pub taking : List ℕ → List T → List N → View T N
-  taking putters taken note = Takes (record { putters = putters; taken = taken; note = note })
+  taking putters taken label = Takes (record { putters = putters; taken = taken; label = label })
 
   -- who a pass acts for: the taker, or one putter
   abbrev pub role : View T N → Option ℕ
@@ -39,18 +39,18 @@ module _ {T N : Type 0} where
 
   -- the taker made the pass of putter c
   abbrev pub after_deal : ℕ → View T N → View T N
-  after_deal c (Takes v) = taking (v.putters ++ c ∷ []) v.taken v.note
+  after_deal c (Takes v) = taking (v.putters ++ c ∷ []) v.taken v.label
   after_deal c other = other
 
   -- a putter put x
   abbrev pub after_put : T → List N → View T N → View T N
-  after_put x note (Puts v) = putting v.number (v.put ++ x ∷ []) note v.seen
-  after_put x note other = other
+  after_put x label (Puts v) = putting v.number (v.put ++ x ∷ []) label v.seen
+  after_put x label other = other
 
   -- the taker took x
   abbrev pub after_take : T → List N → View T N → View T N
-  after_take x note (Takes v) = taking v.putters (v.taken ++ x ∷ []) note
-  after_take x note other = other
+  after_take x label (Takes v) = taking v.putters (v.taken ++ x ∷ []) label
+  after_take x label other = other
 
   -- what a copy of the taker's pass knows
   abbrev pub copied : View T N → View T N
@@ -60,7 +60,7 @@ module _ {T N : Type 0} where
 
   -- a putter takes in what a copy knows
   abbrev pub shown : View T N → View T N → View T N
-  shown (Puts v) (Saw xs) = putting v.number v.put v.note xs
+  shown (Puts v) (Saw xs) = putting v.number v.put v.label xs
   shown v w = v
 
 module _ {T N : Type 0} where
@@ -69,10 +69,10 @@ module _ {T N : Type 0} where
   put_of (Puts v) = v.put
   put_of other = []
 
-  abbrev pub note_of : View T N → List N
-  note_of (Puts v) = v.note
-  note_of (Takes v) = v.note
-  note_of other = []
+  abbrev pub label_of : View T N → List N
+  label_of (Puts v) = v.label
+  label_of (Takes v) = v.label
+  label_of other = []
 
   abbrev pub taken_of : View T N → List T
   taken_of (Takes v) = v.taken
@@ -112,4 +112,4 @@ module _ {T N : Type 0} (putter_of : T → ℕ) where
 
   -- what a take tells: with which stamp the item was put, and that its putter has a pass
   abbrev pub Took : List N → View (T × ℕ) N → T → View (T × ℕ) N → Type 0
-  Took note v x w = ((stamp : ℕ) × (w ≡ after_take (x, stamp) note v)) × Contains (putters_of v) (putter_of x)
+  Took label v x w = ((stamp : ℕ) × (w ≡ after_take (x, stamp) label v)) × Contains (putters_of v) (putter_of x)

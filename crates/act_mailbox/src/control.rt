@@ -6,7 +6,7 @@ ghost use Rattle.act_mailbox.specs.Lines.{items_from};
 ghost use Rattle.act_mailbox.specs.Passes.{new_putter};
 ghost use Rattle.act_mailbox.specs.Controls.{asker_of, kill_by, looked_after, starter, HasTakenKill};
 
-use crate::line::{Item, Line, Noted, Putter, Stamped, Taker};
+use crate::line::{Item, Labelled, Line, Putter, Stamped, Taker};
 use act_actor::{Live, RunLog};
 use act_kinds::Actor;
 use act_types::{ActorId, CallerId, KillNote, NoMemory};
@@ -149,14 +149,14 @@ impl Control {
     }
 
     /// Takes a kill, and `K` notes the length.
-    fn take_at<K: Noted<u64>, R: Wait>(
+    fn take_at<L: Labelled<u64>, R: Wait>(
         &self,
         rt: &R,
         pass: &mut ControlExec,
         long: usize,
     ) -> Option<Asked>
         requires pass { pass.old.line ≡ self.now.line }
-        requires note { K.note ≡ pass.old.lengths ++ long ∷ [] }
+        requires label { L.label ≡ pass.old.lengths ++ long ∷ [] }
         ensures taken { IfSome result (λ kill.
             pass.new ≡ record pass.old {
               taken = pass.old.taken ++ kill ∷ [];
@@ -167,7 +167,7 @@ impl Control {
         ensures none { IfNone result (pass.new ≡ pass.old) }
         ensures known { IfSome result (λ kill. Contains pass.old.askers kill.asker) }
     {
-        self.line.take::<K, R>(rt, &mut pass.pass)
+        self.line.take::<L, R>(rt, &mut pass.pass)
     }
 
     /// The line's length. The kills of the asker that were taken, with their stamps, begin those that it
@@ -208,7 +208,7 @@ impl Model for ControlExec {
       askers = p.pass.putters;
       taken = p.pass.taken;
       stamps = p.pass.stamps;
-      lengths = p.pass.note;
+      lengths = p.pass.label;
       looked = p.looked;
     } };
 }
@@ -222,7 +222,7 @@ impl ControlExec {
           askers = pass.putters;
           taken = pass.taken;
           stamps = pass.stamps;
-          lengths = pass.note;
+          lengths = pass.label;
           looked = 0;
         } }
     {

@@ -60,15 +60,15 @@ impl<T: Item, N> Line<T, N> {
         self.deal_as::<Brand>(taker, number)
     }
 
-    /// The same, where `K` names the putter.
-    fn deal_as<K: Named>(&self, taker: &mut Taker<T, N>, number: u8) -> Putter<T, N>
+    /// The same, where `P` names the putter.
+    fn deal_as<P: Named>(&self, taker: &mut Taker<T, N>, number: u8) -> Putter<T, N>
         requires line { taker.old.line ≡ self.now }
         requires new { Contains taker.old.putters number → ⊥ }
-        requires name { K.name ≡ number }
+        requires name { P.name ≡ number }
         ensures taker { taker.new ≡ record taker.old { putters = taker.old.putters ++ number ∷ [] } }
         ensures putter { result ≡ new_putter self.now number }
     {
-        let pass = self.queue.another::<Deals<K>>(&mut taker.pass);
+        let pass = self.queue.another::<Deals<P>>(&mut taker.pass);
         Putter { number, pass }
     }
 
@@ -95,9 +95,9 @@ impl<T: Item, N> Line<T, N> {
         Ok(putters)
     }
 
-    /// Puts an item with the stamp `S`, and `K` is the putter's note from then on. Hands the item
+    /// Puts an item with the stamp `S`, and `L` is the putter's label from then on. Hands the item
     /// back where the line is full.
-    pub(crate) fn put<K: Noted<N>, S: Stamped, R: Wait>(
+    pub(crate) fn put<L: Labelled<N>, S: Stamped, R: Wait>(
         &self,
         rt: &R,
         putter: &mut Putter<T, N>,
@@ -109,14 +109,14 @@ impl<T: Item, N> Line<T, N> {
             (putter.new ≡ record putter.old {
               put = putter.old.put ++ item ∷ [];
               stamps = putter.old.stamps ++ S.stamp ∷ [];
-              note = K.note;
+              label = L.label;
             }) }
         ensures err { OnErr result (putter.new ≡ putter.old) }
         ensures back { IfErr result (λ back. back ≡ item) }
     {
         let put = self
             .queue
-            .push_as::<Puts<K, S>, R>(rt, &mut putter.pass, item);
+            .push_as::<Puts<L, S>, R>(rt, &mut putter.pass, item);
         self.bell.ring();
         put
     }
@@ -133,37 +133,37 @@ impl<T: Item, N> Line<T, N> {
         self.bell.ring();
     }
 
-    /// Takes an item, and `K` is the taker's note from then on. `None` where the line is empty.
-    pub(crate) fn take<K: Noted<N>, R: Wait>(&self, rt: &R, taker: &mut Taker<T, N>) -> Option<T>
+    /// Takes an item, and `L` is the taker's label from then on. `None` where the line is empty.
+    pub(crate) fn take<L: Labelled<N>, R: Wait>(&self, rt: &R, taker: &mut Taker<T, N>) -> Option<T>
         requires line { taker.old.line ≡ self.now }
         ensures taken { IfSome result (λ item.
             taker.new ≡ record taker.old {
               taken = taker.old.taken ++ item ∷ [];
               stamps = taker.new.stamps;
-              note = K.note;
+              label = L.label;
             }) }
         ensures stamped { IfSome result (λ item. (n : ℕ) × (taker.new.stamps ≡ taker.old.stamps ++ n ∷ [])) }
         ensures none { IfNone result (taker.new ≡ taker.old) }
         ensures known { IfSome result (λ item. Contains taker.old.putters (T.putter item)) }
     {
-        self.queue.pop_as::<Takes<K>, R>(rt, &mut taker.pass)
+        self.queue.pop_as::<Takes<L>, R>(rt, &mut taker.pass)
     }
 
     /// One attempt to take. `None` where the first item isn't there yet: also while the put of an
     /// item before others isn't finished. It leaves alone the word that every put changes.
-    pub(crate) fn try_take<K: Noted<N>>(&self, taker: &mut Taker<T, N>) -> Option<T>
+    pub(crate) fn try_take<L: Labelled<N>>(&self, taker: &mut Taker<T, N>) -> Option<T>
         requires line { taker.old.line ≡ self.now }
         ensures taken { IfSome result (λ item.
             taker.new ≡ record taker.old {
               taken = taker.old.taken ++ item ∷ [];
               stamps = taker.new.stamps;
-              note = K.note;
+              label = L.label;
             }) }
         ensures stamped { IfSome result (λ item. (n : ℕ) × (taker.new.stamps ≡ taker.old.stamps ++ n ∷ [])) }
         ensures none { IfNone result (taker.new ≡ taker.old) }
         ensures known { IfSome result (λ item. Contains taker.old.putters (T.putter item)) }
     {
-        self.queue.try_pop_as::<Takes<K>>(&mut taker.pass)
+        self.queue.try_pop_as::<Takes<L>>(&mut taker.pass)
     }
 
     /// The length of the line. The putter sees a copy of what was taken, so it learns that its own
@@ -197,7 +197,7 @@ pub struct Putter<T, N> {
 impl<T, N> Model for Putter<T, N> {
     ghost use Rattle.std.specs.Prelude.{◌≡◌, ℕ, [], List};
     ghost use Rattle.crossbeam_queue.specs.Passes.{view as known};
-    ghost use Rattle.act_mailbox.specs.Lines.{putting, put_of, note_of, items_alone, stamps_alone};
+    ghost use Rattle.act_mailbox.specs.Lines.{putting, put_of, label_of, items_alone, stamps_alone};
     ghost use Rattle.act_mailbox.specs.Passes.{PutterView};
 
     ghost Value = { PutterView T N };
@@ -207,13 +207,13 @@ impl<T, N> Model for Putter<T, N> {
       number = p.number;
       put = items_alone (put_of (known p.pass));
       stamps = stamps_alone (put_of (known p.pass));
-      note = note_of (known p.pass);
+      label = label_of (known p.pass);
     } };
 
     // It is at rest, and its view is a putter's.
     ghost invariant = { λ p. (p.pass.me.1 ≡ []) ×
         ((seen : List (T × ℕ)) ×
-        (known p.pass ≡ putting p.number (put_of (known p.pass)) (note_of (known p.pass)) seen)) };
+        (known p.pass ≡ putting p.number (put_of (known p.pass)) (label_of (known p.pass)) seen)) };
 }
 
 impl<T, N> Putter<T, N> {
@@ -234,7 +234,7 @@ pub struct Taker<T, N> {
 impl<T, N> Model for Taker<T, N> {
     ghost use Rattle.std.specs.Prelude.{◌≡◌, []};
     ghost use Rattle.crossbeam_queue.specs.Passes.{view as known};
-    ghost use Rattle.act_mailbox.specs.Lines.{taking, taken_of, note_of, putters_of, items_alone, stamps_alone};
+    ghost use Rattle.act_mailbox.specs.Lines.{taking, taken_of, label_of, putters_of, items_alone, stamps_alone};
     ghost use Rattle.act_mailbox.specs.Passes.{TakerView};
 
     ghost Value = { TakerView T N };
@@ -244,12 +244,12 @@ impl<T, N> Model for Taker<T, N> {
       putters = putters_of (known p.pass);
       taken = items_alone (taken_of (known p.pass));
       stamps = stamps_alone (taken_of (known p.pass));
-      note = note_of (known p.pass);
+      label = label_of (known p.pass);
     } };
 
     // It is at rest, and its view is the taker's.
     ghost invariant = { λ p. (p.pass.me.1 ≡ []) ×
-        (known p.pass ≡ taking (putters_of (known p.pass)) (taken_of (known p.pass)) (note_of (known p.pass))) };
+        (known p.pass ≡ taking (putters_of (known p.pass)) (taken_of (known p.pass)) (label_of (known p.pass))) };
 }
 
 impl<T, N> Taker<T, N> {
@@ -267,15 +267,15 @@ pub(crate) trait Item {
     ghost putter: { Self → ℕ };
 }
 
-/// The note of a pass after a step. Each call of a program picks it.
-pub(crate) trait Noted<N> {
-    ghost note: { List N };
+/// The label of a pass after a step. Each call of a program picks it.
+pub(crate) trait Labelled<N> {
+    ghost label: { List N };
 }
 
-impl<N> Noted<N> for Brand {
+impl<N> Labelled<N> for Brand {
     ghost use Rattle.std.specs.Prelude.{[]};
 
-    ghost note = { [] };
+    ghost label = { [] };
 }
 
 /// The stamp of an item: a number that proofs alone speak of. Each call of a program picks it.
@@ -307,16 +307,16 @@ impl<T: Item, N> Protocol<T, View<(T, u64), N>> for InOrder {
     ghost first = { taking [] [] [] };
 }
 
-/// The taker makes the pass of the putter K.
-struct Deals<K>(PhantomData<K>);
+/// The taker makes the pass of the putter P.
+struct Deals<P>(PhantomData<P>);
 
-impl<T, N, K: Named> Split<View<T, N>> for Deals<K> {
+impl<T, N, P: Named> Split<View<T, N>> for Deals<P> {
     ghost use Rattle.std.specs.Prelude.{[]};
     ghost use Rattle.act_mailbox.specs.Lines.{after_deal, putting};
 
-    ghost left = { after_deal K.name };
+    ghost left = { after_deal P.name };
 
-    ghost right = { λ v. putting K.name [] [] [] };
+    ghost right = { λ v. putting P.name [] [] [] };
 }
 
 /// A copy of what the taker took.
@@ -342,32 +342,32 @@ impl<T, N> Join<View<T, N>> for Sees {
     ghost spent = { Spent };
 }
 
-/// A putter puts an item with the stamp S, and K is its note from then on.
-struct Puts<K, S>(PhantomData<(K, S)>);
+/// A putter puts an item with the stamp S, and L is its label from then on.
+struct Puts<L, S>(PhantomData<(L, S)>);
 
-impl<T, N, K: Noted<N>, S: Stamped> Outcome<T, View<(T, u64), N>> for Puts<K, S> {
+impl<T, N, L: Labelled<N>, S: Stamped> Outcome<T, View<(T, u64), N>> for Puts<L, S> {
     ghost use Rattle.std.specs.Prelude.{◌≡◌};
     ghost use Rattle.act_mailbox.specs.Lines.{after_put};
 
-    ghost then = { λ v x w. w ≡ after_put (x, S.stamp) K.note v };
+    ghost then = { λ v x w. w ≡ after_put (x, S.stamp) L.label v };
 }
 
-impl<T, N, K: Noted<N>, S: Stamped> Lesson<T, View<(T, u64), N>> for Puts<K, S> {
+impl<T, N, L: Labelled<N>, S: Stamped> Lesson<T, View<(T, u64), N>> for Puts<L, S> {
     ghost use Rattle.std.specs.Prelude.{⊤};
 
     ghost fact = { λ v items. ⊤ };
 }
 
-/// The taker takes an item of a putter that has a pass, with its stamp, and K is its note from then on.
-struct Takes<K>(PhantomData<K>);
+/// The taker takes an item of a putter that has a pass, with its stamp, and L is its label from then on.
+struct Takes<L>(PhantomData<L>);
 
-impl<T: Item, N, K: Noted<N>> Outcome<T, View<(T, u64), N>> for Takes<K> {
+impl<T: Item, N, L: Labelled<N>> Outcome<T, View<(T, u64), N>> for Takes<L> {
     ghost use Rattle.act_mailbox.specs.Lines.{Took};
 
-    ghost then = { Took T.putter K.note };
+    ghost then = { Took T.putter L.label };
 }
 
-impl<T: Item, N, K: Noted<N>> Lesson<T, View<(T, u64), N>> for Takes<K> {
+impl<T: Item, N, L: Labelled<N>> Lesson<T, View<(T, u64), N>> for Takes<L> {
     ghost use Rattle.std.specs.Prelude.{⊤};
 
     ghost fact = { λ v items. ⊤ };
@@ -382,19 +382,19 @@ impl<T: Item, N> Lesson<T, View<(T, u64), N>> for Audits {
     ghost fact = { λ v items. Audited (λ x. T.putter x.0) v };
 }
 
-/// A putter's number, what it put, its note, and what it saw taken.
+/// A putter's number, what it put, its label, and what it saw taken.
 pub struct Putting<T, N> {
     pub number: u8,
     pub put: LinkedList<T>,
-    pub note: LinkedList<N>,
+    pub label: LinkedList<N>,
     pub seen: LinkedList<T>,
 }
 
-/// The putters that have passes, what was taken, and the taker's note.
+/// The putters that have passes, what was taken, and the taker's label.
 pub struct Taking<T, N> {
     pub putters: LinkedList<u8>,
     pub taken: LinkedList<T>,
-    pub note: LinkedList<N>,
+    pub label: LinkedList<N>,
 }
 
 /// A pass is a putter's, the taker's, a copy of what was taken, or spent.

@@ -7,7 +7,7 @@ ghost use Rattle.act_mailbox.specs.Passes.{new_taker};
 ghost use Rattle.act_mailbox.specs.Notices.{notice_actor, IsNoDeath, NamesPlace, new_exec, IsGiven};
 ghost use Rattle.act_mailbox.specs.declared.thread.TheConstants.{SHORT_PAUSES};
 
-use crate::line::{Item, Line, Noted, Putter, Stamped, Taker};
+use crate::line::{Item, Labelled, Line, Putter, Stamped, Taker};
 use crate::thread::IdleBackoff;
 use act_actor::RunLog;
 use act_rules::RunItem;
@@ -138,7 +138,7 @@ impl Replies {
 
     /// Gives a notice with the stamp `K`, and `N` is the log that the pass has seen from then on. It is
     /// picked by what is lent as the log.
-    fn give_showing<N: Noted<RunItem>, K: Stamped, R: Wait, L>(
+    fn give_showing<N: Labelled<RunItem>, K: Stamped, R: Wait, L>(
         &self,
         rt: &R,
         pass: &mut ReplyExec,
@@ -147,13 +147,13 @@ impl Replies {
     ) -> Result<(), Notice>
         requires pass { pass.old.line ≡ self.now.line }
         requires actor { notice_actor notice ≡ pass.old.actor }
-        requires grown { IsPrefix pass.old.seen N.note }
-        requires place { NamesPlace N.note notice }
+        requires grown { IsPrefix pass.old.seen N.label }
+        requires place { NamesPlace N.label notice }
         requires alive { All IsNoDeath pass.old.given }
         ensures ok { OnOk result (pass.new ≡ record pass.old {
           given = pass.old.given ++ notice ∷ [];
           stamps = pass.old.stamps ++ K.stamp ∷ [];
-          seen = N.note;
+          seen = N.label;
         }) }
         ensures err { OnErr result (pass.new ≡ pass.old) }
         ensures back { IfErr result (λ back. back ≡ notice) }
@@ -230,17 +230,17 @@ impl Model for ReplyExec {
       actor = p.actor;
       given = p.pass.put;
       stamps = p.pass.stamps;
-      seen = p.pass.note;
+      seen = p.pass.label;
     } };
 
-    ghost invariant = { λ p. (p.pass.number ≡ p.actor) × IsGiven p.actor p.pass.note p.pass.put };
+    ghost invariant = { λ p. (p.pass.number ≡ p.actor) × IsGiven p.actor p.pass.label p.pass.put };
 }
 
 impl ReplyExec {
     /// The pass of an executor that gave nothing.
     fn new(actor: ActorId, pass: Putter<Notice, RunItem>) -> ReplyExec
         requires number { pass.number ≡ actor }
-        requires first { (pass.put ≡ []) × (pass.stamps ≡ []) × (pass.note ≡ []) }
+        requires first { (pass.put ≡ []) × (pass.stamps ≡ []) × (pass.label ≡ []) }
         ensures { result ≡ new_exec pass.line actor }
     {
         ReplyExec { actor, pass }

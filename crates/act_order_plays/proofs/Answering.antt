@@ -38,6 +38,7 @@ AreItems told [] (n ∷ ns) = ⊥
 AreItems told (item ∷ items) [] = ⊥
 AreItems told (item ∷ items) (n ∷ ns) = IsItem told n item × AreItems told items ns
 
+-- the keys of a run list's items are those of what is told of its runs
 pub item_keys : (told : Told) (items : List RunItem) (ns : List ℕ) → AreItems told items ns → map item_key items ≡ map (run_key told) ns
 item_keys told [] [] are = refl
 item_keys told (item ∷ items) (n ∷ ns) are = let rest = item_keys told items ns are.1 in let one = are.0.caller in let two = are.0.future in cc
@@ -48,14 +49,14 @@ pub item_of_call : (told : Told) (items : List RunItem) (ns : List ℕ) (place n
     (item : RunItem) × (slice_get items place ≡ Some item) × IsItem told n item
 item_of_call told items [] place n are at = absurd (cc)
 item_of_call told [] (m ∷ ns) place n are at = absurd are
-item_of_call told (item ∷ items) (m ∷ ns) zero n are at = let same : m ≡ n = cc in (item, refl, subst (λ (k : ℕ). IsItem told k item) same are.0)
+item_of_call told (item ∷ items) (m ∷ ns) zero n are at = let same : m ≡ n = cc in (item, refl, subst (λ k. IsItem told k item) same are.0)
 item_of_call told (item ∷ items) (m ∷ ns) (suc place) n are at = item_of_call told items ns place n are.1 at
 
 pub call_of_item : (told : Told) (items : List RunItem) (ns : List ℕ) (place : ℕ) (item : RunItem) → AreItems told items ns →
     slice_get items place ≡ Some item → (n : ℕ) × (slice_get ns place ≡ Some n) × IsItem told n item
 call_of_item told [] ns place item are at = absurd (cc)
 call_of_item told (first ∷ items) [] place item are at = absurd are
-call_of_item told (first ∷ items) (m ∷ ns) zero item are at = let same : first ≡ item = cc in (m, refl, subst (λ (i : RunItem). IsItem told m i) same are.0)
+call_of_item told (first ∷ items) (m ∷ ns) zero item are at = let same : first ≡ item = cc in (m, refl, subst (λ i. IsItem told m i) same are.0)
 call_of_item told (first ∷ items) (m ∷ ns) (suc place) item are at = call_of_item told items ns place item are.1 at
 
 -- ---- the state of an actor
@@ -80,54 +81,51 @@ record Went (outcome : Outcome) (after : KindState × Answer) : Type 0 where
   ours : IsOurs after.0
   answer : FitsOutcome outcome after.1
 
-told_went : (outcome : Outcome) (state : KindState) (behaviour : Behaviour) (values : List Value) → state ≡ OwnAt behaviour →
-    ((asks : List Ask) (ask : Ask) → behaviour.told asks ask ≡ answer_to ask.method) →
-    Went outcome (step_of_reply state (call_reply state (method_of outcome) values))
+told_went : (outcome : Outcome) (state : KindState) (behaviour : Behaviour) (values : List Value) → state ≡ OwnAt behaviour → ((asks : List Ask) (ask : Ask) →
+    behaviour.told asks ask ≡ answer_to ask.method) → Went outcome (step_of_reply state (call_reply state (method_of outcome) values))
 told_went Answered state behaviour values is tells =
     let ask : Ask = record { method = Get; args = values } in
     let reply : call_reply state Get values ≡ Ok (OwnAt (after_ask ask behaviour), Nothing) =
-    ap (λ (s : KindState). call_reply s Get values) is ∙ ap (told_reply (OwnAt (after_ask ask behaviour))) (tells [] ask) in
+    ap (λ s. call_reply s Get values) is ∙ ap (told_reply (OwnAt (after_ask ask behaviour))) (tells [] ask) in
     rw reply (record { ours = asked_ours ask behaviour tells; answer = λ taken. refl })
 told_went Failed state behaviour values is tells =
     let ask : Ask = record { method = Put; args = values } in
     let reply : call_reply state Put values ≡ Err BadArgs =
-    ap (λ (s : KindState). call_reply s Put values) is ∙ ap (told_reply (OwnAt (after_ask ask behaviour))) (tells [] ask) in
+    ap (λ s. call_reply s Put values) is ∙ ap (told_reply (OwnAt (after_ask ask behaviour))) (tells [] ask) in
     rw reply (record { ours = record { behaviour = behaviour; is = is; tells = tells }; answer = λ taken. (BadArgs, refl, λ e. absurd (cc)) })
 told_went outcome state behaviour values is tells =
     let ask : Ask = record { method = Get; args = values } in
     let reply : call_reply state Get values ≡ Ok (OwnAt (after_ask ask behaviour), Nothing) =
-    ap (λ (s : KindState). call_reply s Get values) is ∙ ap (told_reply (OwnAt (after_ask ask behaviour))) (tells [] ask) in
+    ap (λ s. call_reply s Get values) is ∙ ap (told_reply (OwnAt (after_ask ask behaviour))) (tells [] ask) in
     rw reply (record { ours = asked_ours ask behaviour tells; answer = λ taken. absurd taken })
 
 -- a call whose argument failed fails
-not_asked : (outcome : Outcome) (state : KindState) (k : ℕ) → IsOurs state → (outcome ≡ Answered → ⊥) → Went outcome (state, Err (Dependency k))
-not_asked Answered state k ours differs = absurd (differs refl)
-not_asked Failed state k ours differs = record { ours = ours; answer = λ taken. (Dependency k, refl, λ e. absurd (cc)) }
-not_asked outcome state k ours differs = record { ours = ours; answer = λ taken. absurd taken }
+not_asked : (outcome : Outcome) {state : KindState} (k : ℕ) → IsOurs state → (outcome ≡ Answered → ⊥) → Went outcome (state, Err (Dependency k))
+not_asked Answered k ours differs = absurd (differs refl)
+not_asked Failed k ours differs = record { ours = ours; answer = λ taken. (Dependency k, refl, λ e. absurd (cc)) }
+not_asked outcome k ours differs = record { ours = ours; answer = λ taken. absurd taken }
 
 item_went : (told : Told) (n : ℕ) (state : KindState) (item : RunItem) → IsOurs state → IsItem told n item →
     Went (call_of told n).outcome (after_item state item)
 item_went told n state item ours is = go (values_of item.args) refl
   where
     go : (r : Result (List Value) ℕ) → values_of item.args ≡ r → Went (call_of told n).outcome (step_of_call state item r)
-    go (Ok values) e = subst (λ (m : Method). Went (call_of told n).outcome (step_of_reply state (call_reply state m values))) (sym is.method)
+    go (Ok values) e = subst (λ m. Went (call_of told n).outcome (step_of_reply state (call_reply state m values))) (sym is.method)
         (told_went (call_of told n).outcome state ours.behaviour values ours.is ours.tells)
-    go (Err k) e = not_asked (call_of told n).outcome state k ours (λ answered. let g = is.good answered in let bad : Err k ≡ Ok g.0 = sym e ∙ g.1 in cc)
+    go (Err k) e = not_asked (call_of told n).outcome k ours (λ answered. let g = is.good answered in let bad : Err k ≡ Ok g.0 = sym e ∙ g.1 in cc)
 
 -- what the actor answered at a place goes with what is told
-pub answer_fits : (told : Told) (state : KindState) (items : List RunItem) (ns : List ℕ) (place n : ℕ) (answer : Answer) → IsOurs state →
+pub answer_fits : (told : Told) (state : KindState) (items : List RunItem) (ns : List ℕ) (place n : ℕ) {answer : Answer} → IsOurs state →
     AreItems told items ns → slice_get ns place ≡ Some n → answer_at state items place ≡ Some answer → IsTaken (call_of told n).outcome →
     Suits (call_of told n).outcome (Some answer)
-answer_fits told state items [] place n answer ours are at e = absurd (cc)
-answer_fits told state [] (m ∷ ns) place n answer ours are at e = absurd are
-answer_fits told state (item ∷ items) (m ∷ ns) zero n answer ours are at e =
-    let same : m ≡ n = cc in
-    let gives : (after_item state item).1 ≡ answer = cc in
-    subst (λ (k : ℕ). IsTaken (call_of told k).outcome → Suits (call_of told k).outcome (Some answer)) same
-    (subst (λ (x : Answer). IsTaken (call_of told m).outcome → Suits (call_of told m).outcome (Some x)) gives
-    (item_went told m state item ours are.0).answer)
-answer_fits told state (item ∷ items) (m ∷ ns) (suc place) n answer ours are at e =
-    answer_fits told (after_item state item).0 items ns place n answer (item_went told m state item ours are.0).ours are.1 at e
+answer_fits told state items [] place n ours are at e = absurd (cc)
+answer_fits told state [] (m ∷ ns) place n ours are at e = absurd are
+answer_fits told state (item ∷ items) (m ∷ ns) zero n {answer} ours are at e =
+    let same : m ≡ n = cc in let gives : (after_item state item).1 ≡ answer = cc in
+    subst (λ k. IsTaken (call_of told k).outcome → Suits (call_of told k).outcome (Some answer)) same
+    (subst (λ x. IsTaken (call_of told m).outcome → Suits (call_of told m).outcome (Some x)) gives (item_went told m state item ours are.0).answer)
+answer_fits told state (item ∷ items) (m ∷ ns) (suc place) n {answer} ours are at e =
+    answer_fits told (after_item state item).0 items ns place n (item_went told m state item ours are.0).ours are.1 at e
 
 -- ---- no item ends its actor
 

@@ -6,8 +6,8 @@ use Rattle.act_order_plays.proofs.Common.{find-map, slice_get-enumerate_from, Ac
 use Rattle.act_order_plays.proofs.Lists.{Has, cases_le}
 
 -- what holds of one item holds of some
-pub list_any_has : {A : Type 0} (p : A → Bool) (xs : List A) (x : A) → Has xs x → p x ≡ true → list_any p xs ≡ true
-list_any_has {A = A} p xs x has is = go xs has.0 has.1
+pub list_any_has : {A : Type 0} (p : A → Bool) (xs : List A) {x : A} → Has xs x → p x ≡ true → list_any p xs ≡ true
+list_any_has {A = A} p xs {x} has is = go xs has.0 has.1
   where
     go : (xs : List A) (i : ℕ) → slice_get xs i ≡ Some x → list_any p xs ≡ true
     go [] i e = absurd (cc)
@@ -24,28 +24,26 @@ any_has {A = A} p (y ∷ ys) e = go (p y) refl (any_has p ys) e
     go false is rest e = let r = rest e in (r.0, (suc r.1.0, r.1.1), r.2)
 
 -- the test whether a list contains a number is true of a number that the list has
-pub contains_has : (xs : List ℕ) (n : ℕ) → Has xs n → contains n xs ≡ true
-contains_has xs n has = list_any_has (λ (m : ℕ). m == n) xs n has (eq-eqb n n refl)
+pub contains_has : (xs : List ℕ) {n : ℕ} → Has xs n → contains n xs ≡ true
+contains_has xs {n} has = list_any_has (λ (m : ℕ). m == n) xs has (eq-eqb n n refl)
 
 -- a list has a number where the test whether it contains it is true
 pub has_contains : (xs : List ℕ) (n : ℕ) → contains n xs ≡ true → Has xs n
-has_contains xs n e = let r = any_has (λ (m : ℕ). m == n) xs e in subst (λ (k : ℕ). Has xs k) (eqb-true r.0 n r.2) r.1
+has_contains xs n e = let r = any_has (λ (m : ℕ). m == n) xs e in subst (λ k. Has xs k) (eqb-true r.0 n r.2) r.1
 
 -- ---- the cast of an actor
 
 abbrev pub cast_at : Told → ℕ → ActorSpec
 cast_at told a = record { actor = a; callers = (actor_of told a).callers; opening = OwnAt answers; pending = None }
 
-find_at : {A : Type 0} (n k : ℕ) (xs : List A) (x : A) → slice_get xs k ≡ Some x → find (λ (p : ℕ × A). p.0 == (n + k)) (enumerate_from n xs) ≡ Some (n + k, x)
-find_at n k [] x e = absurd (cc)
-find_at {A = A} n zero (y ∷ ys) x e =
-    let z : n ≡ n + 0 = omega arith in
-    let same : y ≡ x = cc in
-    rw (eq-eqb n (n + 0) z) (ap (λ (p : ℕ × A). Some p) (rw (← z, same) refl))
-find_at {A = A} n (suc k) (y ∷ ys) x e =
+find_at : {A : Type 0} (n k : ℕ) (xs : List A) {x : A} → slice_get xs k ≡ Some x → find (λ (p : ℕ × A). p.0 == (n + k)) (enumerate_from n xs) ≡ Some (n + k, x)
+find_at n k [] e = absurd (cc)
+find_at {A = A} n zero (y ∷ ys) {x} e =
+    let z : n ≡ n + 0 = omega arith in let same : y ≡ x = cc in rw (eq-eqb n (n + 0) z) (ap (λ p. Some p) (rw (← z, same) refl))
+find_at {A = A} n (suc k) (y ∷ ys) {x} e =
     let more : (n + 1) + k ≡ n + suc k = omega arith in
     rw (ne_eqb n (n + suc k) (λ same. omega arith))
-    (subst (λ (m : ℕ). find (λ (p : ℕ × A). p.0 == m) (enumerate_from (n + 1) ys) ≡ Some (m, x)) more (find_at (n + 1) k ys x e))
+    (subst (λ (m : ℕ). find (λ (p : ℕ × A). p.0 == m) (enumerate_from (n + 1) ys) ≡ Some (m, x)) more (find_at (n + 1) k ys e))
 
 actor_at : (told : Told) (a : ℕ) → a < length told.actors → slice_get told.actors a ≡ Some (actor_of told a)
 actor_at told a lt = slice_get-get_or told.actors a _ lt
@@ -57,32 +55,30 @@ find_cast told a lt =
     cast_of_actor (enumerate_from 0 told.actors)
     ∙ ap (option_map cast_of_actor)
     (subst (λ (m : ℕ). find (λ (p : ℕ × Actor). p.0 == m) (enumerate_from 0 told.actors) ≡ Some (m, actor_of told a)) z
-    (find_at 0 a told.actors (actor_of told a) (actor_at told a lt)))
+    (find_at 0 a told.actors (actor_at told a lt)))
 
 -- in a history with the casts of what is told, each actor that is told has the cast made of it
-pub cast_of_is : (told : Told) (h : History) (a : ℕ) → h.casts ≡ casts_of told → a < length told.actors → cast_of a h ≡ Some (cast_at told a)
-cast_of_is told h a casts lt = ap (λ (all : List ActorSpec). find (λ (cast : ActorSpec). cast.actor == a) all) casts ∙ find_cast told a lt
+pub cast_of_is : (told : Told) (h : History) {a : ℕ} → h.casts ≡ casts_of told → a < length told.actors → cast_of a h ≡ Some (cast_at told a)
+cast_of_is told h {a} casts lt = ap (λ all. find (λ (cast : ActorSpec). cast.actor == a) all) casts ∙ find_cast told a lt
 
 -- in a history with the casts of what is told, the casts of its actors name the callers that may call them
 pub names_is : (told : Told) (h : History) (c a : ℕ) → h.casts ≡ casts_of told → a < length told.actors → Has (actor_of told a).callers c →
     names c (cast_of a h) ≡ true
-names_is told h c a casts lt has = rw (cast_of_is told h a casts lt) (contains_has (actor_of told a).callers c has)
+names_is told h c a casts lt has = rw (cast_of_is told h casts lt) (contains_has (actor_of told a).callers has)
 
 casts_has : (told : Told) (a : ℕ) → a < length told.actors → Has (casts_of told) (cast_at told a)
 casts_has told a lt =
-    let z : 0 + a ≡ a = omega arith in
-    let f : ℕ × Actor → ActorSpec = cast_of_actor in
+    let z : 0 + a ≡ a = omega arith in let f : ℕ × Actor → ActorSpec = cast_of_actor in
     let there : slice_get (enumerate_from 0 told.actors) a ≡ Some (a, actor_of told a) =
-    slice_get-enumerate_from 0 told.actors a ∙ ap (option_map (λ (x : Actor). (0 + a, x))) (actor_at told a lt)
+    slice_get-enumerate_from 0 told.actors a ∙ ap (option_map (λ x. (0 + a, x))) (actor_at told a lt)
     ∙ ap (λ (m : ℕ). Some (m, actor_of told a)) z in
     (a, slice_get-map f (enumerate_from 0 told.actors) a ∙ ap (option_map f) there)
 
 -- in a history with the casts of what is told, who may call an actor that is told is a caller
-pub is_caller_is : (told : Told) (h : History) (c a : ℕ) → h.casts ≡ casts_of told → a < length told.actors → Has (actor_of told a).callers c →
+pub is_caller_is : (told : Told) (h : History) {c a : ℕ} → h.casts ≡ casts_of told → a < length told.actors → Has (actor_of told a).callers c →
     is_caller c h ≡ true
-is_caller_is told h c a casts lt has = rw casts
-    (list_any_has (λ (cast : ActorSpec). contains c cast.callers) (casts_of told) (cast_at told a) (casts_has told a lt)
-    (contains_has (actor_of told a).callers c has))
+is_caller_is told h {c} {a} casts lt has =
+    rw casts (list_any_has (λ (cast : ActorSpec). contains c cast.callers) (casts_of told) (casts_has told a lt) (contains_has (actor_of told a).callers has))
 
 -- no caller may call what is no actor
 pub role_actor : (told : Told) (c a : ℕ) → Contains (actor_of told a).callers c → a < length told.actors

@@ -18,7 +18,7 @@ pub use Rattle.act_orders.specs.declared.told.Run.{Run}
 pub use Rattle.act_orders.specs.declared.told.Told.{Told}
 pub use Rattle.act_rules.proofs.AsSubmitted.{calls_to-at, filter-slice_get}
 pub use Rattle.act_rules.proofs.Ended.{HasEnded, contains_more, ended_stays, needs-none, under-push}
-pub use Rattle.act_rules.proofs.Events.{calls_to-length, collect_unrefused, few_more, history_more, telling_unrefused}
+pub use Rattle.act_rules.proofs.Events.{calls_to-length, collect_unrefused, history_more, telling_unrefused}
 pub use Rattle.act_rules.proofs.Growth.{Grows, added_grows, after_run_grows, calls_grow, calls_to_grow, runs_grow}
 pub use Rattle.act_rules.proofs.Kept.{kept_at_is, kept_by, kept_stays, length-answers_from}
 pub use Rattle.act_rules.proofs.Letters.{IsSoundLetter, calls_to-number, has_letter-sound}

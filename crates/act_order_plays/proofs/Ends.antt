@@ -44,8 +44,8 @@ first_stage told order h by good stands = record {
   left = left told order by good h stands;
   ends = record {
     killed = λ a is. let death = stands.shape.killed a is in
-        subst (λ (b : ℕ). end_of told b ≡ Dead) death.actor ((by.ends death.call (good.happened _ death.has).0).died death.died);
-    retired = λ a is. absurd (let none : contains a [] ≡ true = subst (λ (all : List ℕ). contains a all ≡ true) stands.shape.retired is in cc);
+        subst (λ b. end_of told b ≡ Dead) death.actor ((by.ends death.call (good.happened _ death.has).0).died death.died);
+    retired = λ a is. absurd (let none : contains a [] ≡ true = subst (λ all. contains a all ≡ true) stands.shape.retired is in cc);
     dead = λ a lt. absurd (omega arith);
     gone = λ a lt. absurd (omega arith);
   };
@@ -54,14 +54,14 @@ first_stage told order h by good stands = record {
 
 -- ---- an actor that hasn't ended
 
-pub not_killed : (told : Told) (j a : ℕ) (h : History) → Ends told j h → end_of told a ≢ Dead → contains a h.killed ≡ false
-not_killed told j a h ends lives = false_from_ne_true (contains a h.killed) (λ is. lives (ends.killed a is))
+pub not_killed : {told : Told} {j : ℕ} (a : ℕ) (h : History) → Ends told j h → end_of told a ≢ Dead → contains a h.killed ≡ false
+not_killed a h ends lives = false_from_ne_true (contains a h.killed) (λ is. lives (ends.killed a is))
 
-pub not_retired : (told : Told) (j : ℕ) (h : History) → Ends told j h → contains j h.retired ≡ false
-not_retired told j h ends = false_from_ne_true (contains j h.retired) (λ is. let r = ends.retired j is in absurd (omega (arith, r.1)))
+pub not_retired : {told : Told} (j : ℕ) (h : History) → Ends told j h → contains j h.retired ≡ false
+not_retired j h ends = false_from_ne_true (contains j h.retired) (λ is. let r = ends.retired j is in absurd (omega (arith, r.1)))
 
 pub on : (told : Told) (j : ℕ) (h : History) → Left told h → Ends told j h → contains j h.killed ≡ false → is_ended j h ≡ false
-on told j h left ends unkilled = rw (unkilled, left.lasting j, not_retired told j h ends) refl
+on told j h left ends unkilled = rw (unkilled, left.lasting j, not_retired j h ends) refl
 
 -- ---- one that lives
 
@@ -94,29 +94,26 @@ already_dead told j h stage dies killed = record {
 kill_now : (told : Told) (fits : Premises told) (j : ℕ) (h : History) → j < length told.actors → Stage told j h → end_of told j ≡ Dead →
     contains j h.killed ≡ false → Leads (Stage told (suc j)) h
 kill_now told fits j h lt stage dies unkilled =
-    let one = element (actor_of told j).callers 0 (fits.roles j lt) in
-    let c = one.0 in
-    let role : Has (actor_of told j).callers c = (0, one.1) in
-    let named = names_is told h c j stage.left.casts lt role in
-    let zero_released = stage.held c j (omega arith) in
+    let one = element (actor_of told j).callers 0 (fits.roles j lt) in let c = one.0 in let role : Has (actor_of told j).callers c = (0, one.1) in
+    let named = names_is told h c j stage.left.casts lt role in let zero_released = stage.held c j (omega arith) in
     let copy : copies_of c j h ≡ Some 1 = rw (named, stage.left.copied, zero_released) refl in
-    let fine = ask_fine h c j (is_caller_is told h c j stage.left.casts lt role) copy in
+    let fine = ask_fine h c j (is_caller_is told h stage.left.casts lt role) copy in
     let h1 = add_event h (AskKill c j) in
-    let left1 : Left told h1 = left_stays told h h1 (record { casts = refl; submitted = refl; ran = refl; collected = refl }) refl stage.left in
+    let left1 : Left told h1 = left_stays h h1 (record { casts = refl; submitted = refl; ran = refl; collected = refl }) refl stage.left in
     let lasting : has_terminated (runs_of j h1) ≡ false = left1.lasting j in
-    let lives : is_ended j h1 ≡ false = rw (unkilled, lasting, not_retired told j h stage.ends) refl in
-    let cast : is_some (cast_of j h1) ≡ true = ap is_some (cast_of_is told h1 j left1.casts lt) in
-    let fine1 = take_fine h1 j cast lives (contains_has h1.asked j (has_last h.asked j)) in
+    let lives : is_ended j h1 ≡ false = rw (unkilled, lasting, not_retired j h stage.ends) refl in
+    let cast : is_some (cast_of j h1) ≡ true = ap is_some (cast_of_is told h1 left1.casts lt) in
+    let fine1 = take_fine h1 j cast lives (contains_has h1.asked (has_last h.asked j)) in
     let h2 = add_event h1 (TakeKill j) in
     let more : (a : ℕ) → contains a h.killed ≡ true → contains a h2.killed ≡ true =
-    λ (a : ℕ) (is : contains a h.killed ≡ true). contains_more a h.killed (j ∷ []) is in
+    λ a is. contains_more a h.killed (j ∷ []) is in
     leads_by (Stage told (suc j)) h (AskKill c j) fine (leads_by (Stage told (suc j)) h1 (TakeKill j) fine1 (leads_now (Stage told (suc j)) h2 (record {
-      left = left_stays told h1 h2 (record { casts = refl; submitted = refl; ran = refl; collected = refl }) refl left1;
+      left = left_stays h1 h2 (record { casts = refl; submitted = refl; ran = refl; collected = refl }) refl left1;
       ends = record {
-        killed = λ a is. elim (killed_or h.killed j a is) [ inl old ↦ stage.ends.killed a old | inr e ↦ subst (λ (b : ℕ). end_of told b ≡ Dead) e dies ];
+        killed = λ a is. elim (killed_or h.killed j a is) [ inl old ↦ stage.ends.killed a old | inr e ↦ subst (λ b. end_of told b ≡ Dead) e dies ];
         retired = λ a is. let r = stage.ends.retired a is in (r.0, omega (arith, r.1));
         dead = up_to (λ a. end_of told a ≡ Dead → contains a h2.killed ≡ true) j (λ a less e. more a (stage.ends.dead a less e))
-            (λ e. contains_has h2.killed j (has_last h.killed j));
+            (λ e. contains_has h2.killed (has_last h.killed j));
         gone = up_to (λ a. end_of told a ≡ Retired → contains a h.retired ≡ true) j stage.ends.gone
             (λ e. let bad : Dead ≡ Retired = sym dies ∙ e in absurd (cc));
       };
@@ -134,16 +131,11 @@ dies_now told fits j h lt stage dies = go (contains j h.killed) refl
 -- ---- all of them
 
 pub all_end : (told : Told) (h : History) → Stage told (length told.actors) h → LeavesTold told h
-all_end told h stage = record {
-  calls = stage.left.calls;
-  runs = stage.left.runs;
-  answers = stage.left.answers;
-  ends = λ a lt. go a lt (end_of told a) refl;
-}
+all_end told h stage = record { calls = stage.left.calls; runs = stage.left.runs; answers = stage.left.answers; ends = λ a lt. go a lt (end_of told a) refl }
   where
     go : (a : ℕ) → a < length told.actors → (e : End) → end_of told a ≡ e → EndsAs e (is_dead a h) (is_retired a h)
     go a lt Live e =
-        let one = not_killed told (length told.actors) a h stage.ends (λ d. let bad : Live ≡ Dead = sym e ∙ d in cc) in
+        let one = not_killed a h stage.ends (λ d. let bad : Live ≡ Dead = sym e ∙ d in cc) in
         let two : contains a h.retired ≡ false =
         false_from_ne_true (contains a h.retired) (λ is. let bad : Live ≡ Retired = sym e ∙ (stage.ends.retired a is).0 in cc) in
         (rw (one, stage.left.lasting a) refl, two)
@@ -153,5 +145,4 @@ all_end told h stage = record {
         false_from_ne_true (contains a h.retired) (λ is. let bad : Dead ≡ Retired = sym e ∙ (stage.ends.retired a is).0 in cc) in
         (rw killed refl, two)
     go a lt Retired e =
-        let one = not_killed told (length told.actors) a h stage.ends (λ d. let bad : Retired ≡ Dead = sym e ∙ d in cc) in
-        (rw (one, stage.left.lasting a) refl, stage.ends.gone a lt e)
+        let one = not_killed a h stage.ends (λ d. let bad : Retired ≡ Dead = sym e ∙ d in cc) in (rw (one, stage.left.lasting a) refl, stage.ends.gone a lt e)

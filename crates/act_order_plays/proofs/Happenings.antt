@@ -77,26 +77,19 @@ every told = submitted_all told ++ (ran_all told ++ answered_all told)
 pub every_once : (told : Told) → Once (every told)
 every_once told =
     once_append (submitted_all told) (ran_all told ++ answered_all told)
-    (once_map (λ (n : ℕ). Submitted n) _ (λ x y e. cc) (below_differ any_call (length told.calls)))
-    (once_append (ran_all told) (answered_all told)
-    (once_map (λ (n : ℕ). Ran n) _ (λ x y e. cc) (below_differ (λ n. contains n (calls_run told)) (length told.calls)))
-    (once_map (λ (n : ℕ). Answered n) _ (λ x y e. cc) (below_differ (λ n. is_told (call_of told n).outcome) (length told.calls)))
+    (once_map (λ n. Submitted n) _ (λ x y e. cc) (below_differ any_call (length told.calls)))
+    (once_append (ran_all told) (answered_all told) (once_map (λ n. Ran n) _ (λ x y e. cc) (below_differ (λ n. contains n (calls_run told))
+    (length told.calls))) (once_map (λ n. Answered n) _ (λ x y e. cc) (below_differ (λ n. is_told (call_of told n).outcome) (length told.calls)))
+    (λ x one two. let first = map-slice_get (λ n. Ran n) _ one.0 one.1 in let second = map-slice_get (λ n. Answered n) _ two.0 two.1 in
+    let bad : Ran first.0 ≡ Answered second.0 = first.2 ∙ sym second.2 in cc))
     (λ x one two.
-    let first = map-slice_get (λ (n : ℕ). Ran n) _ one.0 x one.1 in
-    let second = map-slice_get (λ (n : ℕ). Answered n) _ two.0 x two.1 in
-    let bad : Ran first.0 ≡ Answered second.0 = first.2 ∙ sym second.2 in
-    cc))
-    (λ x one two.
-    let first = map-slice_get (λ (n : ℕ). Submitted n) _ one.0 x one.1 in
+    let first = map-slice_get (λ n. Submitted n) _ one.0 one.1 in
     elim (has_either (ran_all told) (answered_all told) x two) [
       | inl h ↦
-          let second = map-slice_get (λ (n : ℕ). Ran n) _ h.0 x h.1 in
-          let bad : Submitted first.0 ≡ Ran second.0 = first.2 ∙ sym second.2 in
-          cc
+          let second = map-slice_get (λ n. Ran n) _ h.0 h.1 in let bad : Submitted first.0 ≡ Ran second.0 = first.2 ∙ sym second.2 in cc
       | inr h ↦
-          let second = map-slice_get (λ (n : ℕ). Answered n) _ h.0 x h.1 in
-          let bad : Submitted first.0 ≡ Answered second.0 = first.2 ∙ sym second.2 in
-          cc
+          let second = map-slice_get (λ n. Answered n) _ h.0 h.1 in
+          let bad : Submitted first.0 ≡ Answered second.0 = first.2 ∙ sym second.2 in cc
     ])
 
 has_map : {A B : Type 0} (f : A → B) (xs : List A) (x : A) → Has xs x → Has (map f xs) (f x)
@@ -104,37 +97,35 @@ has_map f xs x has = (has.0, slice_get-map f xs has.0 ∙ ap (option_map f) has.
 
 pub every_has : (told : Told) (x : Happening) → IsWhole told → Happened told x → Has (every told) x
 every_has told (Submitted n) whole lt =
-    has_more (submitted_all told) (ran_all told ++ answered_all told) (Submitted n)
-    (has_map (λ (n : ℕ). Submitted n) _ n (_, below_at any_call (length told.calls) n lt refl))
+    has_more (submitted_all told) (ran_all told ++ answered_all told)
+    (has_map (λ n. Submitted n) _ n (_, below_at any_call (length told.calls) n lt refl))
 every_has told (Ran n) whole ran =
     let run = run_at told n ran in
-    has_later (submitted_all told) (ran_all told ++ answered_all told) (Ran n) (has_more (ran_all told) (answered_all told) (Ran n)
-    (has_map (λ (n : ℕ). Ran n) _ n (
+    has_later (submitted_all told) (ran_all told ++ answered_all told) (has_more (ran_all told) (answered_all told)
+    (has_map (λ n. Ran n) _ n (
       _,
       below_at (λ n. contains n (calls_run told)) (length told.calls) n (run_call told n run.0 run.1 whole run.2)
-          (contains_has (calls_run told) n (has_of (calls_run told) n ran)),
+          (contains_has (calls_run told) (has_of (calls_run told) n ran)),
     )))
 every_has told (Answered n) whole answered =
-    has_later (submitted_all told) (ran_all told ++ answered_all told) (Answered n) (has_later (ran_all told) (answered_all told) (Answered n)
-    (has_map (λ (n : ℕ). Answered n) _ n (
+    has_later (submitted_all told) (ran_all told ++ answered_all told) (has_later (ran_all told) (answered_all told)
+    (has_map (λ n. Answered n) _ n (
       _,
-      below_at (λ n. is_told (call_of told n).outcome) (length told.calls) n answered.0
-          (is_told_of (call_of told n).outcome answered.1),
+      below_at (λ n. is_told (call_of told n).outcome) (length told.calls) n answered.0 (is_told_of (call_of told n).outcome answered.1),
     )))
 
 pub every_happened : (told : Told) (x : Happening) → Has (every told) x → Happened told x
 every_happened told x has = elim (has_either (submitted_all told) (ran_all told ++ answered_all told) x has) [
   | inl h ↦
-      let one = map-slice_get (λ (n : ℕ). Submitted n) _ h.0 x h.1 in
-      subst (Happened told) one.2 (below_has any_call (length told.calls) h.0 one.0 one.1).less
+      let one = map-slice_get (λ n. Submitted n) _ h.0 h.1 in subst (Happened told) one.2 (below_has any_call (length told.calls) h.0 one.1).less
   | inr rest ↦ elim (has_either (ran_all told) (answered_all told) x rest) [
     | inl h ↦
-        let one = map-slice_get (λ (n : ℕ). Ran n) _ h.0 x h.1 in
-        subst (Happened told) one.2 (contains_of (calls_run told) one.0 (has_contains (calls_run told) one.0
-        (below_has (λ n. contains n (calls_run told)) (length told.calls) h.0 one.0 one.1).passes))
+        let one = map-slice_get (λ n. Ran n) _ h.0 h.1 in
+        subst (Happened told) one.2 (contains_of (calls_run told) (has_contains (calls_run told) one.0
+        (below_has (λ n. contains n (calls_run told)) (length told.calls) h.0 one.1).passes))
     | inr h ↦
-        let one = map-slice_get (λ (n : ℕ). Answered n) _ h.0 x h.1 in
-        let is = below_has (λ n. is_told (call_of told n).outcome) (length told.calls) h.0 one.0 one.1 in
+        let one = map-slice_get (λ n. Answered n) _ h.0 h.1 in
+        let is = below_has (λ n. is_told (call_of told n).outcome) (length told.calls) h.0 one.1 in
         subst (Happened told) one.2 (is.less, told_is (call_of told one.0).outcome is.passes)
   ]
 ]
@@ -146,22 +137,18 @@ any_more p xs ys front is = rw (← front.1, list_any-append p xs front.0, is) r
 
 pub call_lasts : (told : Told) (h g : History) (n : ℕ) → Within h g → has_call told h n ≡ true → has_call told g n ≡ true
 call_lasts told h g n way has =
-    let c = (call_of told n).caller in
-    let less = ltb-true (future_of told n) (length (calls_of c h)) has in
-    let long = calls_along h g c way.grows in
+    let c = (call_of told n).caller in let less = ltb-true (future_of told n) (length (calls_of c h)) has in let long = calls_along c way.grows in
     lt-ltb (future_of told n) (length (calls_of c g)) (omega arith)
 
 pub run_lasts : (told : Told) (h g : History) (n : ℕ) → Within h g → has_run told h n ≡ true → has_run told g n ≡ true
-run_lasts told h g n way has =
-    let a = (call_of told n).actor in
-    any_more _ (runs_of a h) (runs_of a g) (runs_grow a h g way.grows) has
+run_lasts told h g n way has = let a = (call_of told n).actor in any_more _ (runs_of a h) (runs_of a g) (runs_grow a way.grows) has
 
-pub answer_lasts : (told : Told) (h g : History) (n : ℕ) → Within h g → has_answer told h n ≡ true → has_answer told g n ≡ true
-answer_lasts told h g n way has = go (kept_for told n h) refl has
+pub answer_lasts : (told : Told) {h : History} (g : History) (n : ℕ) → Within h g → has_answer told h n ≡ true → has_answer told g n ≡ true
+answer_lasts told {h} g n way has = go (kept_for told n h) refl has
   where
     go : (o : Option Answer) → kept_for told n h ≡ o → is_some o ≡ true → has_answer told g n ≡ true
     go None e is = absurd (cc)
-    go (Some answer) e is = ap (λ (o : Option Answer). is_some o) (kept_along h g (call_of told n).caller (future_of told n) answer way e)
+    go (Some answer) e is = ap (λ o. is_some o) (kept_along h g (call_of told n).caller (future_of told n) way e)
 
 acts_last : (told : Told) (h g k : History) (x : Happening) → Within h g → has_in told (h, k) x ≡ true → has_in told (g, k) x ≡ true
 acts_last told h g k (Submitted n) way has = call_lasts told h g n way has
@@ -169,14 +156,13 @@ acts_last told h g k (Ran n) way has = run_lasts told h g n way has
 acts_last told h g k (Answered n) way has = has
 
 answers_last : (told : Told) (h g k : History) (x : Happening) → Within h g → has_in told (k, h) x ≡ true → has_in told (k, g) x ≡ true
-answers_last told h g k (Answered n) way has = answer_lasts told h g n way has
+answers_last told h g k (Answered n) way has = answer_lasts told g n way has
 answers_last told h g k x way has = has
 
 pub all_lasts : (told : Told) (h : History) (events : List Event) → IsSound h → Lasts (has_in told) (every told) (h, h) (states h events)
 all_lasts told h [] sound = tt
 all_lasts told h (event ∷ events) sound =
-    let g = after h event in
-    let way : Within h g = within_all h (event ∷ []) sound in
+    let g = after h event in let way : Within h g = within_all (event ∷ []) sound in
     let rest = all_lasts told g events (after_keeps IsSound h event sound (sound_step h event sound)) in
     ((λ x has. acts_last told h g h x way has), ((λ x has. answers_last told h g g x way has), rest))
 
@@ -203,4 +189,4 @@ all_before told y x casts first (event ∷ events) caused =
     let more : IsCausedAt told y x casts ((first ++ event ∷ []) ++ events) =
     subst (IsCausedAt told y x casts) (sym (append_assoc first (event ∷ []) events)) caused in
     let rest = all_before told y x casts (first ++ event ∷ []) events more in
-    (one.acts, (one.answers, subst (λ (g : History). Before (has_in told) (every told) y x (g, g) (states g events)) (history_more casts first event) rest))
+    (one.acts, (one.answers, subst (λ g. Before (has_in told) (every told) y x (g, g) (states g events)) (history_more casts first event) rest))

@@ -27,21 +27,15 @@ module _ (told : Told) (events : List Event) (whole : IsWhole told) (play : IsPl
 
   cause_happened : (y x : Happening) → IsCause told y x → Happened told x → Happened told y
   cause_happened (Submitted m) (Submitted n) cause lt = let next = cause.0 in omega arith
-  cause_happened (Answered m) (Submitted n) cause lt =
-      let less = ((whole.waits n lt).each m cause).before in
-      (omega arith, (play.waits n m lt cause).is_told)
+  cause_happened (Answered m) (Submitted n) cause lt = let less = ((whole.waits n lt).each m cause).before in (omega arith, (play.waits n m lt cause).is_told)
   cause_happened (Submitted m) (Ran n) cause ran =
-      let run = run_at told n ran in
-      subst (λ (k : ℕ). k < length told.calls) (sym cause) (run_call told n run.0 run.1 whole run.2)
-  cause_happened (Ran m) (Ran n) cause ran = run_happened told m cause.0 _ (record { at = cause.2; call = refl })
+      let run = run_at told n ran in subst (λ k. k < length told.calls) (sym cause) (run_call told n run.0 run.1 whole run.2)
+  cause_happened (Ran m) (Ran n) cause ran = run_happened told m cause.0 (record { at = cause.2; call = refl })
   cause_happened (Answered m) (Ran n) cause ran =
-      let run = run_at told n ran in
-      let lt = run_call told n run.0 run.1 whole run.2 in
-      let less = ((whole.takes n lt).each m cause).before in
+      let run = run_at told n ran in let lt = run_call told n run.0 run.1 whole run.2 in let less = ((whole.takes n lt).each m cause).before in
       (omega arith, play.taken n m ran cause)
-  cause_happened (Submitted m) (Answered n) cause answered = subst (λ (k : ℕ). k < length told.calls) (sym cause) answered.0
-  cause_happened (Ran m) (Answered n) cause answered =
-      ran_before told last whole sound play.leaves n m (within_all last [] sound) answered.0 answered.1 cause
+  cause_happened (Submitted m) (Answered n) cause answered = subst (λ k. k < length told.calls) (sym cause) answered.0
+  cause_happened (Ran m) (Answered n) cause answered = ran_before told last whole sound play.leaves n m (within_all [] sound) answered.0 answered.1 cause
   cause_happened more other cause lt = absurd cause
 
   -- ---- and they come before
@@ -49,23 +43,20 @@ module _ (told : Told) (events : List Event) (whole : IsWhole told) (play : IsPl
   -- the answers for which a caller waited are kept before it submits the call
   waited_caused : (m n : ℕ) → n < length told.calls → Contains (call_of told n).waits m → IsCausedAt told (Answered m) (Submitted n) casts events
   waited_caused m n lt waits first event later joined =
-      let h = history casts first in
-      let g = after (history casts first) event in
+      let h = history casts first in let g = after (history casts first) event in
       let acts : has_call told h n ≡ false → has_call told g n ≡ true → has_answer told h m ≡ true =
       λ f t. let w = play.waits n m lt waits in
       elim (parted first event later w.first w.later (joined ∙ sym w.joined)) [
-        | inl p ↦ answer_lasts told (history casts w.first) h m (within_at casts w.first p.0 first p.1) w.kept
+        | inl p ↦ answer_lasts told h m (within_at casts w.first p.0 p.1) w.kept
         | inr p ↦
             let c = (call_of told n).caller in
-            let way : Within (history casts (first ++ event ∷ [])) (history casts w.first) = within_at casts (first ++ event ∷ []) p.0 w.first p.1 in
+            let way : Within (history casts (first ++ event ∷ [])) (history casts w.first) = within_at casts (first ++ event ∷ []) p.0 p.1 in
             let long : length (calls_of c g) ≤ length (calls_of c (history casts w.first)) =
-            subst (λ (k : History). length (calls_of c k) ≤ length (calls_of c (history casts w.first))) (history_more casts first event)
-            (calls_along (history casts (first ++ event ∷ [])) (history casts w.first) c way.grows) in
-            let short = w.not_yet in
-            let there = ltb-true (future_of told n) (length (calls_of c g)) t in
-            absurd (omega arith)
+            subst (λ k. length (calls_of c k) ≤ length (calls_of c (history casts w.first))) (history_more casts first event)
+            (calls_along c way.grows) in
+            let short = w.not_yet in let there = ltb-true (future_of told n) (length (calls_of c g)) t in absurd (omega arith)
       ] in
-      record { acts = acts; answers = λ f t. not_both (has_call told g n) f t }
+      record { acts = acts; answers = λ f t. not_both f t }
 
   caused : (y x : Happening) → IsCause told y x → Happened told x → IsCausedAt told y x casts events
   caused (Submitted m) (Submitted n) cause lt first event later joined =
@@ -73,17 +64,16 @@ module _ (told : Told) (events : List Event) (whole : IsWhole told) (play : IsPl
   caused (Ran m) (Submitted n) cause lt first event later joined = absurd cause
   caused (Answered m) (Submitted n) cause lt first event later joined = waited_caused m n lt cause first event later joined
   caused y (Ran n) cause ran first event later joined =
-      let run = run_at told n ran in
-      let lt = run_call told n run.0 run.1 whole run.2 in
+      let run = run_at told n ran in let lt = run_call told n run.0 run.1 whole run.2 in
       let then : Within (after (history casts first) event) last =
-      subst (λ (g : History). Within g last) (history_more casts first event)
-      (within_at casts (first ++ event ∷ []) later events (append_assoc first (event ∷ []) later ∙ joined)) in
-      ran_caused told last whole sound play.leaves (history casts first) event y n (within_at casts first (event ∷ later) events joined) then lt
+      subst (λ g. Within g last) (history_more casts first event)
+      (within_at casts (first ++ event ∷ []) later (append_assoc first (event ∷ []) later ∙ joined)) in
+      ran_caused told last whole sound play.leaves (history casts first) event y n (within_at casts first (event ∷ later) joined) then lt
       (λ m takes. ((whole.takes n lt).each m takes).caller) cause
   caused y (Answered n) cause answered first event later joined =
       let then : Within (after (history casts first) event) last =
-      subst (λ (g : History). Within g last) (history_more casts first event)
-      (within_at casts (first ++ event ∷ []) later events (append_assoc first (event ∷ []) later ∙ joined)) in
+      subst (λ g. Within g last) (history_more casts first event)
+      (within_at casts (first ++ event ∷ []) later (append_assoc first (event ∷ []) later ∙ joined)) in
       answered_caused told last whole sound play.leaves (history casts first) (after (history casts first) event) y n then answered.0 answered.1 cause
 
   -- ---- the order
@@ -109,21 +99,21 @@ module _ (told : Told) (events : List Event) (whole : IsWhole told) (play : IsPl
 
   in_the_end : (x : Happening) → Happened told x → has_in told (last_of (has_in told) (every told) start all) x ≡ true
   in_the_end x happened =
-      subst (λ (s : Seen). has_in told s x ≡ true) (sym (last_is told (opening casts) events)) (at_the_end told last whole sound play.leaves x happened)
+      subst (λ s. has_in told s x ≡ true) (sym (last_is told (opening casts) events)) (at_the_end told last whole sound play.leaves x happened)
 
   has_happened : (x : Happening) → Contains order x → Happened told x
   has_happened x has = every_happened told x (order_only (has_in told) (every told) start all x lasts (has_of order x has)).0
 
   causes_first : (i : ℕ) (x : Happening) → slice_get order i ≡ Some x → (y : Happening) → IsCause told y x → Contains (take i order) y
   causes_first i x at y cause =
-      let happened = has_happened x (contains_of order x (i, at)) in
-      contains_of (take i order) y
+      let happened = has_happened x (contains_of order (i, at)) in
+      contains_of (take i order)
       (order_after (has_in told) (every told) start all i x y lasts at (all_before told y x casts [] events (caused y x cause happened))
       (every_has told y whole (cause_happened y x cause happened)) (nothing_yet y))
 
   is_order : IsOrder told order
   is_order = record {
-    all = λ x happened. contains_of order x
+    all = λ x happened. contains_of order
         (order_has (has_in told) (every told) start all x (every_has told x whole happened) (nothing_yet x) (in_the_end x happened));
     only = has_happened;
     after = λ i x at. record {
@@ -138,7 +128,7 @@ module _ (told : Told) (events : List Event) (whole : IsWhole told) (play : IsPl
     order,
     record {
       runs = runs_in_turn told last whole sound play.leaves;
-      ends = ends_right told last whole sound play.leaves (within_at casts [] events events refl).grows.casts (world_retires casts events);
+      ends = ends_right told last whole sound play.leaves (within_at casts [] events {events = events} refl).grows.casts (world_retires casts events);
       waits = λ k waits. (whole.last_waits k waits, play.last_waits k waits);
       causes = is_order;
     },

@@ -7,6 +7,7 @@ use Rattle.act_order_plays.proofs.Common.{slice_get_pushed, front_whole}
 
 -- ---- what a list has
 
+-- an item stands at some place
 abbrev pub Has : {A : Type 0} → List A → A → Type 0
 Has {A} xs x = (k : ℕ) × (slice_get xs k ≡ Some x)
 
@@ -15,31 +16,32 @@ pub has_of : {A : Type 0} (xs : List A) (x : A) → Contains xs x → Has xs x
 has_of xs x has = (has.0, slice_get-get_or xs has.0 x has.1 ∙ ap Some has.2)
 
 -- what stands at a place of a list is contained in it
-pub contains_of : {A : Type 0} (xs : List A) (x : A) → Has xs x → Contains xs x
-contains_of xs x has = (has.0, slice_get_within xs has.0 x has.1, get_or_from_slice_get xs has.0 x x has.1)
+pub contains_of : {A : Type 0} (xs : List A) {x : A} → Has xs x → Contains xs x
+contains_of xs {x} has = (has.0, slice_get_within xs has.0 x has.1, get_or_from_slice_get xs has.0 x x has.1)
 
 -- what a list has, it has with more items behind it, too
-pub has_more : {A : Type 0} (xs ys : List A) (x : A) → Has xs x → Has (xs ++ ys) x
-has_more xs ys x has = (has.0, slice_get_more xs ys has.0 x has.1)
+pub has_more : {A : Type 0} (xs ys : List A) {x : A} → Has xs x → Has (xs ++ ys) x
+has_more xs ys {x} has = (has.0, slice_get_more xs ys has.0 has.1)
 
 -- a list has the item that was added at its end
 pub has_last : {A : Type 0} (xs : List A) (x : A) → Has (xs ++ x ∷ []) x
 has_last xs x = (length xs, slice_get_last xs x)
 
 -- where an item is added at the end, what the list has it had before, or it is that item
-pub has_pushed : {A : Type 0} (xs : List A) (y x : A) → Has (xs ++ y ∷ []) x → (Has xs x) ⊎ (y ≡ x)
-has_pushed xs y x has = elim (slice_get_pushed xs y has.0 x has.1) [ inl h ↦ inl (has.0, h) | inr h ↦ inr h.1 ]
+pub has_pushed : {A : Type 0} (xs : List A) (y : A) {x : A} → Has (xs ++ y ∷ []) x → (Has xs x) ⊎ (y ≡ x)
+has_pushed xs y {x} has = elim (slice_get_pushed xs y has.0 has.1) [ inl h ↦ inl (has.0, h) | inr h ↦ inr h.1 ]
 
 -- what a list has and passes the test, the filtered list has
-pub has_filter : {A : Type 0} (p : A → Bool) (xs : List A) (x : A) → Has xs x → p x ≡ true → Has (filter p xs) x
-has_filter p xs x has passes = (length (filter p (take has.0 xs)), slice_get-filter p xs has.0 x has.1 passes)
+pub has_filter : {A : Type 0} (p : A → Bool) (xs : List A) {x : A} → Has xs x → p x ≡ true → Has (filter p xs) x
+has_filter p xs {x} has passes = (length (filter p (take has.0 xs)), slice_get-filter p xs has.0 has.1 passes)
 
 -- what a filtered list has, the whole list has, and it passes the test
-pub filter_has : {A : Type 0} (p : A → Bool) (xs : List A) (x : A) → Has (filter p xs) x → Has xs x × (p x ≡ true)
-filter_has p xs x has = let place = filter-slice_get p xs has.0 x has.1 in ((place.place, place.at), place.passes)
+pub filter_has : {A : Type 0} (p : A → Bool) (xs : List A) {x : A} → Has (filter p xs) x → Has xs x × (p x ≡ true)
+filter_has p xs {x} has = let place = filter-slice_get p xs has.0 has.1 in ((place.place, place.at), place.passes)
 
-pub has_filter_map : {A B : Type 0} (f : A → Option B) (xs : List A) (x : A) (y : B) → Has xs x → f x ≡ Some y → Has (filter_map f xs) y
-has_filter_map {A = A} {B = B} f xs x y has is = go xs has.0 has.1
+-- what an item gives stands among what all give
+pub has_filter_map : {A B : Type 0} (f : A → Option B) (xs : List A) {x : A} (y : B) → Has xs x → f x ≡ Some y → Has (filter_map f xs) y
+has_filter_map {A = A} {B = B} f xs {x} y has is = go xs has.0 has.1
   where
     later : (o : Option B) (ys : List B) → Has ys y → Has (cons_option o ys) y
     later None ys h = h
@@ -48,13 +50,13 @@ has_filter_map {A = A} {B = B} f xs x y has is = go xs has.0 has.1
     go : (xs : List A) (i : ℕ) → slice_get xs i ≡ Some x → Has (filter_map f xs) y
     go [] i e = absurd (cc)
     go (z ∷ zs) zero e = let same : z ≡ x = cc in let there : f z ≡ Some y = ap f same ∙ is in
-        (zero, ap (λ (o : Option B). slice_get (cons_option o (filter_map f zs)) 0) there)
+        (zero, ap (λ o. slice_get (cons_option o (filter_map f zs)) 0) there)
     go (z ∷ zs) (suc i) e = later (f z) (filter_map f zs) (go zs i e)
 
-pub filter_map_has : {A B : Type 0} (f : A → Option B) (xs : List A) (y : B) → Has (filter_map f xs) y → (x : A) × Has xs x × (f x ≡ Some y)
-filter_map_has f [] y has = absurd (let e = has.1 in cc)
-filter_map_has {A = A} {B = B} f (z ∷ zs) y has =
-    go (f z) refl has.0 has.1 (λ (i : ℕ) (e : slice_get (filter_map f zs) i ≡ Some y). filter_map_has f zs y (i, e))
+-- and what stands among these was given by some item
+pub filter_map_has : {A B : Type 0} (f : A → Option B) (xs : List A) {y : B} → Has (filter_map f xs) y → (x : A) × Has xs x × (f x ≡ Some y)
+filter_map_has f [] has = absurd (let e = has.1 in cc)
+filter_map_has {A = A} {B = B} f (z ∷ zs) {y} has = go (f z) refl has.0 has.1 (λ i e. filter_map_has f zs (i, e))
   where
     later : ((x : A) × Has zs x × (f x ≡ Some y)) → ((x : A) × Has (z ∷ zs) x × (f x ≡ Some y))
     later r = (r.0, (suc r.1.0, r.1.1), r.2)
@@ -78,7 +80,7 @@ Differ xs = (i j x : ℕ) → slice_get xs i ≡ Some x → slice_get xs j ≡ S
 -- an item of the list that a front has stands in the front
 pub within_front : (xs ys : List ℕ) (i x : ℕ) → Differ ys → IsPrefix xs ys → slice_get ys i ≡ Some x → Has xs x → i < length xs
 within_front xs ys i x differ front at has =
-    let same : has.0 ≡ i = differ has.0 i x (slice_get_front xs ys has.0 x front has.1) at in
+    let same : has.0 ≡ i = differ has.0 i x (slice_get_front xs ys has.0 front has.1) at in
     let short = slice_get_within xs has.0 x has.1 in omega arith
 
 -- where a front has each item before this one, and not this, it is as long as these
@@ -86,17 +88,14 @@ pub front_ends : (xs ys : List ℕ) (i x : ℕ) → Differ ys → IsPrefix xs ys
     ((j y : ℕ) → j < i → slice_get ys j ≡ Some y → Has xs y) → length xs ≡ i
 front_ends xs ys i x differ front at fresh before = elim (cases_lt (length xs) i) [
   | inl less ↦
-      let ends = slice_get_within ys i x at in
-      let one = element ys (length xs) (omega arith) in
-      let long = within_front xs ys (length xs) one.0 differ front one.1 (before (length xs) one.0 less one.1) in
-      absurd (omega arith)
+      let ends = slice_get_within ys i x at in let one = element ys (length xs) (omega arith) in
+      let long = within_front xs ys (length xs) one.0 differ front one.1 (before (length xs) one.0 less one.1) in absurd (omega arith)
   | inr most ↦ elim (cases_le (length xs) i) [
     | inl least ↦ omega arith
     | inr more ↦
         let two = element xs i more in
-        let there : slice_get ys i ≡ Some two.0 = slice_get_front xs ys i two.0 front two.1 in
-        let same : two.0 ≡ x = cc in
-        absurd (fresh (i, two.1 ∙ ap Some same))
+        let there : slice_get ys i ≡ Some two.0 = slice_get_front xs ys i front two.1 in
+        let same : two.0 ≡ x = cc in absurd (fresh (i, two.1 ∙ ap Some same))
   ]
 ]
 
@@ -104,7 +103,7 @@ front_ends xs ys i x differ front at fresh before = elim (cases_lt (length xs) i
 pub front_grows : (xs ys : List ℕ) (i x : ℕ) → Differ ys → IsPrefix xs ys → slice_get ys i ≡ Some x → (Has xs x → ⊥) →
     ((j y : ℕ) → j < i → slice_get ys j ≡ Some y → Has xs y) → IsPrefix (xs ++ x ∷ []) ys
 front_grows xs ys i x differ front at fresh before =
-    front_next xs ys x front (subst (λ (k : ℕ). slice_get ys k ≡ Some x) (sym (front_ends xs ys i x differ front at fresh before)) at)
+    front_next xs ys front (subst (λ k. slice_get ys k ≡ Some x) (sym (front_ends xs ys i x differ front at fresh before)) at)
 
 -- a front that has each item is the list
 pub front_has_all : (xs ys : List ℕ) → Differ ys → IsPrefix xs ys → ((y : ℕ) → Has ys y → Has xs y) → xs ≡ ys
@@ -112,8 +111,7 @@ front_has_all xs ys differ front all = front_whole xs ys front (elim (cases_le (
   | inl a ↦ a
   | inr b ↦
       let one = element ys (length xs) b in
-      let long = within_front xs ys (length xs) one.0 differ front one.1 (all one.0 (length xs, one.1)) in
-      absurd (omega arith)
+      let long = within_front xs ys (length xs) one.0 differ front one.1 (all one.0 (length xs, one.1)) in absurd (omega arith)
 ])
 
 -- ---- the numbers below a bound that pass a test
@@ -129,7 +127,7 @@ below_more p n = ap (filter p) (range_push 0 n) ∙ filter-append p (range_with_
 pub below_at : (p : ℕ → Bool) (m n : ℕ) → n < m → p n ≡ true → slice_get (below p m) (length (below p n)) ≡ Some n
 below_at p zero n lt passes = absurd (omega arith)
 below_at p (suc m) n lt passes = rw (below_more p m) (elim (cases_lt n m) [
-  | inl a ↦ slice_get_more (below p m) (cond (p m) (m ∷ []) []) (length (below p n)) n (below_at p m n a passes)
+  | inl a ↦ slice_get_more (below p m) (cond (p m) (m ∷ []) []) (length (below p n)) (below_at p m n a passes)
   | inr b ↦ let same : m ≡ n = omega arith in rw (same, passes) (slice_get_last (below p n) n)
 ])
 
@@ -140,9 +138,9 @@ pub record IsBelow (p : ℕ → Bool) (m j n : ℕ) : Type 0 where
   pub place : j ≡ length (below p n)
 
 -- what stands among the numbers below a bound that pass a test is one of them, behind just the lower ones
-pub below_has : (p : ℕ → Bool) (m j n : ℕ) → slice_get (below p m) j ≡ Some n → IsBelow p m j n
-below_has p zero j n e = absurd (cc)
-below_has p (suc m) j n e = go (p m) refl (rw (below_more p m) at e) (below_has p m j n)
+pub below_has : (p : ℕ → Bool) (m j : ℕ) {n : ℕ} → slice_get (below p m) j ≡ Some n → IsBelow p m j n
+below_has p zero j e = absurd (cc)
+below_has p (suc m) j {n} e = go (p m) refl (rw (below_more p m) at e) (below_has p m j {n = n})
   where
     later : IsBelow p m j n → IsBelow p (suc m) j n
     later r = let less = r.less in record { less = omega arith; passes = r.passes; place = r.place }
@@ -150,11 +148,11 @@ below_has p (suc m) j n e = go (p m) refl (rw (below_more p m) at e) (below_has 
     go : (b : Bool) → p m ≡ b → slice_get (below p m ++ cond b (m ∷ []) []) j ≡ Some n → (slice_get (below p m) j ≡ Some n → IsBelow p m j n) →
         IsBelow p (suc m) j n
     go false is e rest = later (rest (rw (append-nil (below p m)) at e))
-    go true is e rest = elim (slice_get_pushed (below p m) m j n e) [
+    go true is e rest = elim (slice_get_pushed (below p m) m j e) [
       | inl h ↦ later (rest h)
-      | inr h ↦ record { less = omega (arith, h.1); passes = ap p (sym h.1) ∙ is; place = h.0 ∙ ap (λ (k : ℕ). length (below p k)) h.1 }
+      | inr h ↦ record { less = omega (arith, h.1); passes = ap p (sym h.1) ∙ is; place = h.0 ∙ ap (λ k. length (below p k)) h.1 }
     ]
 
 -- no number stands twice among those below a bound that pass a test
 pub below_differ : (p : ℕ → Bool) (m : ℕ) → Differ (below p m)
-below_differ p m i j x one two = (below_has p m i x one).place ∙ sym (below_has p m j x two).place
+below_differ p m i j x one two = (below_has p m i one).place ∙ sym (below_has p m j two).place

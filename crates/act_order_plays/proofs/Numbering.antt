@@ -1,9 +1,9 @@
 -- An actor ran as many of a caller's calls as come before its next call to it.
-use Rattle.act_order_plays.proofs.Common.{◌≡◌, ℕ, ◌<◌, ◌==◌, true, List, length, map, take, Some, slice_get, refl, sym, ap, subst, ◌∙◌, arith, option_map}
-use Rattle.act_order_plays.proofs.Common.{eqb-true, eq-eqb, length-map, slice_get-map, IsPrefix, RunItem, Submission, items_of, calls_to, number_of, History}
-use Rattle.act_order_plays.proofs.Common.{calls_of, runs_of, ran_count, element, slice_get_front, IsPrefix-map, calls_to_grow, calls_to-number, InOrder}
-use Rattle.act_order_plays.proofs.Common.{numbered, numbers, calls_to-at, map-slice_get, Happening, Submitted, Ran, Run, Told, call_of, SameWay, RunsInTurn}
-use Rattle.act_order_plays.proofs.Common.{IsCause, calls_by, future_of, get_taken, map-enumerate_from, map-numbered, calls_to-length, places_differ}
+use Rattle.act_order_plays.proofs.Common.{◌≡◌, ℕ, ◌<◌, ◌==◌, List, length, map, take, Some, slice_get, refl, sym, ap, subst, ◌∙◌, arith, option_map, eqb-true}
+use Rattle.act_order_plays.proofs.Common.{eq-eqb, length-map, slice_get-map, IsPrefix, RunItem, Submission, items_of, calls_to, number_of, History, calls_of}
+use Rattle.act_order_plays.proofs.Common.{runs_of, ran_count, element, slice_get_front, IsPrefix-map, calls_to_grow, calls_to-number, InOrder, numbered}
+use Rattle.act_order_plays.proofs.Common.{numbers, calls_to-at, map-slice_get, Happening, Submitted, Ran, Run, Told, call_of, SameWay, RunsInTurn, IsCause}
+use Rattle.act_order_plays.proofs.Common.{calls_by, future_of, get_taken, map-enumerate_from, map-numbered, calls_to-length, places_differ}
 use Rattle.act_order_plays.proofs.Premises.{Premises}
 use Rattle.act_order_plays.proofs.Lists.{Has, has_filter, filter_has, Differ, front_ends}
 use Rattle.act_order_plays.proofs.Fronts.{subs_of, rans_of, rans_of_has, has_rans_of, call_at, call_before, calls_differ, IsRunAt, run_at, ran_earlier}
@@ -33,15 +33,12 @@ record IsLower (a k q : ℕ) (calls : List Submission) : Type 0 where
 lower : (a k j y : ℕ) (calls : List Submission) → j < number_of a k calls → slice_get (futures_to a calls) j ≡ Some y → IsLower a k y calls
 lower a k j y calls less at =
     let short : j < length (calls_to a (take k calls)) = (let e = calls_to-length a 0 (take k calls) in omega arith) in
-    let one = element (calls_to a (take k calls)) j short in
-    let is = calls_to-at a (take k calls) j one.0 one.1 in
-    let early = get_taken k calls one.0.0 one.0.1 is.at in
+    let one = element (calls_to a (take k calls)) j short in let is = calls_to-at a (take k calls) j one.1 in let early = get_taken k calls one.0.0 is.at in
     let there : slice_get (calls_to a calls) j ≡ Some one.0 =
-    slice_get_front (calls_to a (take k calls)) (calls_to a calls) j one.0 (calls_to_grow a (take k calls) calls (take_front k calls)) one.1 in
+    slice_get_front (calls_to a (take k calls)) (calls_to a calls) j (calls_to_grow a (take k calls) calls (take_front k calls)) one.1 in
     let future : slice_get (futures_to a calls) j ≡ Some one.0.0 =
     slice_get-map (λ (call : ℕ × Submission). call.0) (calls_to a calls) j ∙ ap (option_map (λ (call : ℕ × Submission). call.0)) there in
-    let same : one.0.0 ≡ y = cc in
-    subst (λ (q : ℕ). IsLower a k q calls) same (record { call = one.0.1; at = early.1; actor = is.actor; less = early.0 })
+    let same : one.0.0 ≡ y = cc in subst (λ q. IsLower a k q calls) same (record { call = one.0.1; at = early.1; actor = is.actor; less = early.0 })
 
 -- ---- those that ran
 
@@ -52,49 +49,46 @@ futures_ran c a h = map (λ item. item.future) (items_of c (runs_of a h))
 pub front_ran : (h : History) (c a : ℕ) → InOrder h → IsPrefix (futures_ran c a h) (futures_to a (calls_of c h))
 front_ran h c a order =
     let both = IsPrefix-map (λ (p : ℕ × ℕ). p.1) (map numbered (items_of c (runs_of a h))) (numbers a (calls_of c h)) (order a c) in
-    subst (λ (l : List ℕ). IsPrefix l (futures_to a (calls_of c h))) (map-numbered (items_of c (runs_of a h)))
-    (subst (λ (l : List ℕ). IsPrefix (map (λ (p : ℕ × ℕ). p.1) (map numbered (items_of c (runs_of a h)))) l) (map-enumerate_from 0 (futures_to a (calls_of c h))) both)
+    subst (λ l. IsPrefix l (futures_to a (calls_of c h))) (map-numbered (items_of c (runs_of a h)))
+    (subst (λ l. IsPrefix (map (λ (p : ℕ × ℕ). p.1) (map numbered (items_of c (runs_of a h)))) l) (map-enumerate_from 0 (futures_to a (calls_of c h))) both)
 
-pub ran_front : (told : Told) (before : List Happening) (h : History) (c a : ℕ) → Shape told before h →
+pub ran_front : {told : Told} {before : List Happening} (h : History) (c a : ℕ) → Shape told before h →
     IsPrefix (futures_ran c a h) (futures_to a (calls_of c h))
-ran_front told before h c a shape = front_ran h c a shape.sound.order
+ran_front h c a shape = front_ran h c a shape.sound.order
 
 -- a call that ran is among the futures that ran
 pub ran_has : (told : Told) (before : List Happening) (h : History) (n : ℕ) → Shape told before h → Has before (Ran n) →
     Has (futures_ran (call_of told n).caller (call_of told n).actor h) (future_of told n)
 ran_has told before h n shape has =
-    let c = (call_of told n).caller in
-    let a = (call_of told n).actor in
-    let there = rans_of_has told before n a has refl in
-    let item = item_of_call told (runs_of a h) (rans_of told before a) there.0 n (runs_are told before h a shape) there.1 in
-    let mine = has_filter (λ (i : RunItem). i.caller == c) (runs_of a h) item.0 (there.0, item.1) (eq-eqb item.0.caller c item.2.caller) in (
+    let c = (call_of told n).caller in let a = (call_of told n).actor in let there = rans_of_has told before n a has refl in
+    let item = item_of_call told (runs_of a h) (rans_of told before a) there.0 n (runs_are a shape) there.1 in
+    let mine = has_filter (λ (i : RunItem). i.caller == c) (runs_of a h) (there.0, item.1) (eq-eqb item.0.caller c item.2.caller) in (
       mine.0,
       slice_get-map (λ (i : RunItem). i.future) (items_of c (runs_of a h)) mine.0 ∙ ap (option_map (λ (i : RunItem). i.future)) mine.1
-          ∙ ap (λ (k : ℕ). Some k) item.2.future,
+          ∙ ap (λ k. Some k) item.2.future,
     )
 
 -- and such a future is that of a call that ran
 pub has_ran : (told : Told) (before : List Happening) (h : History) (n : ℕ) → Good told before → Shape told before h → n < length told.calls →
     Has (futures_ran (call_of told n).caller (call_of told n).actor h) (future_of told n) → Has before (Ran n)
 has_ran told before h n good shape lt has =
-    let c = (call_of told n).caller in
-    let a = (call_of told n).actor in
-    let one = map-slice_get (λ (i : RunItem). i.future) (items_of c (runs_of a h)) has.0 (future_of told n) has.1 in
-    let item = filter_has (λ (i : RunItem). i.caller == c) (runs_of a h) one.0 (has.0, one.1) in
-    let call = call_of_item told (runs_of a h) (rans_of told before a) item.0.0 one.0 (runs_are told before h a shape) item.0.1 in
+    let c = (call_of told n).caller in let a = (call_of told n).actor in
+    let one = map-slice_get (λ (i : RunItem). i.future) (items_of c (runs_of a h)) has.0 has.1 in
+    let item = filter_has (λ (i : RunItem). i.caller == c) (runs_of a h) (has.0, one.1) in
+    let call = call_of_item told (runs_of a h) (rans_of told before a) item.0.0 one.0 (runs_are a shape) item.0.1 in
     let ran = has_rans_of told before call.0 a (item.0.0, call.1) in
     let caller : (call_of told call.0).caller ≡ c = sym call.2.caller ∙ eqb-true one.0.caller c item.1 in
     let future : future_of told call.0 ≡ future_of told n = sym call.2.future ∙ one.2 in
-    let same : call.0 ≡ n = same_call told call.0 n (good.happened (Submitted call.0) (ran_submitted told before call.0 good ran.0)) lt caller future in
-    subst (λ (k : ℕ). Has before (Ran k)) same ran.0
+    let same : call.0 ≡ n = same_call told call.0 n (good.happened (Submitted call.0) (ran_submitted call.0 good ran.0)) lt caller future in
+    subst (λ k. Has before (Ran k)) same ran.0
 
 -- the submission at a place is that of a call
-pub sub_call : (told : Told) (before : List Happening) (h : History) (c q : ℕ) (call : Submission) → Good told before → Shape told before h →
+pub sub_call : (told : Told) (before : List Happening) (h : History) (c q : ℕ) {call : Submission} → Good told before → Shape told before h →
     slice_get (calls_of c h) q ≡ Some call → (m : ℕ) × (slice_get (calls_by told c) q ≡ Some m) × (sub_of told m ≡ call)
-sub_call told before h c q call good shape at =
-    let one = map-slice_get (sub_of told) (subs_of told before c) q call
-    (subst (λ (calls : List Submission). slice_get calls q ≡ Some call) (calls_are told before h c shape) at) in
-    (one.0, slice_get_front (subs_of told before c) (calls_by told c) q one.0 (good.calls c) one.1, one.2)
+sub_call told before h c q {call} good shape at =
+    let one = map-slice_get (sub_of told) (subs_of told before c) q
+    (subst (λ calls. slice_get calls q ≡ Some call) (calls_are told before h c shape) at) in
+    (one.0, slice_get_front (subs_of told before c) (calls_by told c) q (good.calls c) one.1, one.2)
 
 module _ (told : Told) (fits : Premises told) (turn : RunsInTurn told) (before : List Happening) (n : ℕ) (good : Good told before)
     (next : IsNext told before (Ran n)) where
@@ -110,38 +104,28 @@ module _ (told : Told) (fits : Premises told) (turn : RunsInTurn told) (before :
   -- an earlier call of the caller to the actor ran
   earlier_call_ran : (m : ℕ) → m < n → SameWay told m n → Has before (Ran m)
   earlier_call_ran m less way =
-      let p = place.0 in
-      let run = place.1 in
-      let is = place.2 in
-      let there = (turn p run is.at).in_turn m (subst (λ (k : ℕ). m < k) (sym is.call) less) (subst (λ (k : ℕ). SameWay told m k) (sym is.call) way) in
+      let p = place.0 in let run = place.1 in let is = place.2 in
+      let there = (turn p run is.at).in_turn m (subst (λ k. m < k) (sym is.call) less) (subst (λ k. SameWay told m k) (sym is.call) way) in
       let early = ran_earlier told p m there in
-      let one : (call_of told m).actor ≡ early.1.actor = ap (λ (k : ℕ). (call_of told k).actor) (sym early.3.call) ∙ (turn early.0 early.1 early.3.at).here in
-      let two : (call_of told n).actor ≡ run.actor = ap (λ (k : ℕ). (call_of told k).actor) (sym is.call) ∙ (turn p run is.at).here in
-      let has = earlier_ran told before early.0 p early.1 run fits good.closed early.3.at is.at early.2 (sym one ∙ way.1 ∙ two)
-      (λ cause e. next.causes cause (subst (λ (k : ℕ). IsCause told cause (Ran k)) is.call e)) in
-      subst (λ (k : ℕ). Has before (Ran k)) early.3.call has
+      let one : (call_of told m).actor ≡ early.1.actor = ap (λ k. (call_of told k).actor) (sym early.3.call) ∙ (turn early.0 early.1 early.3.at).here in
+      let two : (call_of told n).actor ≡ run.actor = ap (λ k. (call_of told k).actor) (sym is.call) ∙ (turn p run is.at).here in
+      let has = earlier_ran before p fits good.closed early.3.at is.at early.2 (sym one ∙ way.1 ∙ two)
+      (λ cause e. next.causes cause (subst (λ k. IsCause told cause (Ran k)) is.call e)) in
+      subst (λ k. Has before (Ran k)) early.3.call has
 
   pub number_is : (h : History) → Shape told before h → Has before (Submitted n) → ran_count c a h ≡ number_of a (future_of told n) (calls_of c h)
   number_is h shape has =
-      let k = future_of told n in
-      let calls = calls_of c h in
-      let number = number_of a k calls in
-      let lt = good.happened (Submitted n) has in
-      let stands = call_stands told before h n good shape has in
+      let k = future_of told n in let calls = calls_of c h in let number = number_of a k calls in let lt = good.happened (Submitted n) has in
+      let stands = call_stands h n good shape has in
       let at : slice_get (futures_to a calls) number ≡ Some k =
       slice_get-map (λ (call : ℕ × Submission). call.0) (calls_to a calls) number
-      ∙ ap (option_map (λ (call : ℕ × Submission). call.0)) (calls_to-number a calls k (sub_of told n) stands (eq-eqb a a refl)) in
+      ∙ ap (option_map (λ (call : ℕ × Submission). call.0)) (calls_to-number a calls k stands (eq-eqb a a refl)) in
       sym (length-map (items_of c (runs_of a h)) (λ (i : RunItem). i.future))
-      ∙ front_ends (futures_ran c a h) (futures_to a calls) number k (futures_differ a calls) (ran_front told before h c a shape) at
-      (λ h_ran. next.fresh (has_ran told before h n good shape lt h_ran)) (λ j y less at_y.
-      let low = lower a k j y calls less at_y in
-      let m = sub_call told before h c y low.call good shape low.at in
-      let earlier = call_before told n y m.0 lt low.less m.1 in
-      let actor : (call_of told m.0).actor ≡ a = ap (λ (s : Submission). s.actor) m.2 ∙ low.actor in
-      let ran = earlier_call_ran m.0 earlier.0 (earlier.1, actor) in
-      let m_lt = good.happened (Submitted m.0) (ran_submitted told before m.0 good ran) in
-      let future : future_of told m.0 ≡ y = calls_differ told c (future_of told m.0) y m.0
-      (subst (λ (d : ℕ). slice_get (calls_by told d) (future_of told m.0) ≡ Some m.0) earlier.1 (call_at told m.0 m_lt)) m.1 in
-      subst (λ (q : ℕ). Has (futures_ran c a h) q) future
-      (subst (λ (b : ℕ). Has (futures_ran c b h) (future_of told m.0)) actor
-      (subst (λ (d : ℕ). Has (futures_ran d (call_of told m.0).actor h) (future_of told m.0)) earlier.1 (ran_has told before h m.0 shape ran))))
+      ∙ front_ends (futures_ran c a h) (futures_to a calls) number k (futures_differ a calls) (ran_front h c a shape) at
+      (λ h_ran. next.fresh (has_ran told before h n good shape lt h_ran)) (λ j y less at_y. let low = lower a k j y calls less at_y in let m =
+      sub_call told before h c y good shape low.at in let earlier = call_before told n y m.0 lt low.less m.1 in let actor : (call_of told m.0).actor ≡ a =
+      ap (λ (s : Submission). s.actor) m.2 ∙ low.actor in let ran = earlier_call_ran m.0 earlier.0 (earlier.1, actor) in let m_lt =
+      good.happened (Submitted m.0) (ran_submitted m.0 good ran) in let future : future_of told m.0 ≡ y = calls_differ told c (future_of told m.0) y m.0
+      (subst (λ d. slice_get (calls_by told d) (future_of told m.0) ≡ Some m.0) earlier.1 (call_at told m.0 m_lt)) m.1 in
+      subst (λ q. Has (futures_ran c a h) q) future (subst (λ b. Has (futures_ran c b h) (future_of told m.0)) actor
+      (subst (λ d. Has (futures_ran d (call_of told m.0).actor h) (future_of told m.0)) earlier.1 (ran_has told before h m.0 shape ran))))

@@ -15,7 +15,7 @@ once_of : {A : Type 0} (y : A) (xs : List A) → (Has xs y → ⊥) → Once xs 
 once_of y xs fresh rest zero zero x at there = refl
 once_of y xs fresh rest zero (suc j) x at there = absurd (fresh (j, there ∙ sym at))
 once_of y xs fresh rest (suc i) zero x at there = absurd (fresh (i, at ∙ sym there))
-once_of y xs fresh rest (suc i) (suc j) x at there = ap (λ (k : ℕ). suc k) (rest i j x at there)
+once_of y xs fresh rest (suc i) (suc j) x at there = ap (λ k. suc k) (rest i j x at there)
 
 once_head : {A : Type 0} (y : A) (xs : List A) → Once (y ∷ xs) → Has xs y → ⊥
 once_head y xs once has = let e : 0 ≡ suc has.0 = once 0 (suc has.0) y refl has.1 in omega arith
@@ -25,21 +25,19 @@ once_filter p [] once = once
 once_filter {A = A} p (y ∷ xs) once = go (p y) (once_filter p xs (once_tail y xs once))
   where
     go : (b : Bool) → Once (filter p xs) → Once (cond b (y ∷ filter p xs) (filter p xs))
-    go true rest = once_of y (filter p xs) (λ has. once_head y xs once (filter_has p xs y has).0) rest
+    go true rest = once_of y (filter p xs) (λ has. once_head y xs once (filter_has p xs has).0) rest
     go false rest = rest
 
 pub once_map : {A B : Type 0} (f : A → B) (xs : List A) → ((x y : A) → f x ≡ f y → x ≡ y) → Once xs → Once (map f xs)
 once_map f xs apart once i j y at there =
-    let one = map-slice_get f xs i y at in
-    let two = map-slice_get f xs j y there in
-    let same = apart two.0 one.0 (two.2 ∙ sym one.2) in
+    let one = map-slice_get f xs i at in let two = map-slice_get f xs j there in let same = apart two.0 one.0 (two.2 ∙ sym one.2) in
     once i j one.0 one.1 (two.1 ∙ ap Some same)
 
 -- ---- two lists, one after the other
 
-pub has_later : {A : Type 0} (xs ys : List A) (y : A) → Has ys y → Has (xs ++ ys) y
-has_later [] ys y has = has
-has_later (x ∷ xs) ys y has = let rest = has_later xs ys y has in (suc rest.0, rest.1)
+pub has_later : {A : Type 0} (xs ys : List A) {y : A} → Has ys y → Has (xs ++ ys) y
+has_later [] ys has = has
+has_later (x ∷ xs) ys {y} has = let rest = has_later xs ys has in (suc rest.0, rest.1)
 
 pub has_either : {A : Type 0} (xs ys : List A) (y : A) → Has (xs ++ ys) y → (Has xs y) ⊎ (Has ys y)
 has_either {A = A} xs ys y has = go xs has.0 has.1
@@ -67,8 +65,8 @@ pub get_either : {A : Type 0} (xs ys : List A) (i : ℕ) (x : A) → slice_get (
 get_either [] ys i x at = inr (record { place = i; at = at; before = refl })
 get_either (y ∷ xs) ys zero x at = inl (at, refl)
 get_either (y ∷ xs) ys (suc i) x at = elim (get_either xs ys i x at) [
-  | inl h ↦ inl (h.0, ap (λ (l : List _). y ∷ l) h.1)
-  | inr h ↦ inr (record { place = h.place; at = h.at; before = ap (λ (l : List _). y ∷ l) h.before })
+  | inl h ↦ inl (h.0, ap (λ l. y ∷ l) h.1)
+  | inr h ↦ inr (record { place = h.place; at = h.at; before = ap (λ l. y ∷ l) h.before })
 ]
 
 has_taken : {A : Type 0} (i : ℕ) (xs : List A) (x : A) → Has (take i xs) x → (k : ℕ) × (k < i) × (slice_get xs k ≡ Some x)
@@ -82,8 +80,8 @@ has_taken {A = A} i xs x has = go i xs has.0 has.1
 -- ---- the order
 
 -- from a test that is both false and true, anything follows
-pub not_both : {A : Type 0} (b : Bool) → b ≡ false → b ≡ true → A
-not_both more f t = absurd (cc)
+pub not_both : {A : Type 0} {b : Bool} → b ≡ false → b ≡ true → A
+not_both f t = absurd (cc)
 
 module _ {S X : Type 0} (has : S → X → Bool) (every : List X) where
   abbrev pub is_new : S → S → X → Bool
@@ -93,6 +91,7 @@ module _ {S X : Type 0} (has : S → X → Bool) (every : List X) where
   order_from s [] = []
   order_from s (t ∷ ts) = filter (is_new s t) every ++ order_from t ts
 
+  -- the last of an item and those behind it
   abbrev pub last_of : S → List S → S
   last_of s [] = s
   last_of s (t ∷ ts) = last_of t ts
@@ -114,21 +113,21 @@ module _ {S X : Type 0} (has : S → X → Bool) (every : List X) where
   new_is s t x new = let parts = and_parts (not (has s x)) (has t x) new in (not-true (has s x) parts.0, parts.1)
 
   pub order_has : (s : S) (ts : List S) (x : X) → Has every x → has s x ≡ false → has (last_of s ts) x ≡ true → Has (order_from s ts) x
-  order_has s [] x there f e = not_both (has s x) f e
-  order_has s (t ∷ ts) x there f e = go (has t x) refl (λ (no_yet : has t x ≡ false). order_has t ts x there no_yet e)
+  order_has s [] x there f e = not_both f e
+  order_has s (t ∷ ts) x there f e = go (has t x) refl (λ no_yet. order_has t ts x there no_yet e)
     where
       go : (b : Bool) → has t x ≡ b → (has t x ≡ false → Has (order_from t ts) x) → Has (filter (is_new s t) every ++ order_from t ts) x
-      go true now rest = has_more (filter (is_new s t) every) (order_from t ts) x (has_filter (is_new s t) every x there (new_of s t x f now))
-      go false now rest = has_later (filter (is_new s t) every) (order_from t ts) x (rest now)
+      go true now rest = has_more (filter (is_new s t) every) (order_from t ts) (has_filter (is_new s t) every there (new_of s t x f now))
+      go false now rest = has_later (filter (is_new s t) every) (order_from t ts) (rest now)
 
   stays_false : (s t : S) (x : X) → ((x : X) → has s x ≡ true → has t x ≡ true) → has t x ≡ false → has s x ≡ false
-  stays_false s t x lasts f = false_from_ne_true (has s x) (λ e. not_both (has t x) f (lasts x e))
+  stays_false s t x lasts f = false_from_ne_true (has s x) (λ e. not_both f (lasts x e))
 
   -- all in it is among these, and comes true later
   pub order_only : (s : S) (ts : List S) (x : X) → Lasts s ts → Has (order_from s ts) x → Has every x × (has s x ≡ false)
   order_only s [] x lasts there = absurd (let e = there.1 in cc)
   order_only s (t ∷ ts) x lasts there = elim (has_either (filter (is_new s t) every) (order_from t ts) x there) [
-    | inl h ↦ let r = filter_has (is_new s t) every x h in (r.0, (new_is s t x r.1).0)
+    | inl h ↦ let r = filter_has (is_new s t) every h in (r.0, (new_is s t x r.1).0)
     | inr h ↦ let r = order_only t ts x lasts.1 h in (r.0, stays_false s t x lasts.0 r.1)
   ]
 
@@ -136,29 +135,25 @@ module _ {S X : Type 0} (has : S → X → Bool) (every : List X) where
   order_once s [] once lasts = λ i j x at there. absurd (cc)
   order_once s (t ∷ ts) once lasts =
       once_append (filter (is_new s t) every) (order_from t ts) (once_filter (is_new s t) every once) (order_once t ts once lasts.1)
-      (λ x one two. not_both (has t x) (order_only t ts x lasts.1 two).1 (new_is s t x (filter_has (is_new s t) every x one).1).1)
+      (λ x one two. not_both (order_only t ts x lasts.1 two).1 (new_is s t x (filter_has (is_new s t) every one).1).1)
 
   pub order_fresh : (s : S) (ts : List S) (i : ℕ) (x : X) → Once every → Lasts s ts → slice_get (order_from s ts) i ≡ Some x →
       Has (take i (order_from s ts)) x → ⊥
   order_fresh s ts i x once lasts at has_it =
       let early = has_taken i (order_from s ts) x has_it in
       let same : early.0 ≡ i = order_once s ts once lasts early.0 i x early.2 at in
-      let less = early.1 in
-      omega arith
+      let less = early.1 in omega arith
 
   pub order_after : (s : S) (ts : List S) (i : ℕ) (x y : X) → Lasts s ts → slice_get (order_from s ts) i ≡ Some x → Before y x s ts →
       Has every y → has s y ≡ false → Has (take i (order_from s ts)) y
   order_after s [] i x y lasts at before there f = absurd (cc)
   order_after s (t ∷ ts) i x y lasts at before there f = elim (get_either (filter (is_new s t) every) (order_from t ts) i x at) [
     | inl h ↦
-        let new = new_is s t x (filter_has (is_new s t) every x (i, h.0)).1 in
-        not_both (has s y) f (before.0 new.0 new.1)
-    | inr h ↦ subst (λ (l : List X). Has l y) (sym h.before)
-        (go h.place (has t y) refl (λ (no_yet : has t y ≡ false). order_after t ts h.place x y lasts.1 h.at before.1 there no_yet))
+        let new = new_is s t x (filter_has (is_new s t) every (i, h.0)).1 in not_both f (before.0 new.0 new.1)
+    | inr h ↦ subst (λ l. Has l y) (sym h.before) (go h.place (has t y) refl (λ no_yet. order_after t ts h.place x y lasts.1 h.at before.1 there no_yet))
   ]
     where
       go : (j : ℕ) → (b : Bool) → has t y ≡ b → (has t y ≡ false → Has (take j (order_from t ts)) y) →
           Has (filter (is_new s t) every ++ take j (order_from t ts)) y
-      go j true e rest =
-          has_more (filter (is_new s t) every) (take j (order_from t ts)) y (has_filter (is_new s t) every y there (new_of s t y f e))
-      go j false e rest = has_later (filter (is_new s t) every) (take j (order_from t ts)) y (rest e)
+      go j true e rest = has_more (filter (is_new s t) every) (take j (order_from t ts)) (has_filter (is_new s t) every there (new_of s t y f e))
+      go j false e rest = has_later (filter (is_new s t) every) (take j (order_from t ts)) (rest e)

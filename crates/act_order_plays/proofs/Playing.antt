@@ -27,13 +27,14 @@ step told order before (Answered n) h fits by good next stands =
 
 take_push : {A : Type 0} (i : ℕ) (xs : List A) (x : A) → slice_get xs i ≡ Some x → take (suc i) xs ≡ take i xs ++ x ∷ []
 take_push i [] x e = absurd (cc)
-take_push zero (y ∷ ys) x e = let same : y ≡ x = cc in ap (λ (z : _). z ∷ []) same
-take_push (suc i) (y ∷ ys) x e = ap (λ (l : List _). y ∷ l) (take_push i ys x e)
+take_push zero (y ∷ ys) x e = let same : y ≡ x = cc in ap (λ z. z ∷ []) same
+take_push (suc i) (y ∷ ys) x e = ap (λ l. y ∷ l) (take_push i ys x e)
 
-next_is : (told : Told) (order before : List Happening) (x : Happening) → IsOrder told order → Has order x → IsAfter told before x → IsNext told before x
-next_is told order before x causes has after = record {
-  happened = causes.only x (contains_of order x has);
-  fresh = λ h. after.once (contains_of before x h);
+next_is : (told : Told) (order : List Happening) {before : List Happening} (x : Happening) → IsOrder told order → Has order x → IsAfter told before x →
+    IsNext told before x
+next_is told order {before} x causes has after = record {
+  happened = causes.only x (contains_of order has);
+  fresh = λ h. after.once (contains_of before h);
   causes = λ cause is. has_of before cause (after.causes cause is);
 }
 
@@ -55,29 +56,27 @@ opened told = record {
 
 -- ---- what callers wait for
 
-pub waited_more : (told : Told) (events more : List Event) (n m : ℕ) → Waited told events n m → Waited told (events ++ more) n m
-waited_more told events more n m w = record {
+pub waited_more : {told : Told} {events : List Event} (more : List Event) (n m : ℕ) → Waited told events n m → Waited told (events ++ more) n m
+waited_more more n m w = record {
   first = w.first;
   later = w.later ++ more;
-  joined = sym (append_assoc w.first w.later more) ∙ ap (λ (all : List Event). all ++ more) w.joined;
+  joined = sym (append_assoc w.first w.later more) ∙ ap (λ all. all ++ more) w.joined;
   kept = w.kept;
   not_yet = w.not_yet;
   is_told = w.is_told;
 }
 
 -- the answers for which a caller waits are kept before it submits the call
-waited_now : (told : Told) (order before : List Happening) (n m : ℕ) (events more : List Event) → Premises told → Good told before →
-    IsNext told before (Submitted n) → Stands told before (history (casts_of told) events) → Contains (call_of told n).waits m →
-    Waited told (events ++ more) n m
+waited_now : (told : Told) (order before : List Happening) (n m : ℕ) (events more : List Event) → Premises told → Good told before → IsNext told before
+    (Submitted n) → Stands told before (history (casts_of told) events) → Contains (call_of told n).waits m → Waited told (events ++ more) n m
 waited_now told order before n m events more fits good next stands waits =
-    let has = next.causes (Answered m) waits in
-    let h = history (casts_of told) events in
+    let has = next.causes (Answered m) waits in let h = history (casts_of told) events in
     record {
       first = events;
       later = more;
       joined = refl;
-      kept = kept_some (call_of told m).outcome (kept_for told m h) (good.happened (Answered m) has).1 (answer_kept told before h m good stands.keeps has);
-      not_yet = let count = calls_count told before n h fits good next stands.shape in omega arith;
+      kept = kept_some (call_of told m).outcome (kept_for told m h) (good.happened (Answered m) has).1 (answer_kept h m good stands.keeps has);
+      not_yet = let count = calls_count told n h fits good next stands.shape in omega arith;
       is_told = (good.happened (Answered m) has).1;
     }
 
@@ -89,16 +88,16 @@ pub record Reached (told : Told) (before : List Happening) : Type 0 where
   pub stands : Stands told before (history (casts_of told) events)
   pub waits : (n m : ℕ) → Has before (Submitted n) → Contains (call_of told n).waits m → Waited told events n m
 
-reach_more : (told : Told) (order before : List Happening) (x : Happening) → Premises told → IsInOrderBy told order → Reached told before →
+reach_more : (told : Told) (order : List Happening) {before : List Happening} (x : Happening) → Premises told → IsInOrderBy told order → Reached told before →
     IsNext told before x → Reached told (before ++ x ∷ [])
-reach_more told order before x fits by rest next =
+reach_more told order {before} x fits by rest next =
     let more = step told order before x (history (casts_of told) rest.events) fits by rest.good next rest.stands in
     record {
-      good = good_more told before x fits by.runs rest.good next;
+      good = good_more fits by.runs rest.good next;
       events = rest.events ++ more.0;
       stands = subst (Stands told (before ++ x ∷ [])) (sym (after_all-append (opening (casts_of told)) rest.events more.0)) more.1;
-      waits = λ n m has waits. elim (has_pushed before x (Submitted n) has) [
-        | inl old ↦ waited_more told rest.events more.0 n m (rest.waits n m old waits)
+      waits = λ n m has waits. elim (has_pushed before x has) [
+        | inl old ↦ waited_more more.0 n m (rest.waits n m old waits)
         | inr e ↦ waited_now told order before n m rest.events more.0 fits rest.good (subst (IsNext told before) e next) rest.stands waits
       ];
     }
@@ -106,10 +105,9 @@ reach_more told order before x fits by rest next =
 reach : (told : Told) (order : List Happening) → Premises told → IsInOrderBy told order → (i : ℕ) → i ≤ length order → Reached told (take i order)
 reach told order fits by zero le = record { good = good_none told; events = []; stands = opened told; waits = λ n m has. absurd (let e = has.1 in cc) }
 reach told order fits by (suc i) le =
-    let rest = reach told order fits by i (omega arith) in
-    let x = element order i le in
-    let next = next_is told order (take i order) x.0 by.causes (i, x.1) (by.causes.after i x.0 x.1) in
-    subst (Reached told) (sym (take_push i order x.0 x.1)) (reach_more told order (take i order) x.0 fits by rest next)
+    let rest = reach told order fits by i (omega arith) in let x = element order i le in
+    let next = next_is told order x.0 by.causes (i, x.1) (by.causes.after i x.0 x.1) in
+    subst (Reached told) (sym (take_push i order x.0 x.1)) (reach_more told order x.0 fits by rest next)
 
 pub all_reached : (told : Told) (order : List Happening) → Premises told → IsInOrderBy told order → Reached told order
 all_reached told order fits by = subst (Reached told) (take-length order) (reach told order fits by (length order) (omega arith))

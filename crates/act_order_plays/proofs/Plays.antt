@@ -29,21 +29,19 @@ taken_told : (told : Told) (order : List Happening) → IsInOrderBy told order �
 taken_told told order by n m ran takes =
     let at = has_of order (Ran n) (by.causes.all (Ran n) ran) in
     let early = has_of (take at.0 order) (Answered m) ((by.causes.after at.0 (Ran n) at.1).causes (Answered m) takes) in
-    (by.causes.only (Answered m) (contains_of order (Answered m) (early.0, (get_taken at.0 order early.0 (Answered m) early.1).1))).1
+    (by.causes.only (Answered m) (contains_of order (early.0, (get_taken at.0 order early.0 early.1).1))).1
 
 -- a whole history within the limits that is in order has events that are a play of it
 pub play_of : (told : Told) (order : List Happening) → IsWhole told → Fits told → IsInOrderBy told order → (events : List Event) × IsPlayOf told events
 play_of told order whole fits by =
-    let given = premises told order whole fits by in
-    let all = all_reached told order given by in
-    let h = history (casts_of told) all.events in
+    let given = premises told whole fits by in let all = all_reached told order given by in let h = history (casts_of told) all.events in
     let ends : Leads (LeavesTold told) h = leads_then (Stage told (length told.actors)) (LeavesTold told) h
     (stages told given (length told.actors) h (omega arith) (first_stage told order h by all.good all.stands))
     (λ g stage. leads_now (LeavesTold told) g (all_end told g stage)) in (
       all.events ++ ends.0,
       record {
         leaves = subst (LeavesTold told) (sym (after_all-append (opening (casts_of told)) all.events ends.0)) ends.1;
-        waits = λ n m lt waits. waited_more told all.events ends.0 n m (all.waits n m (has_of order (Submitted n) (by.causes.all (Submitted n) lt)) waits);
+        waits = λ n m lt waits. waited_more ends.0 n m (all.waits n m (has_of order (Submitted n) (by.causes.all (Submitted n) lt)) waits);
         last_waits = λ m waits. (by.waits m waits).1;
         taken = λ n m ran takes. taken_told told order by n m ran takes;
       },

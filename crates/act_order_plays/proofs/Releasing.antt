@@ -1,10 +1,9 @@
 -- An actor that retires: each of its callers releases its handle, and the note of it is brought.
-use Rattle.act_order_plays.proofs.Common.{◌≡◌, ℕ, zero, suc, ◌<◌, ◌==◌, ◌&&◌, ◌⊎◌, inl, inr, Bool, true, false, cond, List, [], ◌∷◌, ◌++◌, length, Option, Some}
-use Rattle.act_order_plays.proofs.Common.{None, slice_get, refl, sym, ap, subst, ◌∙◌, arith, is_some, list_all, eq-eqb, ne_eqb, and_from, eqb_tells}
-use Rattle.act_order_plays.proofs.Common.{list_any-append, Release, Deliver, Retire, Letter, calls_to, copies_held, ActorSpec, History, contains, callers_in}
-use Rattle.act_order_plays.proofs.Common.{cast_of, is_caller, calls_of, count_pairs, copies_of, ran_count, is_letter, has_letter, is_done, is_drained, is_ended}
-use Rattle.act_order_plays.proofs.Common.{refusal_of, add_event, and_also, slice_get_last, contains_more, times-push, Dead, Retired, Told, actor_of}
-use Rattle.act_order_plays.proofs.Common.{list_all-weaker, NoteLetter}
+use Rattle.act_order_plays.proofs.Common.{◌≡◌, ℕ, zero, suc, ◌<◌, ◌==◌, ◌&&◌, ◌⊎◌, inl, inr, Bool, true, false, cond, List, [], ◌∷◌, ◌++◌, length, Some, None}
+use Rattle.act_order_plays.proofs.Common.{slice_get, refl, sym, ap, subst, ◌∙◌, arith, is_some, list_all, eq-eqb, ne_eqb, and_from, eqb_tells, list_any-append}
+use Rattle.act_order_plays.proofs.Common.{Release, Deliver, Retire, Letter, calls_to, copies_held, History, contains, callers_in, cast_of, is_caller, calls_of}
+use Rattle.act_order_plays.proofs.Common.{count_pairs, copies_of, ran_count, is_letter, has_letter, is_done, is_drained, is_ended, refusal_of, add_event}
+use Rattle.act_order_plays.proofs.Common.{and_also, slice_get_last, contains_more, times-push, Dead, Retired, Told, actor_of, list_all-weaker, NoteLetter}
 use Rattle.act_order_plays.proofs.Lists.{Has, has_last}
 use Rattle.act_order_plays.proofs.Casts.{list_any_has, contains_has, cast_of_is, names_is, is_caller_is}
 use Rattle.act_order_plays.proofs.Stands.{Leads, leads_now, leads_by, leads_then}
@@ -26,7 +25,7 @@ note_fine : (h : History) (c a n i : ℕ) → slice_get h.mail i ≡ Some (NoteL
 note_fine h c a n i at lives = rw (at, lives) refl
 
 note_has : (c a n : ℕ) (letters : List Letter) → has_letter (NoteLetter c a n) (letters ++ NoteLetter c a n ∷ []) ≡ true
-note_has c a n letters = list_any_has (is_letter (NoteLetter c a n)) (letters ++ NoteLetter c a n ∷ []) (NoteLetter c a n) (has_last letters (NoteLetter c a n))
+note_has c a n letters = list_any_has (is_letter (NoteLetter c a n)) (letters ++ NoteLetter c a n ∷ []) (has_last letters (NoteLetter c a n))
     (and_from ((c == c) && (a == a)) (n == n) (and_from (c == c) (a == a) (eq-eqb c c refl) (eq-eqb a a refl)) (eq-eqb n n refl))
 
 letter_more : (letter other : Letter) (letters : List Letter) → has_letter letter letters ≡ true → has_letter letter (letters ++ other ∷ []) ≡ true
@@ -44,29 +43,29 @@ module _ (told : Told) (j : ℕ) (lt : j < length told.actors) (retires : end_of
     done : is_done c j g ≡ true
 
   lives : (h : History) → Left told h → Ends told j h → is_ended j h ≡ false
-  lives h left ends = on told j h left ends (not_killed told j j h ends (λ e. let bad : Retired ≡ Dead = sym retires ∙ e in cc))
+  lives h left ends = on told j h left ends (not_killed j h ends (λ e. let bad : Retired ≡ Dead = sym retires ∙ e in cc))
 
   release : (h : History) (c : ℕ) → Freeing told j h → Has (actor_of told j).callers c → count_pairs c j h.released ≡ 0 → Leads (Freed c h) h
   release h c f role none =
       let named = names_is told h c j f.left.casts lt role in
       let copy : copies_of c j h ≡ Some 1 = rw (named, f.left.copied, none) refl in
-      let fine = release_fine h c j (is_caller_is told h c j f.left.casts lt role) copy in
+      let fine = release_fine h c j (is_caller_is told h f.left.casts lt role) copy in
       let h1 = add_event h (Release c j) in
       let note : Letter = NoteLetter c j (length (calls_to j (calls_of c h))) in
-      let mail1 : h1.mail ≡ h.mail ++ note ∷ [] = ap (λ (o : Option ℕ). and_also h.mail (cond (copies_held o == 1) (Some note) None)) copy in
-      let left1 : Left told h1 = left_stays told h h1 (record { casts = refl; submitted = refl; ran = refl; collected = refl }) refl f.left in
+      let mail1 : h1.mail ≡ h.mail ++ note ∷ [] = ap (λ o. and_also h.mail (cond (copies_held o == 1) (Some note) None)) copy in
+      let left1 : Left told h1 = left_stays h h1 (record { casts = refl; submitted = refl; ran = refl; collected = refl }) refl f.left in
       let at1 : slice_get h1.mail (length h.mail) ≡ Some note =
-      ap (λ (letters : List Letter). slice_get letters (length h.mail)) mail1 ∙ slice_get_last h.mail note in
+      ap (λ letters. slice_get letters (length h.mail)) mail1 ∙ slice_get_last h.mail note in
       let ends1 : Ends told j h1 = record { killed = f.ends.killed; retired = f.ends.retired; dead = f.ends.dead; gone = f.ends.gone } in
       let fine1 = note_fine h1 c j (length (calls_to j (calls_of c h))) (length h.mail) at1 (lives h1 left1 ends1) in
       let h2 = add_event h1 (Deliver (length h.mail)) in
-      let arrived : h2.arrived ≡ h.arrived ++ note ∷ [] = ap (λ (o : Option Letter). and_also h.arrived o) at1 in
-      let left2 : Left told h2 = left_stays told h1 h2 (record { casts = refl; submitted = refl; ran = refl; collected = refl }) refl left1 in
-      let done : is_done c j h2 ≡ true = subst (λ (letters : List Letter). has_letter (NoteLetter c j (ran_count c j h2)) letters ≡ true) (sym arrived)
-      (subst (λ (n : ℕ). has_letter (NoteLetter c j n) (h.arrived ++ note ∷ []) ≡ true) (sym (f.left.ran_all c j retires))
+      let arrived : h2.arrived ≡ h.arrived ++ note ∷ [] = ap (λ o. and_also h.arrived o) at1 in
+      let left2 : Left told h2 = left_stays h1 h2 (record { casts = refl; submitted = refl; ran = refl; collected = refl }) refl left1 in
+      let done : is_done c j h2 ≡ true = subst (λ letters. has_letter (NoteLetter c j (ran_count c j h2)) letters ≡ true) (sym arrived)
+      (subst (λ n. has_letter (NoteLetter c j n) (h.arrived ++ note ∷ []) ≡ true) (sym (f.left.ran_all c j retires))
       (note_has c j (length (calls_to j (calls_of c h))) h.arrived)) in
       let more : (d : ℕ) → is_done d j h ≡ true → is_done d j h2 ≡ true =
-      λ (d : ℕ) (is : is_done d j h ≡ true). subst (λ (letters : List Letter). has_letter (NoteLetter d j (ran_count d j h)) letters ≡ true) (sym arrived)
+      λ d is. subst (λ letters. has_letter (NoteLetter d j (ran_count d j h)) letters ≡ true) (sym arrived)
       (letter_more (NoteLetter d j (ran_count d j h)) note h.arrived is) in
       leads_by (Freed c h) h (Release c j) fine (leads_by (Freed c h) h1 (Deliver (length h.mail)) fine1 (leads_now (Freed c h) h2 (record {
         freeing = record {
@@ -75,7 +74,7 @@ module _ (told : Told) (j : ℕ) (lt : j < length told.actors) (retires : end_of
           held = λ d a le. times-push d a c j h.released
               ∙ (let other : (j == a) ≡ false = ne_eqb j a (λ e. omega arith) in let old = f.held d a le in rw (other, other_actor (c == d), old) refl);
           mine = λ d. elim (eqb_tells c d) [
-            | inl t ↦ inl (subst (λ (e : ℕ). is_done e j h2 ≡ true) t.1 done)
+            | inl t ↦ inl (subst (λ e. is_done e j h2 ≡ true) t.1 done)
             | inr u ↦ elim (f.mine d) [ inl old ↦ inl (more d old) | inr zero_released ↦ inr (times-push d j c j h.released ∙ rw (u.0, zero_released) refl) ]
           ];
         };
@@ -105,28 +104,25 @@ module _ (told : Told) (j : ℕ) (lt : j < length told.actors) (retires : end_of
 
   retire_fine : (h : History) → AllFreed (actor_of told j).callers h → refusal_of h (Retire j) ≡ None
   retire_fine h all =
-      let cast = cast_of_is told h j all.freeing.left.casts lt in
-      let some : is_some (cast_of j h) ≡ true = ap is_some cast in
+      let cast = cast_of_is told h all.freeing.left.casts lt in let some : is_some (cast_of j h) ≡ true = ap is_some cast in
       let live = lives h all.freeing.left all.freeing.ends in
-      let drained : is_drained j h ≡ true = subst (λ (o : Option ActorSpec). list_all (λ c. is_done c j h) (callers_in o) ≡ true) (sym cast) all.done in
+      let drained : is_drained j h ≡ true = subst (λ o. list_all (λ c. is_done c j h) (callers_in o) ≡ true) (sym cast) all.done in
       rw (some, live, drained) refl
 
   retire_now : (h : History) → AllFreed (actor_of told j).callers h → Leads (Stage told (suc j)) h
   retire_now h all =
-      let fine = retire_fine h all in
-      let ends = all.freeing.ends in
-      let g = add_event h (Retire j) in
+      let fine = retire_fine h all in let ends = all.freeing.ends in let g = add_event h (Retire j) in
       leads_by (Stage told (suc j)) h (Retire j) fine (leads_now (Stage told (suc j)) g (record {
-        left = left_stays told h g (record { casts = refl; submitted = refl; ran = refl; collected = refl }) refl all.freeing.left;
+        left = left_stays h g (record { casts = refl; submitted = refl; ran = refl; collected = refl }) refl all.freeing.left;
         ends = record {
           killed = ends.killed;
           retired = λ a is. elim (killed_or h.retired j a is) [
             | inl old ↦ let r = ends.retired a old in (r.0, omega (arith, r.1))
-            | inr e ↦ (subst (λ (b : ℕ). end_of told b ≡ Retired) e retires, omega arith)
+            | inr e ↦ (subst (λ b. end_of told b ≡ Retired) e retires, omega arith)
           ];
           dead = up_to (λ a. end_of told a ≡ Dead → contains a h.killed ≡ true) j ends.dead (λ e. let bad : Retired ≡ Dead = sym retires ∙ e in absurd (cc));
           gone = up_to (λ a. end_of told a ≡ Retired → contains a g.retired ≡ true) j (λ a less e. contains_more a h.retired (j ∷ []) (ends.gone a less e))
-              (λ e. contains_has g.retired j (has_last h.retired j));
+              (λ e. contains_has g.retired (has_last h.retired j));
         };
         held = all.freeing.held;
       }))

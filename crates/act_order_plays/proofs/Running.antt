@@ -1,11 +1,11 @@
 -- A run: the call is sent, brought to its actor and run, and its answer is collected where it is taken.
-use Rattle.act_order_plays.proofs.Common.{◌≡◌, ℕ, ◌<◌, ◌==◌, ◌&&◌, ◌⊎◌, inl, inr, Bool, true, false, cond, List, [], ◌∷◌, ◌++◌, length, map, Option, Some, None}
-use Rattle.act_order_plays.proofs.Common.{slice_get, refl, sym, ap, subst, ◌∙◌, option_map, eq-eqb, and_from, append-nil, Letter, RunItem, Submission, calls_to}
-use Rattle.act_order_plays.proofs.Common.{number_of, History, cast_of, names, is_caller, calls_of, runs_of, kept_of, ran_count, is_letter, has_letter, is_ended}
-use Rattle.act_order_plays.proofs.Common.{run_item, next_item, refusal_of, add_event, and_also, after_run, call_letter, slice_get_last, added_grows}
-use Rattle.act_order_plays.proofs.Common.{after_run_grows, calls_to-number, IsSound, sound_step, Happening, Outcome, Died, Open, Told, call_of, length-map}
-use Rattle.act_order_plays.proofs.Common.{actor_of, RunsInTurn, kept_for, future_of, item_key, run_key, Send, Deliver, RunNext, Collect, CallLetter, ReplyPost}
-use Rattle.act_order_plays.proofs.Common.{Submitted, Ran, HasBeenTold, collect_unrefused}
+use Rattle.act_order_plays.proofs.Common.{◌≡◌, ℕ, ◌<◌, ◌==◌, ◌&&◌, ◌⊎◌, inl, inr, true, false, cond, List, [], ◌∷◌, ◌++◌, length, map, Some, None, slice_get}
+use Rattle.act_order_plays.proofs.Common.{refl, sym, ap, subst, ◌∙◌, option_map, eq-eqb, and_from, append-nil, Letter, RunItem, Submission, calls_to, number_of}
+use Rattle.act_order_plays.proofs.Common.{History, cast_of, names, is_caller, calls_of, runs_of, kept_of, ran_count, is_letter, has_letter, is_ended, run_item}
+use Rattle.act_order_plays.proofs.Common.{next_item, refusal_of, add_event, and_also, after_run, call_letter, slice_get_last, added_grows, after_run_grows}
+use Rattle.act_order_plays.proofs.Common.{calls_to-number, IsSound, sound_step, Happening, Outcome, Died, Open, Told, call_of, length-map, actor_of, RunsInTurn}
+use Rattle.act_order_plays.proofs.Common.{kept_for, future_of, item_key, run_key, Send, Deliver, RunNext, Collect, CallLetter, ReplyPost, Submitted, Ran}
+use Rattle.act_order_plays.proofs.Common.{collect_unrefused}
 use Rattle.act_order_plays.proofs.Premises.{Premises}
 use Rattle.act_order_plays.proofs.Lists.{Has, has_more, has_last, has_pushed}
 use Rattle.act_order_plays.proofs.Fronts.{submits, rans, is_to, rans_of}
@@ -24,13 +24,12 @@ use Rattle.act_order_plays.proofs.Sending.{no_death, alive, sendable, args_good}
 
 -- a letter that was brought has arrived
 letter_has : (c a n : ℕ) (letters : List Letter) → has_letter (CallLetter c a n) (letters ++ CallLetter c a n ∷ []) ≡ true
-letter_has c a n letters = list_any_has (is_letter (CallLetter c a n)) (letters ++ CallLetter c a n ∷ []) (CallLetter c a n)
-    (has_last letters (CallLetter c a n)) (and_from ((c == c) && (a == a)) (n == n) (and_from (c == c) (a == a) (eq-eqb c c refl) (eq-eqb a a refl))
-    (eq-eqb n n refl))
+letter_has c a n letters = list_any_has (is_letter (CallLetter c a n)) (letters ++ CallLetter c a n ∷ []) (has_last letters (CallLetter c a n))
+    (and_from ((c == c) && (a == a)) (n == n) (and_from (c == c) (a == a) (eq-eqb c c refl) (eq-eqb a a refl)) (eq-eqb n n refl))
 
-item_is_next : (h : History) (c a number : ℕ) (call : ℕ × Submission) → ran_count c a h ≡ number → has_letter (CallLetter c a number) h.arrived ≡ true →
+item_is_next : (h : History) (c a : ℕ) {number : ℕ} {call : ℕ × Submission} → ran_count c a h ≡ number → has_letter (CallLetter c a number) h.arrived ≡ true →
     slice_get (calls_to a (calls_of c h)) number ≡ Some call → next_item a c h ≡ Some (run_item c number (kept_of c h) call)
-item_is_next h c a number call count has at = rw (count, has, at) refl
+item_is_next h c a count has at = rw (count, has, at) refl
 
 run_fine : (h : History) (c a : ℕ) → is_caller c h ≡ true → names c (cast_of a h) ≡ true → is_ended a h ≡ false → refusal_of h (RunNext a c) ≡ None
 run_fine h c a caller named lives = rw (caller, named, lives) refl
@@ -39,8 +38,7 @@ deliver_fine : (h : History) (c a n i : ℕ) → slice_get h.mail i ≡ Some (Ca
 deliver_fine h c a n i at lives = rw (at, lives) refl
 
 items_long : (told : Told) (items : List RunItem) (ns : List ℕ) → AreItems told items ns → length items ≡ length ns
-items_long told items ns are = sym (length-map items item_key) ∙ ap (λ (l : List _). length l) (item_keys told items ns are)
-    ∙ length-map ns (run_key told)
+items_long told items ns are = sym (length-map items item_key) ∙ ap (λ l. length l) (item_keys told items ns are) ∙ length-map ns (run_key told)
 
 -- whether an answer is taken
 taken_or_not : (o : Outcome) → (IsTaken o) ⊎ (IsTaken o → ⊥)
@@ -67,7 +65,7 @@ module _ (told : Told) (fits : Premises told) (turn : RunsInTurn told) (before :
   was_submitted = next.causes (Submitted n) refl
 
   good_later : Good told later
-  good_later = good_more told before (Ran n) fits turn good next
+  good_later = good_more fits turn good next
 
   -- ---- once it ran
 
@@ -76,12 +74,11 @@ module _ (told : Told) (fits : Premises told) (turn : RunsInTurn told) (before :
   place_is items are =
       let passes : is_to told a n ≡ true = eq-eqb a a refl in
       let more : rans_of told later a ≡ rans_of told before a ++ n ∷ [] =
-      rans_of_more told before (Ran n) a ∙ ap (λ (b : Bool). rans_of told before a ++ cond b (n ∷ []) []) passes in
-      let long = items_long told items (rans_of told before a) are in
-      rw (more, long) (slice_get_last (rans_of told before a) n)
+      rans_of_more told before (Ran n) a ∙ ap (λ b. rans_of told before a ++ cond b (n ∷ []) []) passes in
+      let long = items_long told items (rans_of told before a) are in rw (more, long) (slice_get_last (rans_of told before a) n)
 
   not_death : IsDeath told later a → ⊥
-  not_death death = elim (has_pushed before (Ran n) (HasBeenTold death.call) death.has) [
+  not_death death = elim (has_pushed before (Ran n) death.has) [
     | inl old ↦ no_death told fits turn before n good next role actor (record { call = death.call; has = old; died = death.died; actor = death.actor })
     | inr e ↦ absurd (cc)
   ]
@@ -90,27 +87,26 @@ module _ (told : Told) (fits : Premises told) (turn : RunsInTurn told) (before :
   collected : (h : History) (j place : ℕ) → Shape told later h → Keeps told before h → IsTaken (call_of told n).outcome →
       slice_get h.posts j ≡ Some (ReplyPost c a place) → slice_get (rans_of told later a) place ≡ Some n → Stands told later (add_event h (Collect j))
   collected h j place shape keeps taken at there =
-      let g = add_event h (Collect j) in
-      let post = ReplyPost c a place in
+      let g = add_event h (Collect j) in let post = ReplyPost c a place in
       let after : Shape told later g = shape_collect told later h j post shape at (n, there, taken) in
-      let has : Has later (Submitted n) = has_more before (Ran n ∷ []) (Submitted n) was_submitted in
+      let has : Has later (Submitted n) = has_more before (Ran n ∷ []) was_submitted in
       let reply = reply_answers told later g n place after actor there in
-      let first = collect_answers told later h j n post reply.0 good_later after has at reply.1 in
-      let mine : Suits (call_of told n).outcome (kept_for told n g) = elim (kept_gives told later g n first.0 good_later after has actor first.1) [
-        | inl r ↦ subst (λ (o : Option _). Suits (call_of told n).outcome o) (sym first.1) r.2
+      let first = collect_answers told later h j n post good_later after has at reply.1 in
+      let mine : Suits (call_of told n).outcome (kept_for told n g) = elim (kept_gives g n good_later after has actor first.1) [
+        | inl r ↦ subst (λ o. Suits (call_of told n).outcome o) (sym first.1) r.2
         | inr d ↦ absurd (not_death d.0)
       ] in
       record {
         shape = after;
-        keeps = keeps_more told before (Ran n) g (keeps_stays told before h g (added_grows h (Collect j)) shape.sound.posts keeps)
-            (λ m e t. let same : n ≡ m = cc in subst (λ (i : ℕ). Suits (call_of told i).outcome (kept_for told i g)) same mine) (λ m e. absurd (cc));
+        keeps = keeps_more (Ran n) (keeps_stays (added_grows h (Collect j)) shape.sound.posts keeps)
+            (λ m e t. let same : n ≡ m = cc in subst (λ i. Suits (call_of told i).outcome (kept_for told i g)) same mine) (λ m e. absurd (cc));
       }
 
   left_open : (h : History) → Shape told later h → Keeps told before h → (IsTaken (call_of told n).outcome → ⊥) → Stands told later h
   left_open h shape keeps open_call = record {
     shape = shape;
-    keeps = keeps_more told before (Ran n) h keeps
-        (λ m e t. let same : n ≡ m = cc in absurd (open_call (subst (λ (i : ℕ). IsTaken (call_of told i).outcome) (sym same) t))) (λ m e. absurd (cc));
+    keeps = keeps_more (Ran n) keeps
+        (λ m e t. let same : n ≡ m = cc in absurd (open_call (subst (λ i. IsTaken (call_of told i).outcome) (sym same) t))) (λ m e. absurd (cc));
   }
 
   -- ---- the run itself
@@ -126,19 +122,18 @@ module _ (told : Told) (fits : Premises told) (turn : RunsInTurn told) (before :
     h1 = add_event h (Send c k)
 
     shape1 : Shape told before h1
-    shape1 = shape_stays told before h h1 (record
+    shape1 = shape_stays h (record
         { casts = refl; copied = refl; released = refl; retired = refl; submitted = refl; ran = refl; collected = refl; killed = refl })
         (sound_step h (Send c k) stands.shape.sound (sendable told fits turn before n good next role actor h stands)) stands.shape
 
     keeps1 : Keeps told before h1
-    keeps1 = keeps_stays told before h h1 (added_grows h (Send c k)) stands.shape.sound.posts stands.keeps
+    keeps1 = keeps_stays (added_grows h (Send c k)) stands.shape.sound.posts stands.keeps
 
     mail1 : h1.mail ≡ h.mail ++ letter ∷ []
-    mail1 = ap (λ (o : Option Submission). and_also h.mail (option_map (λ (call : Submission). call_letter c k call h) o))
-        (call_stands told before h n good stands.shape was_submitted)
+    mail1 = ap (λ o. and_also h.mail (option_map (λ call. call_letter c k call h) o)) (call_stands h n good stands.shape was_submitted)
 
     at1 : slice_get h1.mail (length h.mail) ≡ Some letter
-    at1 = ap (λ (letters : List Letter). slice_get letters (length h.mail)) mail1 ∙ slice_get_last h.mail letter
+    at1 = ap (λ letters. slice_get letters (length h.mail)) mail1 ∙ slice_get_last h.mail letter
 
     fine1 : refusal_of h1 (Deliver (length h.mail)) ≡ None
     fine1 = deliver_fine h1 c a number (length h.mail) at1 (alive told fits turn before n good next role actor h1 shape1)
@@ -147,32 +142,32 @@ module _ (told : Told) (fits : Premises told) (turn : RunsInTurn told) (before :
     h2 = add_event h1 (Deliver (length h.mail))
 
     shape2 : Shape told before h2
-    shape2 = shape_stays told before h1 h2 (record
+    shape2 = shape_stays h1 (record
         { casts = refl; copied = refl; released = refl; retired = refl; submitted = refl; ran = refl; collected = refl; killed = refl })
         (sound_step h1 (Deliver (length h.mail)) shape1.sound fine1) shape1
 
     keeps2 : Keeps told before h2
-    keeps2 = keeps_stays told before h1 h2 (added_grows h1 (Deliver (length h.mail))) shape1.sound.posts keeps1
+    keeps2 = keeps_stays (added_grows h1 (Deliver (length h.mail))) shape1.sound.posts keeps1
 
     arrived2 : has_letter letter h2.arrived ≡ true
-    arrived2 = ap (λ (o : Option Letter). has_letter letter (and_also h.arrived o)) at1 ∙ letter_has c a number h.arrived
+    arrived2 = ap (λ o. has_letter letter (and_also h.arrived o)) at1 ∙ letter_has c a number h.arrived
 
     abbrev item : RunItem
     item = run_item c number (kept_of c h2) (k, sub_of told n)
 
     next2 : next_item a c h2 ≡ Some item
-    next2 = item_is_next h2 c a number (k, sub_of told n) (number_is told fits turn before n good next h2 shape2 was_submitted) arrived2
-        (calls_to-number a (calls_of c h2) k (sub_of told n) (call_stands told before h2 n good shape2 was_submitted) (eq-eqb a a refl))
+    next2 = item_is_next h2 c a (number_is told fits turn before n good next h2 shape2 was_submitted) arrived2
+        (calls_to-number a (calls_of c h2) k (call_stands h2 n good shape2 was_submitted) (eq-eqb a a refl))
 
     fine2 : refusal_of h2 (RunNext a c) ≡ None
-    fine2 = run_fine h2 c a (is_caller_is told h2 c a shape2.casts actor role) (names_is told h2 c a shape2.casts actor role)
+    fine2 = run_fine h2 c a (is_caller_is told h2 shape2.casts actor role) (names_is told h2 c a shape2.casts actor role)
         (alive told fits turn before n good next role actor h2 shape2)
 
     abbrev h3 : History
     h3 = after_run a c h2 (Some item)
 
     same3 : add_event h2 (RunNext a c) ≡ h3
-    same3 = ap (λ (o : Option RunItem). after_run a c h2 o) next2
+    same3 = ap (λ o. after_run a c h2 o) next2
 
     item3 : IsItem told n item
     item3 = record { caller = refl; future = refl; method = refl; good = λ answered. args_good told fits turn before n good next role actor h2 keeps2 answered }
@@ -184,15 +179,14 @@ module _ (told : Told) (fits : Premises told) (turn : RunsInTurn told) (before :
       released = shape2.released;
       retired = shape2.retired;
       submitted = shape2.submitted ∙ ap (map (pair_of told)) (sym (submits_more before (Ran n) ∙ append-nil (submits before)));
-      ran = subst (λ (ns : List ℕ). Agree told h3.ran ns) (sym (rans_more before (Ran n)))
-          (agree_push told h2.ran (rans before) (a, item) n shape2.ran refl item3);
+      ran = subst (λ ns. Agree told h3.ran ns) (sym (rans_more before (Ran n))) (agree_push h2.ran (rans before) (a, item) n shape2.ran refl item3);
       collected = rights_more told before (Ran n) h2.collected shape2.collected;
-      killed = λ b is. death_more told before (Ran n) b (shape2.killed b is);
+      killed = λ b is. death_more (Ran n) b (shape2.killed b is);
       sound = subst IsSound same3 (sound_step h2 (RunNext a c) shape2.sound fine2);
     }
 
     keeps3 : Keeps told before h3
-    keeps3 = keeps_stays told before h2 h3 (after_run_grows a c h2 (Some item)) shape2.sound.posts keeps2
+    keeps3 = keeps_stays (after_run_grows a c h2 (Some item)) shape2.sound.posts keeps2
 
     abbrev place3 : ℕ
     place3 = length (runs_of a h2)
@@ -202,9 +196,9 @@ module _ (told : Told) (fits : Premises told) (turn : RunsInTurn told) (before :
 
     lead3 : Leads (Stands told later) h3
     lead3 = elim (taken_or_not (call_of told n).outcome) [
-      | inl taken ↦ leads_by (Stands told later) h3 (Collect (length h2.posts)) (collect_unrefused h3 (length h2.posts) (ReplyPost c a place3) posted3)
+      | inl taken ↦ leads_by (Stands told later) h3 (Collect (length h2.posts)) (collect_unrefused h3 (length h2.posts) posted3)
           (leads_now (Stands told later) (add_event h3 (Collect (length h2.posts)))
-          (collected h3 (length h2.posts) place3 shape3 keeps3 taken posted3 (place_is (runs_of a h2) (runs_are told before h2 a shape2))))
+          (collected h3 (length h2.posts) place3 shape3 keeps3 taken posted3 (place_is (runs_of a h2) (runs_are a shape2))))
       | inr open_call ↦ leads_now (Stands told later) h3 (left_open h3 shape3 keeps3 open_call)
     ]
 

@@ -1,6 +1,6 @@
 -- What is kept depends on the casts, the submissions, the runs and what was collected, alone.
-use Rattle.act_order_plays.proofs.Common.{◌≡◌, ℕ, List, Option, Some, None, slice_get, refl, sym, ap, ◌∙◌, filter_map, Post, Submission, Answer, kept_at}
-use Rattle.act_order_plays.proofs.Common.{History, calls_of, kept_of, under, answer_in, kept_by, kept_at_is, filter_map_alike, ReplyPost, DeathPost}
+use Rattle.act_order_plays.proofs.Common.{◌≡◌, ℕ, Option, Some, None, slice_get, refl, sym, ap, ◌∙◌, filter_map, Post, Submission, kept_at, History, calls_of}
+use Rattle.act_order_plays.proofs.Common.{kept_of, under, answer_in, kept_by, kept_at_is, filter_map_alike, ReplyPost, DeathPost}
 
 pub record SameLists (h g : History) : Type 0 where
   pub casts : g.casts ≡ h.casts
@@ -15,13 +15,13 @@ same_answer h g c k b same (DeathPost d a) = refl
 same_kept : (h g : History) (c k : ℕ) → SameLists h g → (o : Option Submission) → kept_by g c k o ≡ kept_by h c k o
 same_kept h g c k same None = refl
 same_kept h g c k same (Some call) =
-    ap (λ (posts : List Post). slice_get (filter_map (answer_in g c k call.actor) posts) 0) same.collected
-    ∙ ap (λ (answers : List Answer). slice_get answers 0)
+    ap (λ posts. slice_get (filter_map (answer_in g c k call.actor) posts) 0) same.collected
+    ∙ ap (λ answers. slice_get answers 0)
     (filter_map_alike (answer_in g c k call.actor) (answer_in h c k call.actor) h.collected (same_answer h g c k call.actor same))
 
 pub kept_same : (h g : History) (c k : ℕ) → SameLists h g → kept_at (kept_of c g) k ≡ kept_at (kept_of c h) k
 kept_same h g c k same =
     kept_at_is g c k
-    ∙ ap (λ (all : List (ℕ × Submission)). kept_by g c k (slice_get (under c all) k)) same.submitted
+    ∙ ap (λ all. kept_by g c k (slice_get (under c all) k)) same.submitted
     ∙ same_kept h g c k same (slice_get (calls_of c h) k)
     ∙ sym (kept_at_is h c k)

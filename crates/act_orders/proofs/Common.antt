@@ -12,7 +12,7 @@ pub use Rattle.act_orders.specs.Whole.{CallFits, NumbersFit, Rising, RoleFits, R
 pub use Rattle.act_orders.specs.declared.fault.Fault.{Fault}
 pub use Rattle.act_orders.specs.declared.fault.Fault.TheVariants.{Again, Alive, Circle, Lacks, LeftOut, NoAnswer, NoRole, Skips, Spoiled, Strays}
 pub use Rattle.act_orders.specs.declared.search.Next.{Next}
-pub use Rattle.act_orders.specs.declared.search.Next.TheVariants.{Close, Enter, Finish, Pass}
+pub use Rattle.act_orders.specs.declared.search.Next.TheVariants.{Finish, Pass}
 pub use Rattle.act_orders.specs.declared.search.TheConstants.{DONE}
 pub use Rattle.act_orders.specs.declared.told.Actor.{Actor}
 pub use Rattle.act_orders.specs.declared.told.Call.{Call}

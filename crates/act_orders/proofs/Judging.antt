@@ -11,13 +11,11 @@ closed : (told : Told) (u v : Happening) → IsWhole told → CallsHold told →
 closed told (Submitted m) (Submitted n) whole hold is cause = omega (arith, is, cause.0)
 closed told (Ran m) (Submitted n) whole hold is cause = absurd cause
 closed told (Answered m) (Submitted n) whole hold is cause = (hold.0 n is).waits m cause
-closed told (Submitted m) (Ran n) whole hold is cause = subst (λ k. k < length told.calls) (sym cause) (ran_within told n whole is)
-closed told (Ran m) (Ran n) whole hold is cause =
-    stands_in (calls_run told) cause.0 m (call_at told cause.0 (record { actor = cause.1; call = m }) cause.2)
-closed told (Answered m) (Ran n) whole hold is cause = (hold.0 n (ran_within told n whole is)).takes is m cause
+closed told (Submitted m) (Ran n) whole hold is cause = subst (λ k. k < length told.calls) (sym cause) (ran_within n whole is)
+closed told (Ran m) (Ran n) whole hold is cause = stands_in (calls_run told) cause.0 (call_at told cause.0 (record { actor = cause.1; call = m }) cause.2)
+closed told (Answered m) (Ran n) whole hold is cause = (hold.0 n (ran_within n whole is)).takes is m cause
 closed told (Submitted m) (Answered n) whole hold is cause = subst (λ k. k < length told.calls) (sym cause) is.0
-closed told (Ran m) (Answered n) whole hold is cause =
-    ran_before_answer told (call_of told n).outcome m n cause ((hold.0 n is.0).answered is)
+closed told (Ran m) (Answered n) whole hold is cause = ran_before_answer told (call_of told n).outcome m n cause ((hold.0 n is.0).answered is)
 closed told (Answered m) (Answered n) whole hold is cause = absurd cause
 
 pub in_order : (told : Told) (places : List (Option ℕ)) (order : List Happening) → IsWhole told → HasPlaces told told.runs places →
@@ -30,32 +28,23 @@ in_order told places order whole at turn hold ordered = record {
     all = ordered.all;
     only = ordered.only;
     after = λ i v there.
-        let follows = ordered.after i v there in
-        let is = ordered.only v (stands_in order i v there) in
-        record {
-          once = follows.once;
-          causes = λ u cause. follows.causes u (cause_needed told places u v at whole turn is cause) (closed told u v whole hold is cause);
-        };
+        let follows = ordered.after i v there in let is = ordered.only v (stands_in order i there) in
+        record { once = follows.once; causes = λ u cause. follows.causes u (cause_needed u v at whole turn is cause) (closed told u v whole hold is cause) };
   };
 }
 
 -- one call more is covered
-pub covered_more : (told : Told) (kind : ℕ → Happening) (n : ℕ) (order longer : List Happening) →
-    ((v : Happening) → Contains order v → Contains longer v) →
-    ((k : ℕ) → k < n → Happened told (kind k) → Contains order (kind k)) →
-    (Happened told (kind n) → Contains longer (kind n)) →
-    (k : ℕ) → k < n + 1 → Happened told (kind k) → Contains longer (kind k)
+pub covered_more : (told : Told) (kind : ℕ → Happening) (n : ℕ) (order longer : List Happening) → ((v : Happening) → Contains order v → Contains longer v) →
+    ((k : ℕ) → k < n → Happened told (kind k) → Contains order (kind k)) → (Happened told (kind n) → Contains longer (kind n)) → (k : ℕ) → k < n + 1 →
+    Happened told (kind k) → Contains longer (kind k)
 covered_more told kind n order longer grows before here k lt is = elim (same_or_not k n) [
   | inl e ↦ subst (λ j. Contains longer (kind j)) (sym e) (here (subst (λ j. Happened told (kind j)) e is))
   | inr d ↦ grows (kind k) (before k (omega (arith, lt, d)) is)
 ]
 
-pub covered : (told : Told) (order : List Happening) (n : ℕ) → IsWhole told → length told.calls ≤ n →
-    ((k : ℕ) → k < n → Happened told (Submitted k) → Contains order (Submitted k)) →
-    ((k : ℕ) → k < n → Happened told (Ran k) → Contains order (Ran k)) →
-    ((k : ℕ) → k < n → Happened told (Answered k) → Contains order (Answered k)) →
-    (v : Happening) → Happened told v → Contains order v
-covered told order n whole far submitted ran answered (Submitted k) is = submitted k (omega (arith, is, far)) is
-covered told order n whole far submitted ran answered (Ran k) is =
-    let w = ran_within told k whole is in ran k (omega (arith, w, far)) is
-covered told order n whole far submitted ran answered (Answered k) is = answered k (omega (arith, is.0, far)) is
+pub covered : {told : Told} (order : List Happening) (n : ℕ) → IsWhole told → length told.calls ≤ n →
+    ((k : ℕ) → k < n → Happened told (Submitted k) → Contains order (Submitted k)) → ((k : ℕ) → k < n → Happened told (Ran k) → Contains order (Ran k)) →
+    ((k : ℕ) → k < n → Happened told (Answered k) → Contains order (Answered k)) → (v : Happening) → Happened told v → Contains order v
+covered order n whole far submitted ran answered (Submitted k) is = submitted k (omega (arith, is, far)) is
+covered {told} order n whole far submitted ran answered (Ran k) is = let w = ran_within k whole is in ran k (omega (arith, w, far)) is
+covered order n whole far submitted ran answered (Answered k) is = answered k (omega (arith, is.0, far)) is

@@ -44,8 +44,7 @@ behind first runs a m l = record { place = suc l.place; at = l.at; last = beyond
     beyond (suc i) run at one = let h = l.last i run at one in omega (arith, h)
 
 -- the first run is the last where none follows
-in_front : (first : Run) (runs : List Run) (a m : ℕ) → NoneOf runs a → first ≡ record { actor = a; call = m } →
-    LastOf (first ∷ runs) a m
+in_front : (first : Run) (runs : List Run) (a m : ℕ) → NoneOf runs a → first ≡ record { actor = a; call = m } → LastOf (first ∷ runs) a m
 in_front first runs a m none is = record { place = 0; at = ap Some is; last = at_front }
   where
     at_front : (i : ℕ) (run : Run) → slice_get (first ∷ runs) i ≡ Some run → run.actor ≡ a → i ≤ 0
@@ -63,8 +62,7 @@ last_of (first ∷ runs) a m e = by_rest (last_call runs a) refl (last_of runs a
     by_rest None is rest =
         let here : cond (eqb first.actor a) (Some first.call) None ≡ Some m =
         ap (λ o. option_or o (cond (eqb first.actor a) (Some first.call) None)) (sym is) ∙ e in
-        let found = cond_some (eqb first.actor a) first.call m here in
-        let actor : first.actor ≡ a = eqb-true first.actor a found.0 in
+        let found = cond_some (eqb first.actor a) first.call m here in let actor : first.actor ≡ a = eqb-true first.actor a found.0 in
         let run : first ≡ record { actor = a; call = m } =
         ap (λ b. record { actor = b; call = first.call }) actor ∙ ap (λ k. record { actor = a; call = k }) found.1 in
         in_front first runs a m (none_of runs a is) run
@@ -85,16 +83,14 @@ last_found told a m l = by_call (last_call told.runs a) refl
         let one : other.place ≡ l.place = omega (arith, up, down) in
         let runs : Some (record { actor = a; call = k }) ≡ Some (record { actor = a; call = m }) =
         sym other.at ∙ ap (λ i. slice_get told.runs i) one ∙ l.at in
-        let run : (record { actor = a; call = k }) ≡ record { actor = a; call = m } = same_Some _ _ runs in
-        is ∙ ap (λ (r : Run). Some r.call) run
+        let run : (record { actor = a; call = k }) ≡ record { actor = a; call = m } = same_Some _ _ runs in is ∙ ap (λ (r : Run). Some r.call) run
 
 pub nothing_found : (told : Told) (a : ℕ) → NoneOf told.runs a → last_call told.runs a ≡ None
 nothing_found told a none = by_call (last_call told.runs a) refl
   where
     by_call : (o : Option ℕ) → last_call told.runs a ≡ o → last_call told.runs a ≡ None
     by_call None is = is
-    by_call (Some k) is =
-        let l = last_of told.runs a k is in absurd (none l.place (record { actor = a; call = k }) l.at refl)
+    by_call (Some k) is = let l = last_of told.runs a k is in absurd (none l.place (record { actor = a; call = k }) l.at refl)
 
 -- what is found before the first run of a later actor
 pub found_up_to : (told : Told) (a j : ℕ) → IsUpTo told a (j + 1) → j < length told.runs → (run_of told j).actor ≡ a →
@@ -104,16 +100,14 @@ found_up_to told a j up lt same = last_found told a (run_of told j).call (record
   at = run_at told j lt ∙ ap (λ b. Some (record { actor = b; call = (run_of told j).call })) same;
   last = λ i run at one. elim (below_or_not j i) [
     | inr le ↦ le
-    | inl less ↦ absurd (let w = slice_get_within told.runs i run at in
-        let is : run_of told i ≡ run = get_or_from_slice_get told.runs i run (record { actor = 0; call = 0 }) at in
-        let h = up.later i (omega (arith, less)) w in omega (arith, h, ap (λ (r : Run). r.actor) is, one))
+    | inl less ↦ absurd (let w = slice_get_within told.runs i run at in let is : run_of told i ≡ run = get_or_from_slice_get told.runs i run
+        (record { actor = 0; call = 0 }) at in let h = up.later i (omega (arith, less)) w in omega (arith, h, ap (λ (r : Run). r.actor) is, one))
   ];
 })
 
 -- what isn't, where these are all of earlier ones
-pub nothing_up_to : (told : Told) (a k : ℕ) → IsUpTo told a k → ((i : ℕ) → i < k → (run_of told i).actor < a) →
-    last_call told.runs a ≡ None
-nothing_up_to told a k up before = nothing_found told a (λ i run at one.
+pub nothing_up_to : (told : Told) {a : ℕ} (k : ℕ) → IsUpTo told a k → ((i : ℕ) → i < k → (run_of told i).actor < a) → last_call told.runs a ≡ None
+nothing_up_to told {a} k up before = nothing_found told a (λ i run at one.
     let w = slice_get_within told.runs i run at in
     let is : run_of told i ≡ run = get_or_from_slice_get told.runs i run (record { actor = 0; call = 0 }) at in
     elim (below_or_not i k) [

@@ -1,16 +1,15 @@
 -- Runs: where calls ran, and whether each is its caller's next.
 use Rattle.act_orders.proofs.Common.{◌≡◌, ◌≢◌, ℕ, zero, suc, ◌+◌, ◌<◌, ◌≤◌, ◌⊎◌, inl, inr, List, [], ◌∷◌, ◌++◌, length, map, take, get_or, refl, sym, ap, subst}
-use Rattle.act_orders.proofs.Common.{◌∙◌, arith, Option, Some, None, slice_get, replicate, set, Contains, All, MatchOption, option_to_list, get_or-append_seam}
-use Rattle.act_orders.proofs.Common.{All-push, Fault, IsFault, take-map, get_or-set_same, get_or-set_other, length-set, get_or-replicate, length-replicate}
-use Rattle.act_orders.proofs.Common.{get_or_append_left, append-nil, length-append, slice_get-get_or, Run, Told, call_of, calls_run, SameWay, IsPlace, IsBefore}
-use Rattle.act_orders.proofs.Common.{IsLast, HasBefore, HasPlaces, TurnTo, place_of, run_of}
+use Rattle.act_orders.proofs.Common.{◌∙◌, arith, Option, Some, None, slice_get, set, Contains, All, MatchOption, option_to_list, get_or-append_seam, All-push}
+use Rattle.act_orders.proofs.Common.{Fault, IsFault, take-map, get_or-set_same, get_or-set_other, length-set, get_or_append_left, append-nil, length-append}
+use Rattle.act_orders.proofs.Common.{slice_get-get_or, Run, Told, call_of, calls_run, SameWay, IsPlace, IsBefore, IsLast, HasBefore, HasPlaces, TurnTo}
+use Rattle.act_orders.proofs.Common.{place_of, run_of}
 use Rattle.act_orders.specs.Order.{IsNext}
 use Rattle.act_orders.proofs.Lists.{same_or_not, get_taken, get_in_taken, found_before, has_before}
 use Rattle.act_orders.proofs.Breaking.{call_at}
 
 -- a call without a place is none of those that ran
-unplaced : (told : Told) (runs : List Run) (n : ℕ) (place : Option ℕ) → IsPlace runs n place → place ≡ None →
-    Contains (map (λ run. run.call) runs) n → ⊥
+unplaced : (told : Told) (runs : List Run) (n : ℕ) (place : Option ℕ) → IsPlace runs n place → place ≡ None → Contains (map (λ run. run.call) runs) n → ⊥
 unplaced told runs n None at e = at
 unplaced told runs n (Some i) at e = absurd (cc)
 
@@ -18,27 +17,22 @@ unplaced told runs n (Some i) at e = absurd (cc)
 pub placed_at : (runs : List Run) (n i : ℕ) (place : Option ℕ) → IsPlace runs n place → place ≡ Some i →
     (a : ℕ) × (slice_get runs i ≡ Some (record { actor = a; call = n }))
 placed_at runs n i None at e = absurd (cc)
-placed_at runs n i (Some j) at e =
-    let same : j ≡ i = cc in (at.0, subst (λ k. slice_get runs k ≡ Some (record { actor = at.0; call = n })) same at.1)
+placed_at runs n i (Some j) at e = let same : j ≡ i = cc in (at.0, subst (λ k. slice_get runs k ≡ Some (record { actor = at.0; call = n })) same at.1)
 
 -- where the caller has no call before, or that one ran
-pub in_turn : (told : Told) (places : List (Option ℕ)) (i n : ℕ) (before : Option ℕ) → TurnTo told i →
-    IsBefore told n before →
-    ((p : ℕ) → before ≡ Some p → (j a : ℕ) × (slice_get (take i told.runs) j ≡ Some (record { actor = a; call = p }))) →
-    (m : ℕ) → m < n → SameWay told m n → Contains (take i (calls_run told)) m
+pub in_turn : (told : Told) (places : List (Option ℕ)) (i n : ℕ) (before : Option ℕ) → TurnTo told i → IsBefore told n before →
+    ((p : ℕ) → before ≡ Some p → (j a : ℕ) × (slice_get (take i told.runs) j ≡ Some (record { actor = a; call = p }))) → (m : ℕ) → m < n → SameWay told m n →
+    Contains (take i (calls_run told)) m
 in_turn told places i n None turn is ran m lt way = absurd (is m lt way)
 in_turn told places i n (Some p) turn is ran m lt way =
-    let at = ran p refl in
-    let run : Run = record { actor = at.1; call = p } in
-    let here = get_taken i told.runs at.0 run at.2 in
+    let at = ran p refl in let run : Run = record { actor = at.1; call = p } in let here = get_taken i told.runs at.0 at.2 in
     elim (same_or_not m p) [
-      | inl e ↦ subst (Contains (take i (calls_run told))) (sym e)
-          (has_before i (calls_run told) at.0 p (call_at told at.0 run here.1) here.0)
+      | inl e ↦ subst (Contains (take i (calls_run told))) (sym e) (has_before i (calls_run told) at.0 (call_at told at.0 run here.1) here.0)
       | inr d ↦ elim (less_or_more m p d) [
         | inl less ↦
             let before = found_before at.0 (calls_run told) m
             ((turn at.0 run here.0 here.1).in_turn m less (way.0 ∙ sym is.1.0, way.1 ∙ sym is.1.1)) in
-            has_before i (calls_run told) before.0 m before.2 (omega (arith, before.1, here.0))
+            has_before i (calls_run told) before.0 before.2 (omega (arith, before.1, here.0))
         | inr more ↦ absurd (is.2 m lt more way)
       ]
     ]
@@ -47,15 +41,12 @@ in_turn told places i n (Some p) turn is ran m lt way =
     less_or_more zero zero d = absurd (d refl)
     less_or_more zero (suc p) d = inl (omega arith)
     less_or_more (suc m) zero d = inr (omega arith)
-    less_or_more (suc m) (suc p) d =
-        elim (less_or_more m p (λ e. d (ap (λ k. suc k) e))) [ inl h ↦ inl (omega (arith, h)) | inr h ↦ inr (omega (arith, h)) ]
+    less_or_more (suc m) (suc p) d = elim (less_or_more m p (λ e. d (ap (λ k. suc k) e))) [ inl h ↦ inl (omega (arith, h)) | inr h ↦ inr (omega (arith, h)) ]
 
 -- the run at i is its caller's next call
-pub next_run : (told : Told) (places before : List (Option ℕ)) (i : ℕ) → HasPlaces told (take i told.runs) places →
-    HasBefore told before → (run_of told i).call < length told.calls →
-    (call_of told (run_of told i).call).actor ≡ (run_of told i).actor → place_of places (run_of told i).call ≡ None →
-    ((p : ℕ) → place_of before (run_of told i).call ≡ Some p → (j : ℕ) × (place_of places p ≡ Some j)) →
-    TurnTo told i → IsNext told (take i (calls_run told)) (run_of told i)
+pub next_run : (told : Told) (places before : List (Option ℕ)) (i : ℕ) → HasPlaces told (take i told.runs) places → HasBefore told before → (run_of told i).call
+    < length told.calls → (call_of told (run_of told i).call).actor ≡ (run_of told i).actor → place_of places (run_of told i).call ≡ None → ((p : ℕ) → place_of
+    before (run_of told i).call ≡ Some p → (j : ℕ) × (place_of places p ≡ Some j)) → TurnTo told i → IsNext told (take i (calls_run told)) (run_of told i)
 next_run told places before i at has lt here fresh ran turn =
     let n = (run_of told i).call in
     record {
@@ -63,9 +54,8 @@ next_run told places before i at has lt here fresh ran turn =
       once = λ in'. unplaced told (take i told.runs) n (place_of places n) (at.place n lt) fresh
           (subst (λ ns. Contains ns n) (take-map (λ run. run.call) i told.runs) in');
       in_turn = in_turn told places i n (place_of before n) turn (has.call n lt)
-          (λ p e. let j = ran p e in
-          let less : p < length told.calls = before_less (place_of before n) p (has.call n lt) e in
-          let there = placed_at (take i told.runs) p j.0 (place_of places p) (at.place p less) j.1 in (j.0, there.0, there.1));
+          (λ p e. let j = ran p e in let less : p < length told.calls = before_less (place_of before n) p (has.call n lt) e in let there =
+          placed_at (take i told.runs) p j.0 (place_of places p) (at.place p less) j.1 in (j.0, there.0, there.1));
     }
   where
     before_less : (o : Option ℕ) (p : ℕ) → IsBefore told (run_of told i).call o → o ≡ Some p → p < length told.calls
@@ -79,12 +69,11 @@ not_run told places i p at lt e in' = unplaced told (take i told.runs) p (place_
     (subst (λ ns. Contains ns p) (take-map (λ run. run.call) i told.runs) in')
 
 -- a call with a place ran before
-pub ran_at : (told : Told) (places : List (Option ℕ)) (i n j : ℕ) → HasPlaces told (take i told.runs) places →
-    n < length told.calls → place_of places n ≡ Some j →
-    (j < i) × (a : ℕ) × (slice_get told.runs j ≡ Some (record { actor = a; call = n }))
+pub ran_at : (told : Told) (places : List (Option ℕ)) (i n j : ℕ) → HasPlaces told (take i told.runs) places → n < length told.calls →
+    place_of places n ≡ Some j → (j < i) × (a : ℕ) × (slice_get told.runs j ≡ Some (record { actor = a; call = n }))
 ran_at told places i n j has lt e =
     let at = placed_at (take i told.runs) n j (place_of places n) (has.place n lt) e in
-    let there = get_taken i told.runs j (record { actor = at.0; call = n }) at.1 in (there.0, at.0, there.1)
+    let there = get_taken i told.runs j at.1 in (there.0, at.0, there.1)
 
 -- ---- one run more
 
@@ -95,19 +84,15 @@ kept_place told i k None lt d is = λ has.
     let f = found_before (i + 1) (calls_run told) k
     (subst (λ ns. Contains ns k) (sym (take-map (λ run. run.call) (i + 1) told.runs)) has) in
     elim (same_or_not f.0 i) [
-      | inl e ↦ d (let at = slice_get-get_or told.runs i (record { actor = 0; call = 0 }) lt in
-          let g = call_at told i (run_of told i) at in
+      | inl e ↦ d (let at = slice_get-get_or told.runs i (record { actor = 0; call = 0 }) lt in let g = call_at told i (run_of told i) at in
           let h : slice_get (calls_run told) i ≡ Some k = ap (λ j. slice_get (calls_run told) j) (sym e) ∙ f.2 in cc)
       | inr other ↦ is (subst (λ ns. Contains ns k) (take-map (λ run. run.call) i told.runs)
-          (has_before i (calls_run told) f.0 k f.2 (omega (arith, f.1, other))))
+          (has_before i (calls_run told) f.0 f.2 (omega (arith, f.1, other))))
     ]
-kept_place told i k (Some j) lt d is =
-    let g = get_taken i told.runs j (record { actor = is.0; call = k }) is.1 in
-    (is.0, get_in_taken (i + 1) told.runs j (record { actor = is.0; call = k }) g.1 (omega (arith, g.0)))
+kept_place told i k (Some j) lt d is = let g = get_taken i told.runs j is.1 in (is.0, get_in_taken (i + 1) told.runs j g.1 (omega (arith, g.0)))
 
-pub places_more : (told : Told) (places : List (Option ℕ)) (i : ℕ) → i < length told.runs →
-    HasPlaces told (take i told.runs) places → (run_of told i).call < length told.calls →
-    HasPlaces told (take (i + 1) told.runs) (set places (run_of told i).call (Some i))
+pub places_more : (told : Told) (places : List (Option ℕ)) (i : ℕ) → i < length told.runs → HasPlaces told (take i told.runs) places →
+    (run_of told i).call < length told.calls → HasPlaces told (take (i + 1) told.runs) (set places (run_of told i).call (Some i))
 places_more told places i lt at in' = record {
   each = length-set places (run_of told i).call (Some i) ∙ at.each;
   place = λ k less. elim (same_or_not k (run_of told i).call) [
@@ -115,18 +100,15 @@ places_more told places i lt at in' = record {
         (sym (ap (λ j. get_or (set places (run_of told i).call (Some i)) j None) e ∙
         get_or-set_same places (run_of told i).call (Some i) None (omega (arith, at.each, in')))) (
           (run_of told i).actor,
-          get_in_taken (i + 1) told.runs i (record { actor = (run_of told i).actor; call = k })
-              (slice_get-get_or told.runs i (record { actor = 0; call = 0 }) lt ∙
+          get_in_taken (i + 1) told.runs i (slice_get-get_or told.runs i (record { actor = 0; call = 0 }) lt ∙
               ap (λ j. Some (record { actor = (run_of told i).actor; call = j })) (sym e)) (omega arith),
         )
-    | inr d ↦ subst (λ o. IsPlace (take (i + 1) told.runs) k o)
-        (sym (get_or-set_other places (run_of told i).call k (Some i) None d))
+    | inr d ↦ subst (λ o. IsPlace (take (i + 1) told.runs) k o) (sym (get_or-set_other places (run_of told i).call k (Some i) None d))
         (kept_place told i k (place_of places k) lt d (at.place k less))
   ];
 }
 
-pub turn_more : (told : Told) (i : ℕ) → i < length told.runs → TurnTo told i →
-    IsNext told (take i (calls_run told)) (run_of told i) → TurnTo told (i + 1)
+pub turn_more : (told : Told) (i : ℕ) → i < length told.runs → TurnTo told i → IsNext told (take i (calls_run told)) (run_of told i) → TurnTo told (i + 1)
 turn_more told i lt turn next k run less at = elim (same_or_not k i) [
   | inl e ↦
       let same : Some (run_of told i) ≡ Some run =
@@ -157,16 +139,12 @@ kept_last told n a (Some p) d is = (
   ],
 )
 
-pub last_more : (told : Told) (n a : ℕ) (last : List (Option ℕ)) → (call_of told n).actor < length last →
-    ((b : ℕ) → b < length last → IsLast told n b (place_of last b)) → a < length last →
-    IsLast told (n + 1) a (place_of (set last (call_of told n).actor (Some n)) a)
+pub last_more : (told : Told) (n a : ℕ) (last : List (Option ℕ)) → (call_of told n).actor < length last → ((b : ℕ) → b < length last →
+    IsLast told n b (place_of last b)) → a < length last → IsLast told (n + 1) a (place_of (set last (call_of told n).actor (Some n)) a)
 last_more told n a last in' all lt = elim (same_or_not a (call_of told n).actor) [
-  | inl e ↦ subst (λ o. IsLast told (n + 1) a o)
-      (sym (ap (λ j. get_or (set last (call_of told n).actor (Some n)) j None) e ∙
-      get_or-set_same last (call_of told n).actor (Some n) None in'))
-      (omega arith, sym e, λ m less more same. omega (arith, less, more))
-  | inr d ↦ subst (λ o. IsLast told (n + 1) a o)
-      (sym (get_or-set_other last (call_of told n).actor a (Some n) None d))
+  | inl e ↦ subst (λ o. IsLast told (n + 1) a o) (sym (ap (λ j. get_or (set last (call_of told n).actor (Some n)) j None) e ∙
+      get_or-set_same last (call_of told n).actor (Some n) None in')) (omega arith, sym e, λ m less more same. omega (arith, less, more))
+  | inr d ↦ subst (λ o. IsLast told (n + 1) a o) (sym (get_or-set_other last (call_of told n).actor a (Some n) None d))
       (kept_last told n a (place_of last a) d (all a lt))
 ]
 
@@ -181,10 +159,9 @@ pub run_at : (told : Told) (i : ℕ) → i < length told.runs → slice_get told
 run_at told i lt = slice_get-get_or told.runs i (record { actor = 0; call = 0 }) lt
 
 -- one call more
-pub before_more : (told : Told) (n : ℕ) (before after : List (Option ℕ)) (o : Option ℕ) → after ≡ before ++ o ∷ [] →
-    length before ≡ n → ((k : ℕ) → k < n → IsBefore told k (place_of before k)) → IsBefore told n o →
-    (k : ℕ) → k < n + 1 → IsBefore told k (place_of after k)
-before_more told n before after o e count all here k lt = elim (same_or_not k n) [
+pub before_more : (told : Told) (n : ℕ) (before : List (Option ℕ)) {after : List (Option ℕ)} (o : Option ℕ) → after ≡ before ++ o ∷ [] → length before ≡ n →
+    ((k : ℕ) → k < n → IsBefore told k (place_of before k)) → IsBefore told n o → (k : ℕ) → k < n + 1 → IsBefore told k (place_of after k)
+before_more told n before {after} o e count all here k lt = elim (same_or_not k n) [
   | inl same ↦
       let there : place_of after k ≡ o = ap (λ os. place_of os k) e ∙
       ap (λ j. place_of (before ++ o ∷ []) j) (same ∙ sym count) ∙ get_or-append_seam before o [] None in

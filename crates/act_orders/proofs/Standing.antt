@@ -10,8 +10,7 @@ Apart {A} g = (v w : A) → g.number v ≡ g.number w → v ≡ w
 
 -- a mark that is set is that of one node
 pub marked : {A : Type 0} (g : Graph A) (apart : Apart g) (marks : List ℕ) (v w : A) (m : ℕ) → g.number v < length marks →
-    ((w ≡ v) × (mark g (set marks (g.number v) m) w ≡ m)) ⊎
-    ((w ≢ v) × (mark g (set marks (g.number v) m) w ≡ mark g marks w))
+    ((w ≡ v) × (mark g (set marks (g.number v) m) w ≡ m)) ⊎ ((w ≢ v) × (mark g (set marks (g.number v) m) w ≡ mark g marks w))
 marked g apart marks v w m lt =
     elim (same_or_not (g.number w) (g.number v)) [
       | inl e ↦ inl (apart w v e, ap (λ k. get_or (set marks (g.number v) m) k 0) e ∙ get_or-set_same marks (g.number v) m 0 lt)
@@ -19,9 +18,8 @@ marked g apart marks v w m lt =
     ]
 
 -- a node that wasn't begun goes to the end of the path, whose last node needs it
-pub entered : {A : Type 0} (g : Graph A) (apart : Apart g) (done : ℕ) (marks : List ℕ) (path order : List A) (u : A) →
-    Standing g done marks path order → 1 < done → g.IsNode u → mark g marks u ≡ 0 →
-    ((i : ℕ) (v : A) → slice_get path i ≡ Some v → i + 1 ≡ length path → Needs g v u) →
+pub entered : {A : Type 0} (g : Graph A) (apart : Apart g) (done : ℕ) (marks : List ℕ) (path order : List A) (u : A) → Standing g done marks path order →
+    1 < done → g.IsNode u → mark g marks u ≡ 0 → ((i : ℕ) (v : A) → slice_get path i ≡ Some v → i + 1 ≡ length path → Needs g v u) →
     Standing g done (set marks (g.number u) 1) (path ++ u ∷ []) order
 entered {A} g apart done marks path order u s big node white last =
     let lt : g.number u < length marks = s.room u node in
@@ -53,9 +51,9 @@ entered {A} g apart done marks path order u s big node white last =
           | inr e ↦ absurd (h.0 (sym e))
         ]
       ];
-      chain = λ i v w one next. elim (get_pushed path u i v one) [
+      chain = λ i v w one next. elim (get_pushed path u i one) [
         | inr h ↦ absurd (let far = slice_get_within (path ++ u ∷ []) (i + 1) w next in omega (arith, h.0, far, length-append path (u ∷ [])))
-        | inl h ↦ elim (get_pushed path u (i + 1) w next) [
+        | inl h ↦ elim (get_pushed path u (i + 1) next) [
           | inl j ↦ s.chain i v w h.1 j.1
           | inr j ↦ subst (Needs g v) j.1 (last i v h.1 j.0)
         ]
@@ -65,11 +63,9 @@ entered {A} g apart done marks path order u s big node white last =
 -- the last node of the path goes past a slot whose cause stands in the order, or that has none
 pub passed_by : {A : Type 0} (g : Graph A) (apart : Apart g) (done : ℕ) (marks : List ℕ) (path order : List A) (v : A) (m : ℕ) →
     Standing g done marks path order → Contains path v → mark g marks v ≡ m + 1 → m + 2 < done →
-    ((u : A) → slice_get (g.slots v) m ≡ Some (Some u) → g.IsNode u → Contains order u) →
-    Standing g done (set marks (g.number v) (m + 2)) path order
+    ((u : A) → slice_get (g.slots v) m ≡ Some (Some u) → g.IsNode u → Contains order u) → Standing g done (set marks (g.number v) (m + 2)) path order
 passed_by {A} g apart done marks path order v m s on at_m big here =
-    let node = s.begun v on in
-    let lt : g.number v < length marks = s.room v node.0 in
+    let node = s.begun v on in let lt : g.number v < length marks = s.room v node.0 in
     record {
       room = λ w n. let h = s.room w n in omega (arith, h, length-set marks (g.number v) (m + 2));
       finished = λ w n e. elim (marked g apart marks v w (m + 2) lt) [ inl h ↦ absurd (omega (arith, h.1, e)) | inr h ↦ s.finished w n (sym h.1 ∙ e) ];
@@ -100,14 +96,10 @@ passed_by {A} g apart done marks path order v m s on at_m big here =
     }
 
 -- the last node of the path, past all its slots, goes to the end of the order
-pub finished_by : {A : Type 0} (g : Graph A) (apart : Apart g) (done : ℕ) (marks : List ℕ) (rest order : List A) (v : A) (m : ℕ) →
-    Standing g done marks (rest ++ v ∷ []) order → mark g marks v ≡ m + 1 →
-    length (g.slots v) ≤ m →
-    Standing g done (set marks (g.number v) done) rest (order ++ v ∷ [])
+pub finished_by : {A : Type 0} (g : Graph A) (apart : Apart g) (done : ℕ) (marks : List ℕ) (rest order : List A) (v : A) (m : ℕ) → Standing g done marks
+    (rest ++ v ∷ []) order → mark g marks v ≡ m + 1 → length (g.slots v) ≤ m → Standing g done (set marks (g.number v) done) rest (order ++ v ∷ [])
 finished_by {A} g apart done marks rest order v m s at_m far =
-    let on : Contains (rest ++ v ∷ []) v = Contains-push rest v in
-    let node = s.begun v on in
-    let lt : g.number v < length marks = s.room v node.0 in
+    let on : Contains (rest ++ v ∷ []) v = Contains-push rest v in let node = s.begun v on in let lt : g.number v < length marks = s.room v node.0 in
     record {
       room = λ w n. let h = s.room w n in omega (arith, h, length-set marks (g.number v) done);
       finished = λ w n e. elim (marked g apart marks v w done lt) [
@@ -123,8 +115,7 @@ finished_by {A} g apart done marks rest order v m s at_m far =
       ];
       after = each_after_pushed (MayFollow g) order v s.after (record {
         once = λ has. let p = s.placed v has in omega (arith, p.1, node.2);
-        causes = λ u needs n. s.passed v on needs.0 u
-            (let k = slice_get_within (g.slots v) needs.0 (Some u) needs.1 in omega (arith, k, far, at_m)) needs.1 n;
+        causes = λ u needs n. s.passed v on needs.0 u (let k = slice_get_within (g.slots v) needs.0 (Some u) needs.1 in omega (arith, k, far, at_m)) needs.1 n;
       });
       begun = λ w has. let b = s.begun w (Contains-append_left rest (v ∷ []) w has) in elim (marked g apart marks v w done lt) [
         | inl h ↦ absurd (fresh_last rest v s.once (subst (Contains rest) h.0 has))
@@ -141,10 +132,9 @@ finished_by {A} g apart done marks rest order v m s at_m far =
       ];
       passed = λ w has k u below at n. elim (marked g apart marks v w done lt) [
         | inl h ↦ absurd (fresh_last rest v s.once (subst (Contains rest) h.0 has))
-        | inr h ↦ Contains-append_left order (v ∷ []) u
-            (s.passed w (Contains-append_left rest (v ∷ []) w has) k u (omega (arith, h.1, below)) at n)
+        | inr h ↦ Contains-append_left order (v ∷ []) u (s.passed w (Contains-append_left rest (v ∷ []) w has) k u (omega (arith, h.1, below)) at n)
       ];
-      chain = λ i w x one next. s.chain i w x (slice_get_more rest (v ∷ []) i w one) (slice_get_more rest (v ∷ []) (i + 1) x next);
+      chain = λ i w x one next. s.chain i w x (slice_get_more rest (v ∷ []) i one) (slice_get_more rest (v ∷ []) (i + 1) next);
     }
 
 -- nothing is begun

@@ -14,8 +14,7 @@ le_told a b le = grind (arith, nat_tests)
 -- whether a slice is sorted tells whether its numbers rise
 pub rise_told : (xs : List ℕ) (r : Bool) → IsAllAdjacentAnswer (λ x y b. is_some_and is_le (Some (nat_cmp x y)) ≡ b) xs r →
     (IsTrue r → Rises xs) × (Rises xs → IsTrue r)
-rise_told xs true told =
-    let rises = non_decreasing_from_is_sorted xs true told in ((λ _ i j le lt. rises i j 0 le lt), (λ _. refl))
+rise_told xs true told = let rises = non_decreasing_from_is_sorted xs true told in ((λ _ i j le lt. rises i j 0 le lt), (λ _. refl))
 rise_told xs false told =
     let falls = non_decreasing_from_is_sorted xs false told in (
       (λ no. absurd (false≢true no)),
@@ -24,9 +23,8 @@ rise_told xs false told =
 
 -- the same by a number of each item
 pub rise_told_by : {X : Type 0} (n : X → ℕ) (xs : List X) (d : X) (r : Bool) →
-    IsAllAdjacentAnswer (λ x y b. b ≡ is_some_and is_le (Some (nat_cmp (n x) (n y)))) xs r →
-    (IsTrue r → (i j : ℕ) → i ≤ j → j < length xs → n (get_or xs i d) ≤ n (get_or xs j d)) ×
-    (((i j : ℕ) → i ≤ j → j < length xs → n (get_or xs i d) ≤ n (get_or xs j d)) → IsTrue r)
+    IsAllAdjacentAnswer (λ x y b. b ≡ is_some_and is_le (Some (nat_cmp (n x) (n y)))) xs r → (IsTrue r → (i j : ℕ) → i ≤ j → j < length xs →
+    n (get_or xs i d) ≤ n (get_or xs j d)) × (((i j : ℕ) → i ≤ j → j < length xs → n (get_or xs i d) ≤ n (get_or xs j d)) → IsTrue r)
 rise_told_by {X} n xs d true told =
     let rises : IsNonDecreasingBy n xs =
     IsNonDecreasingBy-from_all_adjacent n xs (λ k e lt. le_from_is_le _ _ (sym (told k e lt))) in

@@ -35,23 +35,21 @@ all_casts h [] = refl
 all_casts h (event ∷ events) = all_casts (after h event) events ∙ after_casts h event (refusal_of h event)
 
 cast_is_opening : (casts : List ActorSpec) (events : List Event) (a : ℕ) → cast_of a (history casts events) ≡ cast_of a (opening casts)
-cast_is_opening casts events a = ap (λ (all : List ActorSpec). find (λ (cast : ActorSpec). cast.actor == a) all) (all_casts (opening casts) events)
+cast_is_opening casts events a = ap (λ all. find (λ (cast : ActorSpec). cast.actor == a) all) (all_casts (opening casts) events)
 
-module _ {S : Type 0} (step : StepOf S) (written : S → List ℕ) (holds : List (Ask × Answer) → S → Type 0) (kept : IsKept step holds) (start : S) (at_first : holds [] start) where
+module _ {S : Type 0} (step : StepOf S) (written : S → List ℕ) (holds : List (Ask × Answer) → S → Type 0) (kept : IsKept step holds) (start : S)
+    (at_first : holds [] start) where
   abbrev opened : KindState
   opened = OwnAt (behaves step written start)
 
   left : (log : List RunItem) → Left step written holds opened log
   left log = holds_in_each_run step written holds kept start at_first log
 
-  keeps : (cast : ActorSpec) (log : List RunItem) (seen : KindState) → option_map (λ (one : ActorSpec). one.opening) (Some cast) ≡ Some opened → seen ≡ state_after cast.opening log → Keeps step written holds opened log seen
+  keeps : (cast : ActorSpec) (log : List RunItem) (seen : KindState) → option_map (λ (one : ActorSpec). one.opening) (Some cast) ≡ Some opened →
+      seen ≡ state_after cast.opening log → Keeps step written holds opened log seen
   keeps cast log seen opens state =
       let one : Left step written holds opened log = left log in
-      record {
-        state = one.state;
-        is = state ∙ ap (λ (from : KindState). state_after from log) (same_Some cast.opening opened opens) ∙ one.left;
-        kept = one.kept;
-      }
+      record { state = one.state; is = state ∙ ap (λ from. state_after from log) (same_Some cast.opening opened opens) ∙ one.left; kept = one.kept }
 
   -- an actor of a world
   pub slot_keeps : (casts : List ActorSpec) (events : List Event) (a : ℕ) → OpensAt step written casts a start
@@ -61,12 +59,12 @@ module _ {S : Type 0} (step : StepOf S) (written : S → List ℕ) (holds : List
   slot_keeps casts events a opens (Some (Died dead)) stage = left dead.log
   slot_keeps casts events a opens (Some (Runs live)) stage =
       keeps stage.cast live.log live.state
-      (ap (λ (o : Option ActorSpec). option_map (λ (one : ActorSpec). one.opening) o) (sym stage.cast_is ∙ cast_is_opening casts events a) ∙ opens)
-      (stage.state ∙ ap (λ (log : List RunItem). state_after stage.cast.opening log) (sym stage.log))
+      (ap (λ o. option_map (λ (one : ActorSpec). one.opening) o) (sym stage.cast_is ∙ cast_is_opening casts events a) ∙ opens)
+      (stage.state ∙ ap (λ log. state_after stage.cast.opening log) (sym stage.log))
   slot_keeps casts events a opens (Some (Ended retired)) stage =
       keeps stage.cast retired.log retired.state
-      (ap (λ (o : Option ActorSpec). option_map (λ (one : ActorSpec). one.opening) o) (sym stage.cast_is ∙ cast_is_opening casts events a) ∙ opens)
-      (stage.state ∙ ap (λ (log : List RunItem). state_after stage.cast.opening log) (sym stage.log))
+      (ap (λ o. option_map (λ (one : ActorSpec). one.opening) o) (sym stage.cast_is ∙ cast_is_opening casts events a) ∙ opens)
+      (stage.state ∙ ap (λ log. state_after stage.cast.opening log) (sym stage.log))
 
   -- an actor that threads left
   end_keeps : (casts : List ActorSpec) (owners : List OwnerView) (a : ℕ) → OpensAt step written casts a start
@@ -75,7 +73,7 @@ module _ {S : Type 0} (step : StepOf S) (written : S → List ℕ) (holds : List
   end_keeps casts owners a opens (Starved dead) named ran = left dead.log
   end_keeps casts owners a opens (Retired retired) named ran =
       keeps ran.cast retired.log retired.state
-      (ap (λ (o : Option ActorSpec). option_map (λ (one : ActorSpec). one.opening) o) (sym ran.at ∙ ap (λ (b : ℕ). find (λ (cast : ActorSpec). cast.actor == b) casts) named) ∙ opens)
+      (ap (λ o. option_map (λ (one : ActorSpec). one.opening) o) (sym ran.at ∙ ap (λ b. find (λ (cast : ActorSpec). cast.actor == b) casts) named) ∙ opens)
       ran.state
 
   -- what each step keeps holds, at the end of a joined run, of each actor that opened the kind at this state
@@ -86,5 +84,5 @@ module _ {S : Type 0} (step : StepOf S) (written : S → List ℕ) (holds : List
       go : (end : Option EndView) → end_of a ends ≡ end → EndKeeps step written holds opened end
       go None e = tt
       go (Some end) e =
-          let found = find-tells (λ (one : EndView). IfRetired one (RanAll casts owners)) (λ (one : EndView). end_id one == a) ends end joined.retired e in
+          let found = find-tells (λ one. IfRetired one (RanAll casts owners)) (λ one. end_id one == a) ends joined.retired e in
           end_keeps casts owners a opens end (eqb-true (end_id end) a found.1) found.0

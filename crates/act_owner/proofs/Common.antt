@@ -18,7 +18,7 @@ pub use Rattle.act_replies.specs.declared.table.Row.{Row}
 pub use Rattle.act_resolver.specs.Resolver.{Entered, changed_at, is_answered, is_marked_sent, is_next_ready, is_told, least_ready, new_call, with_told}
 pub use Rattle.act_rules.proofs.Events.{calls_to-length}
 pub use Rattle.act_rules.proofs.Lists.{option_or-none_second}
-pub use Rattle.act_rules.specs.Actions.{Action, Copied, Noticed, Released, Sent, Submitted}
+pub use Rattle.act_rules.specs.Actions.{Action, Copied, Noticed, Sent, Submitted}
 pub use Rattle.act_rules.specs.RunList.{Answer}
 pub use Rattle.act_rules.specs.Submissions.{calls_to, copies_held, is_known, kept_at, limit_refusal, needs, number_of, settle, settled_future, submit_refusal}
 pub use Rattle.act_rules.specs.declared.history.Submission.{Submission}
@@ -37,13 +37,13 @@ pub use Rattle.act_types.specs.declared.call.Reply.{Reply}
 pub use Rattle.act_types.specs.declared.call.Settled.{Settled}
 pub use Rattle.std.proofs.Common.{All, AllPairs, Bool, Contains, Err, List, None, Ok, OnErr, OnOk, Option, Result, Some, [], ap, append-nil, append_assoc}
 pub use Rattle.std.proofs.Common.{arith, cond, count_by, drop, false, filter, find, get_or, if◌then◌else◌, inl, inr, is_some, length, map, nat_eq, nat_lt, not}
-pub use Rattle.std.proofs.Common.{option_and_then, option_copied, option_map, position, refl, replicate, rules, slice_get, slice_index_or, slice_set, subst}
-pub use Rattle.std.proofs.Common.{suc, sym, take, true, unwrap_or, zero, zip, ℕ, ◌&&◌, ◌++◌, ◌+◌, ◌-◌, ◌<◌, ◌==◌, ◌||◌, ◌∙◌, ◌∷◌, ◌≡◌, ◌≢◌, ◌≤◌, ◌⊎◌}
+pub use Rattle.std.proofs.Common.{option_copied, option_map, refl, replicate, rules, slice_get, slice_index_or, slice_set, subst, suc, sym, take, true}
+pub use Rattle.std.proofs.Common.{unwrap_or, zero, zip, ℕ, ◌&&◌, ◌++◌, ◌+◌, ◌-◌, ◌<◌, ◌==◌, ◌||◌, ◌∙◌, ◌∷◌, ◌≡◌, ◌≢◌, ◌≤◌, ◌⊎◌}
 pub use Rattle.std.proofs.lemmas.Bool.{and_parts, eqb-true, lt-ltb, ltb-true, ne_eqb, not-true}
 pub use Rattle.std.proofs.lemmas.Bool.Decides.{eqb_tells, leb_tells}
 pub use Rattle.std.proofs.lemmas.List.{get_or-map, length-append, length-map, length-set, map-append, map-set, take-append-le, take_all}
 pub use Rattle.std.proofs.lemmas.List.Elements.{Contains-append_left, Contains-push, filter-append}
 pub use Rattle.std.proofs.lemmas.List.Sums.{sum_by-cons}
 pub use Rattle.std.proofs.lemmas.Option.{slice_get-map, slice_get_past, unwrap_or-slice_get}
-pub use Rattle.std.specs.List.{enumerate_from, list_all, list_any, range_with_len}
+pub use Rattle.std.specs.List.{list_all, list_any, range_with_len}
 pub use Rattle.std.specs.Option.{option_map_or}

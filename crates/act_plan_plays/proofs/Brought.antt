@@ -1,10 +1,10 @@
 -- Each letter that was sent has arrived: what keeps it so.
 use Rattle.act_plan_plays.proofs.Common.{◌≡◌, ℕ, ◌-◌, Bool, true, false, cond, List, [], ◌∷◌, ◌++◌, length, Option, Some, None, inl, inr, ◌⊎◌, refl, ap, sym}
-use Rattle.act_plan_plays.proofs.Common.{◌∙◌, subst, ◌||◌, not, slice_get, option_map, list_any-append, Event, Letter, Submission, Did, Mail, Copies}
-use Rattle.act_plan_plays.proofs.Common.{WorldRefusal, ActorEnded, NoCaller, Sending, needs, calls_to, copies_held, send_refusal, History, is_letter}
-use Rattle.act_plan_plays.proofs.Common.{has_letter, is_ended, is_caller, calls_of, copies_of, kept_of, runs_of, refusal_of, did, add_event, after_by, after}
-use Rattle.act_plan_plays.proofs.Common.{and_also, letter_actor, deliver_refusal, call_letter, was_sent, is_last, slice_get_last, added_grows, ended_stays}
-use Rattle.act_plan_plays.proofs.Common.{letter_is, has_front, has_last, IsBrought, after_mail, after_post, or_cases, NoteLetter}
+use Rattle.act_plan_plays.proofs.Common.{◌∙◌, subst, ◌||◌, not, slice_get, option_map, list_any-append, Event, Letter, Submission, Mail, Copies, WorldRefusal}
+use Rattle.act_plan_plays.proofs.Common.{ActorEnded, NoCaller, Sending, needs, calls_to, copies_held, send_refusal, History, is_letter, has_letter, is_ended}
+use Rattle.act_plan_plays.proofs.Common.{is_caller, calls_of, copies_of, kept_of, runs_of, refusal_of, did, add_event, after_by, after, and_also, letter_actor}
+use Rattle.act_plan_plays.proofs.Common.{deliver_refusal, call_letter, was_sent, is_last, slice_get_last, added_grows, ended_stays, letter_is, has_front}
+use Rattle.act_plan_plays.proofs.Common.{has_last, IsBrought, after_mail, after_post, or_cases, NoteLetter}
 use Rattle.act_rules.specs.declared.event.Event.TheVariants as event
 
 -- who lives after an event lived before
@@ -21,7 +21,7 @@ lived a h other accepted live = go (is_ended a h) refl
 pub brought_kept : (h : History) (other : Event) → refusal_of h other ≡ None → (add_event h other).mail ≡ h.mail → IsBrought h → IsBrought (add_event h other)
 brought_kept h other accepted same brought letter there live =
     has_front letter h.arrived (add_event h other).arrived (added_grows h other).arrived
-    (brought letter (subst (λ (l : List Letter). has_letter letter l ≡ true) same there) (lived (letter_actor letter) h other accepted live))
+    (brought letter (subst (λ l. has_letter letter l ≡ true) same there) (lived (letter_actor letter) h other accepted live))
 
 -- ---- a letter that is sent is brought
 
@@ -38,9 +38,9 @@ older_or_new letter new mail e = go (or_cases (has_letter letter mail) (has_lett
     go (inl there) = inl there
     go (inr is) = inr (letter_is letter new (one_letter (is_letter letter new) is))
 
-not_refused : (ended : Bool) (refusal : WorldRefusal) → needs (not ended) ActorEnded None ≡ Some refusal → ended ≡ true
-not_refused true refusal e = refl
-not_refused false refusal e = cc
+not_refused : (ended : Bool) {refusal : WorldRefusal} → needs (not ended) ActorEnded None ≡ Some refusal → ended ≡ true
+not_refused true e = refl
+not_refused false e = cc
 
 -- all but the new letter came before it, and it comes now, or its actor has ended
 pub brought_more : (h g : History) (new : Letter) → g.mail ≡ h.mail ++ new ∷ [] → g.arrived ≡ h.arrived → ((a : ℕ) → is_ended a g ≡ is_ended a h) → IsBrought h
@@ -51,7 +51,7 @@ brought_more h g new mail arrived same brought = go (refusal_of g (event.Deliver
     i = length h.mail
 
     at : slice_get g.mail i ≡ Some new
-    at = ap (λ (l : List Letter). slice_get l i) mail ∙ slice_get_last h.mail new
+    at = ap (λ l. slice_get l i) mail ∙ slice_get_last h.mail new
 
     older : (letter : Letter) → has_letter letter h.mail ≡ true → is_ended (letter_actor letter) g ≡ false → has_letter letter g.arrived ≡ true
     older letter there live = ap (has_letter letter) arrived ∙ brought letter there (sym (same (letter_actor letter)) ∙ live)
@@ -64,15 +64,15 @@ brought_more h g new mail arrived same brought = go (refusal_of g (event.Deliver
 
         next : (has_letter letter h.mail ≡ true) ⊎ (letter ≡ new) → has_letter letter (and_also g.arrived (slice_get g.mail i)) ≡ true
         next (inl before) = ap (has_letter letter) more ∙ has_front letter g.arrived (g.arrived ++ new ∷ []) (new ∷ [], refl) (older letter before live)
-        next (inr is) = ap (has_letter letter) more ∙ subst (λ (l : Letter). has_letter l (g.arrived ++ new ∷ []) ≡ true) (sym is) (has_last new g.arrived)
+        next (inr is) = ap (has_letter letter) more ∙ subst (λ l. has_letter l (g.arrived ++ new ∷ []) ≡ true) (sym is) (has_last new g.arrived)
     go (Some refusal) e letter there live = next (older_or_new letter new h.mail (ap (has_letter letter) (sym mail) ∙ there))
       where
         ended : is_ended (letter_actor new) g ≡ true
-        ended = not_refused (is_ended (letter_actor new) g) refusal (ap (λ (o : Option Letter). deliver_refusal o g) (sym at) ∙ e)
+        ended = not_refused (is_ended (letter_actor new) g) (ap (λ o. deliver_refusal o g) (sym at) ∙ e)
 
         next : (has_letter letter h.mail ≡ true) ⊎ (letter ≡ new) → has_letter letter g.arrived ≡ true
         next (inl before) = older letter before live
-        next (inr is) = let bad : true ≡ false = sym (subst (λ (l : Letter). is_ended (letter_actor l) g ≡ true) (sym is) ended) ∙ live in cc
+        next (inr is) = let bad : true ≡ false = sym (subst (λ l. is_ended (letter_actor l) g ≡ true) (sym is) ended) ∙ live in cc
 
 -- ---- the events that send
 
@@ -88,13 +88,13 @@ brought_release h c a accepted brought = go (is_last c a h) refl
 
     go : (b : Bool) → is_last c a h ≡ b → IsBrought (after_post (event.Release c a) h)
     go true e =
-        let mail : g.mail ≡ h.mail ++ note ∷ [] = ap (λ (x : Bool). and_also h.mail (cond x (Some note) None)) e in
+        let mail : g.mail ≡ h.mail ++ note ∷ [] = ap (λ x. and_also h.mail (cond x (Some note) None)) e in
         let says : did h (event.Release c a) ≡ Mail (length h.mail) = rw e refl in
-        subst (λ (d : Did). IsBrought (after_mail d g)) (sym says) (brought_more h g note mail refl (λ b. refl) brought)
+        subst (λ d. IsBrought (after_mail d g)) (sym says) (brought_more h g note mail refl (λ b. refl) brought)
     go false e =
-        let mail : g.mail ≡ h.mail = ap (λ (x : Bool). and_also h.mail (cond x (Some note) None)) e in
+        let mail : g.mail ≡ h.mail = ap (λ x. and_also h.mail (cond x (Some note) None)) e in
         let says : did h (event.Release c a) ≡ Copies (copies_held (copies_of c a h) - 1) = rw e refl in
-        subst (λ (d : Did). IsBrought (after_mail d g)) (sym says) (brought_kept h (event.Release c a) accepted mail brought)
+        subst (λ d. IsBrought (after_mail d g)) (sym says) (brought_kept h (event.Release c a) accepted mail brought)
 
 -- each sent letter is still brought after an accepted send, once its own letter is brought
 pub brought_send : (h : History) (c k : ℕ) → refusal_of h (event.Send c k) ≡ None → IsBrought h → IsBrought (after_post (event.Send c k) h)
@@ -109,9 +109,8 @@ brought_send h c k accepted brought = go (slice_get (calls_of c h) k) refl
 
     go : (o : Option Submission) → slice_get (calls_of c h) k ≡ o → IsBrought (after_post (event.Send c k) h)
     go None e = absurd (none (is_caller c h) false
-        (subst (λ (o : Option Submission). needs (is_caller c h) NoCaller (option_map Sending (send_refusal (kept_of c h) k (was_sent c k o h) o)) ≡ None) e
-        accepted))
+        (subst (λ o. needs (is_caller c h) NoCaller (option_map Sending (send_refusal (kept_of c h) k (was_sent c k o h) o)) ≡ None) e accepted))
     go (Some call) e =
         let mail : g.mail ≡ h.mail ++ call_letter c k call h ∷ [] =
-        ap (λ (o : Option Submission). and_also h.mail (option_map (λ (call : Submission). call_letter c k call h) o)) e in
+        ap (λ o. and_also h.mail (option_map (λ call. call_letter c k call h) o)) e in
         brought_more h g (call_letter c k call h) mail refl (λ b. refl) brought

@@ -78,7 +78,7 @@ pub use Rattle.std.proofs.lemmas.Bool.Decides.{nat_tests}
 pub use Rattle.std.proofs.lemmas.List.{get_or-map, length-map, take_all, take_more}
 pub use Rattle.std.proofs.lemmas.List.Elements.{All-append, All-cons, All-nil, All-push, Contains-append_left, Contains-append_right}
 pub use Rattle.std.proofs.lemmas.List.Folds.{find-append, list_any-append}
-pub use Rattle.std.proofs.lemmas.Option.{get_or_from_slice_get, slice_get-get_or, slice_get_past, slice_get_within}
+pub use Rattle.std.proofs.lemmas.Option.{get_or_from_slice_get, slice_get_past, slice_get_within}
 pub use Rattle.std.specs.Global.{Vec}
 pub use Rattle.std.specs.List.{enumerate_from, list_all, list_any, range_with_len}
 pub use Rattle.std.specs.Option.{option_map_or, option_or}

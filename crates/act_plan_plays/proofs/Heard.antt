@@ -31,17 +31,12 @@ told_run h a c place j e = go (next_item a c h) refl e
     go None is e = cc
     go (Some item) is e = (item, is, cc)
 
-pub run_comes : (casts : List ActorSpec) (plans : ℕ → List Step) (a c place j : ℕ) (at : At) (old : Parts) (world : WorldView) (events : List Event)
-    → Stands casts plans at old
-    → refusal_of at.history (event.Run a c) ≡ None → did_so.Ran place j ≡ did at.history (event.Run a c)
-    → refusal_of (add_event at.history (event.Run a c)) (event.Collect j) ≡ None
-    → IsBehind casts (add_event (add_event at.history (event.Run a c)) (event.Collect j)) world events
-    → (next : At) × Stands casts plans next (record old { world = world; events = events }) × HasRunMore a c true at.history next.history
-run_comes casts plans a c place j at old world events stands may told collects behind =
-    let h = at.history in
-    let q = with_event (event.Run a c) at in
-    let next = with_event (event.Collect j) q in
-    let told = told_run h a c place j told in
+pub run_comes : (casts : List ActorSpec) (plans : ℕ → List Step) (a c : ℕ) {place : ℕ} (j : ℕ) (at : At) {old : Parts} {world : WorldView}
+    {events : List Event} → Stands casts plans at old → refusal_of at.history (event.Run a c) ≡ None → did_so.Ran place j ≡ did at.history (event.Run a c) →
+    refusal_of (add_event at.history (event.Run a c)) (event.Collect j) ≡ None → IsBehind casts (add_event (add_event at.history (event.Run a c)) (event.Collect
+    j)) world events → (next : At) × Stands casts plans next (record old { world = world; events = events }) × HasRunMore a c true at.history next.history
+run_comes casts plans a c {place} j at {old} stands may told collects behind =
+    let h = at.history in let q = with_event (event.Run a c) at in let next = with_event (event.Collect j) q in let told = told_run h a c place j told in
     let left = left_run h a c in (
       next,
       record {
@@ -52,17 +47,14 @@ run_comes casts plans a c place j at old world events stands may told collects b
         asked = asked_same h next.history old.asked left.asked stands.asked;
         brought = brought_kept q.history (event.Collect j) collects refl (brought_kept h (event.Run a c) may left.mail stands.brought);
       },
-      subst (λ (i : ℕ). HasRunMore a c true h (with_event (event.Collect i) q).history) (sym told.2)
-          (run_more casts plans a c at told.0 stands.play may told.1),
+      subst (λ i. HasRunMore a c true h (with_event (event.Collect i) q).history) (sym told.2) (run_more casts plans a c at told.0 stands.play may told.1),
     )
 
-pub kill_comes : (casts : List ActorSpec) (plans : ℕ → List Step) (a : ℕ) (at : At) (old : Parts) (world : WorldView) (events : List Event)
-    → Stands casts plans at old
-    → refusal_of at.history (event.TakeKill a) ≡ None → IsBehind casts (add_event at.history (event.TakeKill a)) world events
-    → (next : At) × Stands casts plans next (record old { world = world; events = events }) × HasTakenMore a at.history next.history
-kill_comes casts plans a at old world events stands may behind =
-    let h = at.history in
-    let next = with_event (event.TakeKill a) at in
+pub kill_comes : (casts : List ActorSpec) (plans : ℕ → List Step) (a : ℕ) (at : At) {old : Parts} {world : WorldView} {events : List Event} →
+    Stands casts plans at old → refusal_of at.history (event.TakeKill a) ≡ None → IsBehind casts (add_event at.history (event.TakeKill a)) world events →
+    (next : At) × Stands casts plans next (record old { world = world; events = events }) × HasTakenMore a at.history next.history
+kill_comes casts plans a at stands may behind =
+    let h = at.history in let next = with_event (event.TakeKill a) at in
     let sound = (world_of casts plans at stands.play).sound in (
       next,
       record {
@@ -74,8 +66,7 @@ kill_comes casts plans a at old world events stands may behind =
         brought = brought_kept h (event.TakeKill a) may refl stands.brought;
       },
       (
-        (λ b. choices_same h next.history b refl (λ place item there. heard_quiet h next.history b place item
-            (added_grows h (event.TakeKill a)) sound refl there)),
+        (λ b. choices_same h next.history b refl (λ place item there. heard_quiet h b place (added_grows h (event.TakeKill a)) sound refl there)),
         λ b. contains_push b a h.killed,
       ),
     )
@@ -87,6 +78,6 @@ run_on a c h g k more same = ((λ b. sym (same.choices b) ∙ more.0 b), λ b. s
 pub taken_on : (a : ℕ) (h g k : History) → HasTakenMore a h g → HaveSameChoices g k → HasTakenMore a h k
 taken_on a h g k more same = ((λ b. sym (same.choices b) ∙ more.0 b), λ b. sym (same.killed b) ∙ more.1 b)
 
-pub chosen_on : (choice : Choice) (h g k : History) → HasChosen choice h g → HaveSameChoices g k → HasChosen choice h k
-chosen_on (Run a c) h g k more same = run_on a c h g k more same
-chosen_on (Take a) h g k more same = taken_on a h g k more same
+pub chosen_on : (choice : Choice) (h : History) {g : History} (k : History) → HasChosen choice h g → HaveSameChoices g k → HasChosen choice h k
+chosen_on (Run a c) h {g} k more same = run_on a c h g k more same
+chosen_on (Take a) h {g} k more same = taken_on a h g k more same

@@ -39,9 +39,8 @@ kept p (x ∷ xs) c (suc i, below, is) passes = further (p x) (kept p xs c (i, o
 
 -- ---- whoever is no caller has no plan
 
-no_plan : {K : Type 0} (c : ℕ) (casts : List (Cast K)) (plans : List (ℕ × Vec Step))
-    → All (λ (plan : ℕ × Vec Step). list_any (λ (cast : Cast K). contains plan.0 cast.callers) casts ≡ true) plans
-    → list_any (λ (cast : Cast K). contains c cast.callers) casts ≡ false → plan_in c plans ≡ []
+no_plan : {K : Type 0} (c : ℕ) (casts : List (Cast K)) (plans : List (ℕ × Vec Step)) → All (λ (plan : ℕ × Vec Step). list_any (λ (cast : Cast K). contains
+    plan.0 cast.callers) casts ≡ true) plans → list_any (λ (cast : Cast K). contains c cast.callers) casts ≡ false → plan_in c plans ≡ []
 no_plan c casts [] all none = refl
 no_plan {K = K} c casts (plan ∷ plans) all none = go (plan.0 == c) refl (no_plan c casts plans (λ k d below. all (suc k) d (omega arith)) none)
   where
@@ -49,7 +48,7 @@ no_plan {K = K} c casts (plan ∷ plans) all none = go (plan.0 == c) refl (no_pl
     go false other rest = rest
     go true same rest =
         let named : list_any (λ (cast : Cast K). contains plan.0 cast.callers) casts ≡ true = all 0 plan (omega arith) in
-        let bad : true ≡ false = sym (subst (λ (x : ℕ). list_any (λ (cast : Cast K). contains x cast.callers) casts ≡ true) (eqb-true plan.0 c same) named)
+        let bad : true ≡ false = sym (subst (λ x. list_any (λ (cast : Cast K). contains x cast.callers) casts ≡ true) (eqb-true plan.0 c same) named)
         ∙ none in
         cc
 
@@ -60,9 +59,8 @@ pub prepared_hold : {K : Type 0} (state : K → KindState) (casts : List (Cast K
     → map setup_view setups ≡ map (setup_of casts plans) (callers_named_by casts) → HoldPlans (map (actor_spec state) casts) (plans_given plans) setups
 prepared_hold {K = K} state casts plans setups fit numbers is = record {
   parts = λ k d below. record { plan = sym (plans_are state casts plans setups is k d below); actors = actors_are state casts plans setups is k d below };
-  named = λ c named. subst (λ (l : List ℕ). Contains l c) (sym (setups_view state casts plans setups is))
-      (kept (λ c. list_any (λ (cast : ActorSpec). contains c cast.callers) (map (actor_spec state) casts)) (one_to 16) c
-      (numbered c casts numbers (sym (same c) ∙ named)) named);
+  named = λ c named. subst (λ l. Contains l c) (sym (setups_view state casts plans setups is)) (kept (λ c. list_any
+      (λ (cast : ActorSpec). contains c cast.callers) (map (actor_spec state) casts)) (one_to 16) c (numbered c casts numbers (sym (same c) ∙ named)) named);
   others = λ c none. plan_of_view c plans ∙ no_plan c casts plans fit.named (sym (same c) ∙ none);
 }
   where

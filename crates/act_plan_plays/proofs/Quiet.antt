@@ -22,15 +22,14 @@ part_of P setups c all (i, below, is) =
 caller_of : (h : History) (c a : ℕ) → names c (cast_of a h) ≡ true → is_caller c h ≡ true
 caller_of h c a named = named_among c a h.casts named
 
-pub quiet : (casts : List ActorSpec) (plans : ℕ → List Step) (at : At) (parts : Parts) (setups : List CallerSetup) → Stands casts plans at parts
-    → HoldPlans casts plans setups
-    → All (λ (setup : CallerSetup). IsDone plans setup.caller at) setups → IsQuiescent plans at
-quiet casts plans at parts setups stands hold all = record {
+pub quiet : (casts : List ActorSpec) (plans : ℕ → List Step) (at : At) {parts : Parts} {setups : List CallerSetup} → Stands casts plans at parts →
+    HoldPlans casts plans setups → All (λ (setup : CallerSetup). IsDone plans setup.caller at) setups → IsQuiescent plans at
+quiet casts plans at {setups} stands hold all = record {
   waits = λ c step is may. (own c (go c step is)).waits step is may;
   needs = λ c a is named. (own c (caller_of h c a named)).needs a is named;
   closed = λ c a is named. (own c (caller_of h c a named)).closed a is named;
-  sent = λ c k call is none known live. (own c (caller_of h c call.actor (named_call h c k call w.retires.named is))).sent k call is none known live;
-  noted = λ c a gone live. stands.brought (NoteLetter c a (length (calls_to a (calls_of c h)))) (notes_sent casts plans at stands.play c a gone) live;
+  sent = λ c k call is none known live. (own c (caller_of h c call.actor (named_call h c k w.retires.named is))).sent k call is none known live;
+  noted = λ c a gone live. stands.brought (NoteLetter c a (length (calls_to a (calls_of c h)))) (notes_sent stands.play c a gone) live;
   told = λ c a dead named. (own c (caller_of h c a named)).told a dead named;
   live = stands.live;
 }
@@ -42,8 +41,8 @@ quiet casts plans at parts setups stands hold all = record {
     w = world casts plans at stands.play
 
     own : (c : ℕ) → is_caller c h ≡ true → IsDone plans c at
-    own c is = part_of (λ (c : ℕ). IsDone plans c at) setups c all
-        (hold.named c (ap (λ (l : List ActorSpec). list_any (λ (cast : ActorSpec). contains c cast.callers) l) (sym w.casts) ∙ is))
+    own c is = part_of (λ c. IsDone plans c at) setups c all
+        (hold.named c (ap (λ l. list_any (λ (cast : ActorSpec). contains c cast.callers) l) (sym w.casts) ∙ is))
 
     -- who has a next step is a caller
     go : (c : ℕ) (step : Step) → next_step plans c at ≡ Some step → is_caller c h ≡ true
@@ -52,7 +51,5 @@ quiet casts plans at parts setups stands hold all = record {
         named : (b : Bool) → is_caller c h ≡ b → b ≡ true
         named true e = refl
         named false e =
-            let none : plans c ≡ [] = hold.others c (ap (λ (l : List ActorSpec). list_any (λ (cast : ActorSpec). contains c cast.callers) l) (sym w.casts)
-            ∙ e) in
-            let bad : Some step ≡ None = sym is ∙ ap (λ (l : List Step). slice_get l (steps_of c at)) none in
-            cc
+            let none : plans c ≡ [] = hold.others c (ap (λ l. list_any (λ (cast : ActorSpec). contains c cast.callers) l) (sym w.casts) ∙ e) in
+            let bad : Some step ≡ None = sym is ∙ ap (λ l. slice_get l (steps_of c at)) none in cc

@@ -26,11 +26,10 @@ none_of : {X : Type 0} (o : Option X) → true ≡ not (is_some o) → o ≡ Non
 none_of None is = refl
 none_of (Some x) is = absurd (cc is)
 
-submit_fine : (copies : Option ℕ) (count given : ℕ) (args : List Arg) → nat_le (length args) 4 ≡ true → list_all (is_earlier count) args ≡ true → given ≡ count
-    → is_some copies ≡ true → nat_lt 0 (copies_held copies) ≡ true → nat_lt given 65536 ≡ true → submit_refusal copies count args ≡ None
-submit_fine copies count given args few earlier same one two three =
-    let below : nat_lt count 65536 ≡ true = ap (λ n. nat_lt n 65536) (sym same) ∙ three in
-    rw (one, two, few, earlier, below) refl
+submit_fine : (copies : Option ℕ) (count : ℕ) {given : ℕ} (args : List Arg) → nat_le (length args) 4 ≡ true → list_all (is_earlier count) args ≡ true →
+    given ≡ count → is_some copies ≡ true → nat_lt 0 (copies_held copies) ≡ true → nat_lt given 65536 ≡ true → submit_refusal copies count args ≡ None
+submit_fine copies count args few earlier same one two three =
+    let below : nat_lt count 65536 ≡ true = ap (λ n. nat_lt n 65536) (sym same) ∙ three in rw (one, two, few, earlier, below) refl
 
 -- ---- numbers given
 
@@ -42,25 +41,26 @@ given_from : (a : ℕ) (change : Handle → Handle) → ((handle : Handle) → (
     → fold (λ sum (handle : Handle). sum + handle.given) n (change_handle a change handles) ≡ fold (λ sum (handle : Handle). sum + handle.given) n handles
 given_from a change same n [] = refl
 given_from a change same n (handle ∷ handles) =
-    ap (λ given. fold (λ sum (handle : Handle). sum + handle.given) (n + given) (change_handle a change handles)) (chosen_given (is_of a handle) (change handle) handle (same handle))
+    ap (λ given. fold (λ sum (handle : Handle). sum + handle.given) (n + given) (change_handle a change handles))
+    (chosen_given (is_of a handle) (change handle) handle (same handle))
     ∙ given_from a change same (n + handle.given) handles
 
 -- ---- a submission
 
-pub submit_on : (a : ℕ) (method : Method) (args : List Arg) (old new : PlanChecker) (answer : Result ℕ HandleRefusal) → length args ≤ 4 → list_all (is_earlier old.count) args ≡ true → answer ≡ number_answer a old.handles → is_err answer ≡ false
-    → OnOk answer (new.handles ≡ with_number a old.handles) → OnOk answer (given_of_all new.handles ≡ given_of_all old.handles + 1) → new.count ≡ old.count + 1 → ChecksStep true (Submit a method args) old new
-submit_on a method args old new answer few earlier is ok changes counts count =
+pub submit_on : (a : ℕ) (method : Method) (args : List Arg) (old new : PlanChecker) {answer : Result ℕ HandleRefusal} → length args ≤ 4 → list_all
+    (is_earlier old.count) args ≡ true → answer ≡ number_answer a old.handles → is_err answer ≡ false → OnOk answer (new.handles ≡ with_number a old.handles) →
+    OnOk answer (given_of_all new.handles ≡ given_of_all old.handles + 1) → new.count ≡ old.count + 1 → ChecksStep true (Submit a method args) old new
+submit_on a method args old new {answer} few earlier is ok changes counts count =
     let accepted = not_err answer ok in
     let fine : number_refusal old.handles a ≡ None = none_of _ (sym accepted ∙ ap is_ok is ∙ accepted_is (number_refusal old.handles a) _) in
-    let handles = ok_changes answer changes accepted in
-    let given = ok_changes answer counts accepted in
-    let one = needs-none _ _ _ fine in
-    let two = needs-none _ _ _ one.1 in
-    let three = needs-none _ _ _ two.1 in
+    let handles = ok_changes answer changes accepted in let given = ok_changes answer counts accepted in let one = needs-none _ _ _ fine in
+    let two = needs-none _ _ _ one.1 in let three = needs-none _ _ _ two.1 in
     record {
       told = λ actors p is.
-          let none : submit_refusal (copies_in a old.handles) old.count args ≡ None = submit_fine (copies_in a old.handles) old.count (given_of_all old.handles) args (le-leb (length args) 4 few) earlier (is.given ∙ sym is.count) one.0 two.0 three.0 in
-          let same : submit_refusal (holds a actors p) (length p.submitted) args ≡ None = ap (λ copies. submit_refusal copies (length p.submitted) args) (sym (is.copies a)) ∙ ap (λ n. submit_refusal (copies_in a old.handles) n args) (sym is.count) ∙ none in
+          let none : submit_refusal (copies_in a old.handles) old.count args ≡ None =
+          submit_fine (copies_in a old.handles) old.count args (le-leb (length args) 4 few) earlier (is.given ∙ sym is.count) one.0 two.0 three.0 in
+          let same : submit_refusal (holds a actors p) (length p.submitted) args ≡ None = ap (λ copies. submit_refusal copies (length p.submitted) args)
+          (sym (is.copies a)) ∙ ap (λ n. submit_refusal (copies_in a old.handles) n args) (sym is.count) ∙ none in
           sym (ap (λ refusal. not (is_some refusal)) same);
       after = λ actors p is accepted.
           let more = length-append p.submitted (record { actor = a; method = method; args = args } ∷ []) in record {
@@ -72,27 +72,34 @@ submit_on a method args old new answer few earlier is ok changes counts count =
 
 -- ---- a copy and a release
 
-pub copy_on : (a : ℕ) (old new : PlanChecker) (answer : Result ℕ HandleRefusal) → answer ≡ copy_answer a old.handles → OnOk answer (new.handles ≡ with_copy a old.handles) → new.count ≡ old.count → ChecksStep (is_ok answer) (Copy a) old new
-copy_on a old new answer is changes count =
-    let says : is_ok answer ≡ not (is_some (copy_refusal (copies_in a old.handles))) = ap is_ok is ∙ accepted_is (copy_refusal (copies_in a old.handles)) (copies_held (copies_in a old.handles) + 1) in
+pub copy_on : (a : ℕ) (old new : PlanChecker) {answer : Result ℕ HandleRefusal} → answer ≡ copy_answer a old.handles →
+    OnOk answer (new.handles ≡ with_copy a old.handles) → new.count ≡ old.count → ChecksStep (is_ok answer) (Copy a) old new
+copy_on a old new {answer} is changes count =
+    let says : is_ok answer ≡ not (is_some (copy_refusal (copies_in a old.handles))) =
+    ap is_ok is ∙ accepted_is (copy_refusal (copies_in a old.handles)) (copies_held (copies_in a old.handles) + 1) in
     record {
       told = λ actors p after. says ∙ ap (λ copies. not (is_some (copy_refusal copies))) (after.copies a);
       after = λ actors p after accepted.
           let handles = ok_changes answer changes accepted in
-          let fine : copy_refusal (holds a actors p) ≡ None = none_of _ (sym accepted ∙ says ∙ ap (λ copies. not (is_some (copy_refusal copies))) (after.copies a)) in record {
+          let fine : copy_refusal (holds a actors p) ≡ None =
+          none_of _ (sym accepted ∙ says ∙ ap (λ copies. not (is_some (copy_refusal copies))) (after.copies a)) in record {
             count = count ∙ after.count;
-            given = ap given_of_all handles ∙ given_from a (λ (handle : Handle). record handle { copies = handle.copies + 1 }) (λ _. refl) 0 old.handles ∙ after.given;
+            given = ap given_of_all handles ∙ given_from a (λ (handle : Handle). record handle { copies = handle.copies + 1 }) (λ _. refl) 0 old.handles ∙
+                after.given;
             copies = λ b. ap (copies_in b) handles ∙ copy_copies old.handles a b actors p after.copies fine;
           };
     }
 
-pub release_on : (a : ℕ) (old new : PlanChecker) (answer : Result (Option ℕ) HandleRefusal) → answer ≡ release_answer a old.handles → OnOk answer (new.handles ≡ without_copy a old.handles) → new.count ≡ old.count → ChecksStep (is_ok answer) (Release a) old new
-release_on a old new answer is changes count = record {
-  told = λ actors p after. ap is_ok is ∙ accepted_is (handle_refusal (copies_in a old.handles)) _ ∙ ap (λ copies. not (is_some (handle_refusal copies))) (after.copies a);
+pub release_on : (a : ℕ) (old new : PlanChecker) {answer : Result (Option ℕ) HandleRefusal} → answer ≡ release_answer a old.handles →
+    OnOk answer (new.handles ≡ without_copy a old.handles) → new.count ≡ old.count → ChecksStep (is_ok answer) (Release a) old new
+release_on a old new {answer} is changes count = record {
+  told = λ actors p after. ap is_ok is ∙ accepted_is (handle_refusal (copies_in a old.handles)) _ ∙
+      ap (λ copies. not (is_some (handle_refusal copies))) (after.copies a);
   after = λ actors p after accepted.
       let handles = ok_changes answer changes accepted in record {
         count = count ∙ after.count;
-        given = ap given_of_all handles ∙ given_from a (λ (handle : Handle). record handle { copies = handle.copies - 1 }) (λ _. refl) 0 old.handles ∙ after.given;
+        given =
+            ap given_of_all handles ∙ given_from a (λ (handle : Handle). record handle { copies = handle.copies - 1 }) (λ _. refl) 0 old.handles ∙ after.given;
         copies = λ b. ap (copies_in b) handles ∙ release_copies old.handles a b actors p after.copies;
       };
 }
@@ -101,31 +108,32 @@ release_on a old new answer is changes count = record {
 
 -- what is known after the first steps of a plan: they were accepted, and the first refused one stands among the rest
 abbrev pub HasPassed : List ℕ → List Step → ℕ → PlanChecker → Type 0
-HasPassed actors plan place plan_checker = (p : Progress) × IsAfter actors p plan_checker × (first_bad actors plan ≡ first_bad_from place actors p (drop place plan))
+HasPassed actors plan place plan_checker =
+    (p : Progress) × IsAfter actors p plan_checker × (first_bad actors plan ≡ first_bad_from place actors p (drop place plan))
 
-pub begins : (actors : List ℕ) (plan : List Step) (plan_checker : PlanChecker) → plan_checker.handles ≡ map new_handle actors → plan_checker.count ≡ 0 → HasPassed actors plan 0 plan_checker
+pub begins : (actors : List ℕ) (plan : List Step) (plan_checker : PlanChecker) → plan_checker.handles ≡ map new_handle actors → plan_checker.count ≡ 0 →
+    HasPassed actors plan 0 plan_checker
 begins actors plan plan_checker handles count = (
   nothing_done,
-  record {
-    count = count;
-    given = ap given_of_all handles ∙ given_of_all-opened actors;
-    copies = λ a. ap (copies_in a) handles ∙ copies-opened a actors;
-  },
+  record { count = count; given = ap given_of_all handles ∙ given_of_all-opened actors; copies = λ a. ap (copies_in a) handles ∙ copies-opened a actors },
   refl,
 )
 
-at_step : (actors : List ℕ) (plan : List Step) (place : ℕ) (step : Step) (p : Progress) → place < length plan → step ≡ get_or plan place step → first_bad_from place actors p (drop place plan) ≡ first_bad_from place actors p (step ∷ drop (place + 1) plan)
+at_step : (actors : List ℕ) (plan : List Step) (place : ℕ) (step : Step) (p : Progress) → place < length plan → step ≡ get_or plan place step →
+    first_bad_from place actors p (drop place plan) ≡ first_bad_from place actors p (step ∷ drop (place + 1) plan)
 at_step actors plan place step p below is = ap (first_bad_from place actors p) (drop_more plan place step below ∙ ap (λ s. s ∷ drop (place + 1) plan) (sym is))
 
-accepted_as : (b accepted : Bool) → accepted ≡ not b → accepted ≡ true → b ≡ false
-accepted_as true accepted told is = absurd (cc (told, is))
-accepted_as false accepted told is = refl
+accepted_as : (b : Bool) {accepted : Bool} → accepted ≡ not b → accepted ≡ true → b ≡ false
+accepted_as true told is = absurd (cc (told, is))
+accepted_as false told is = refl
 
-pub passes : (actors : List ℕ) (plan : List Step) (place : ℕ) (step : Step) (accepted : Bool) (old new : PlanChecker) → place < length plan → step ≡ get_or plan place step → HasPassed actors plan place old → ChecksStep accepted step old new → accepted ≡ true → HasPassed actors plan (place + 1) new
+pub passes : (actors : List ℕ) (plan : List Step) (place : ℕ) (step : Step) (accepted : Bool) (old new : PlanChecker) → place < length plan →
+    step ≡ get_or plan place step → HasPassed actors plan place old → ChecksStep accepted step old new → accepted ≡ true → HasPassed actors plan (place + 1) new
 passes actors plan place step accepted old new below is passed on ok =
     let p = passed.0 in
-    let same : is_refused actors p step ≡ false = accepted_as _ accepted (on.told actors p passed.1) ok in (
+    let same : is_refused actors p step ≡ false = accepted_as _ (on.told actors p passed.1) ok in (
       do_step p step,
       on.after actors p passed.1 ok,
-      passed.2 ∙ at_step actors plan place step p below is ∙ ap (λ (b : Bool). if b then Some place else first_bad_from (place + 1) actors (do_step p step) (drop (place + 1) plan)) same,
+      passed.2 ∙ at_step actors plan place step p below is ∙
+          ap (λ b. if b then Some place else first_bad_from (place + 1) actors (do_step p step) (drop (place + 1) plan)) same,
     )

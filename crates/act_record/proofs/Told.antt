@@ -4,7 +4,6 @@ use Rattle.act_record.proofs.Common.{IsPlay, IsWritten, IsRecordOf, IsRecorded, 
 use Rattle.std.proofs.KnownBytes.{Keeps-refl}
 use Rattle.std.specs.Io.KnownBytes.{Appends}
 use Rattle.act_types.specs.declared.limits.TheConstants.{MAX_SCRIPT_BYTES}
-use Rattle.act_rules.specs.declared.script.Wrong.{Wrong}
 use Rattle.act_console.specs.declared.fault.ConsoleFault.TheVariants as faults
 use Rattle.act_console.specs.Input.{IsWholeInput}
 use Rattle.act_record.specs.declared.output.Output.{Output}
@@ -17,15 +16,15 @@ use Rattle.act_record.specs.declared.fault.RecordingFault.TheVariants.{Console, 
 -- ---- before anything is written
 
 -- the text of a play is to be written
-pub written_is : (script : Script) (roles : List Role) (events : List Event) (written : Written) (text : List ℕ)
+pub written_is : {script : Script} {roles : List Role} {events : List Event} (written : Written) (text : List ℕ)
     → script.roles ≡ roles → IsPlay script events → HasShownText written roles events text → IsWritten written script text
-written_is script roles events (Play source) text same is shown = record {
+written_is {script} {roles} (Play source) text same is shown = record {
   play = shown.play;
   spells = shown.spells;
   roles = shown.roles_are ∙ sym same;
   is_play = subst (IsPlay script) (sym shown.events_are) is;
 }
-written_is script roles events (LongPlay source) text same is long = record { long = long; events = events; is_play = is }
+written_is {events} (LongPlay source) text same is long = record { long = long; events = events; is_play = is }
 
 -- the text of a play is missed
 pub missed : (script : Script) (fault : RecordingFault) → IsMissing fault → IsOutput (Err fault) (Ok script)
@@ -45,16 +44,14 @@ module _ (had left old new : Option (List ℕ)) (bytes : List ℕ) (whole : IsWh
     is.0,
     is.1,
     string_bytes play.text,
-    subst (λ (written : Written). IsWritten written is.0 (string_bytes play.text))
-        (sym wrote.0) is.2,
+    subst (λ written. IsWritten written is.0 (string_bytes play.text)) (sym wrote.0) is.2,
     wrote.1,
   )
   told (outputs.Play play) (Err (Console faults.Writing)) is wrote = (
     bytes,
     whole,
     string_bytes play.text,
-    subst (λ (read : Result Script (ℕ × Wrong)). IsRecordOf read (string_bytes play.text)) (sym is.1)
-        (play.written, is.2),
+    subst (λ read. IsRecordOf read (string_bytes play.text)) (sym is.1) (play.written, is.2),
     wrote,
   )
   told (outputs.Play play) (Err (Console faults.Script)) is wrote = absurd wrote
@@ -65,7 +62,7 @@ module _ (had left old new : Option (List ℕ)) (bytes : List ℕ) (whole : IsWh
   told (outputs.Refusal text) (Ok written) is wrote = absurd wrote
   told (outputs.Refusal text) (Err (Console faults.Script)) is wrote = (bytes, whole, is.0, is.1, subst (Appends old new) is.2 wrote)
   told (outputs.Refusal text) (Err (Console faults.Writing)) is wrote =
-      (bytes, whole, string_bytes text, subst (λ (read : Result Script (ℕ × Wrong)). IsRecordOf read (string_bytes text)) (sym is.1) is.2, wrote)
+      (bytes, whole, string_bytes text, subst (λ read. IsRecordOf read (string_bytes text)) (sym is.1) is.2, wrote)
   told (outputs.Refusal text) (Err (Console faults.Memory)) is wrote = absurd wrote
   told (outputs.Refusal text) (Err (Console faults.Thread)) is wrote = absurd wrote
   told (outputs.Refusal text) (Err (Console faults.Reading)) is wrote = absurd wrote

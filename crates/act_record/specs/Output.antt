@@ -10,7 +10,7 @@ use Rattle.act_rules.specs.Report.{fault_line}
 use Rattle.act_rules.specs.Grammar.{Script, spelled}
 use Rattle.act_replay.specs.declared.run.RecordFault.{RecordFault}
 use Rattle.act_replay.specs.declared.run.RecordFault.TheVariants as records
-use Rattle.act_console.specs.declared.threads.StepLine.{StepLine}
+use Rattle.act_console.specs.declared.threads.StepAt.{StepAt}
 use Rattle.act_console.specs.declared.fault.ConsoleFault.TheVariants as faults
 use Rattle.act_console.specs.Plans.{HasLine, Explains}
 use Rattle.act_console.specs.Output.{AppendsPrefix}
@@ -44,12 +44,12 @@ IsMissing (Console fault) = fault ≡ faults.Memory
 IsMissing Unplayed = Unit {0}
 
 -- the step that a fault of a recorded run names has a line
-abbrev pub HasLineOf : List StepLine → RecordFault → Type 0
+abbrev pub HasLineOf : List StepAt → RecordFault → Type 0
 HasLineOf lines (records.Run fault) = HasLine lines fault
 HasLineOf lines records.Unplayed = Unit {0}
 
 -- what a fault of a recorded run tells of the script: as of a run, or that its plans are good
-abbrev pub IsExplained : List StepLine → RecordFault → Result Script (ℕ × Wrong) → Type 0
+abbrev pub IsExplained : List StepAt → RecordFault → Result Script (ℕ × Wrong) → Type 0
 IsExplained lines (records.Run fault) read = Explains lines fault read
 IsExplained lines records.Unplayed read = (script : Script) × (read ≡ Ok script)
 

@@ -18,7 +18,7 @@ use crate::fault::RecordingFault;
 use crate::output::{Output, PlayText, Written};
 use crate::reading::text_of;
 use act_console::{
-    ConsoleFault, Gate, Items, Script, ScriptFault, Sorted, StepLine, Stock, casts_of,
+    ConsoleFault, Gate, Items, Script, ScriptFault, Sorted, StepAt, Stock, casts_of,
     first_stranger, line_of, read_script, read_whole, refusal_of, sort, write_whole,
 };
 use act_executor::RunFault;
@@ -35,7 +35,7 @@ use std::thread::Threads;
 fn output_of_fault(
     alloc: Global,
     fault: RunFault,
-    step_lines: &[StepLine],
+    step_lines: &[StepAt],
 ) -> Result<Output, RecordingFault>
     requires { HasLine step_lines.now fault }
     ensures { (read : Result Spelled (ℕ × Wrong)) → Explains step_lines.now fault read → IsOutput result read }
@@ -55,7 +55,7 @@ fn output_of_fault(
 fn output_of_no_play(
     alloc: Global,
     fault: RecordFault,
-    step_lines: &[StepLine],
+    step_lines: &[StepAt],
 ) -> Result<Output, RecordingFault>
     requires { HasLineOf step_lines.now fault }
     ensures { (read : Result Spelled (ℕ × Wrong)) → IsExplained step_lines.now fault read → IsOutput result read }

@@ -1,12 +1,12 @@
 -- No play of its plans leaves the circle of awaits.
 use Rattle.act_replay.proofs.Common.{◌≡◌, ℕ, ◌==◌, Bool, true, false, cond, List, [], ◌∷◌, ◌++◌, Some, None, inl, inr, refl, sym, ap, ◌∙◌, subst, arith}
 use Rattle.act_replay.proofs.Common.{append-nil, append_assoc, Option, map, ◌⊎◌, slice_get, is_some, AllByRecursion, recursion_from_All, Push, Method, Arg}
-use Rattle.act_replay.proofs.Common.{Event, Submit, Run, WorldRefusal, RunItem}
-use Rattle.act_replay.proofs.Common.{Submission, Step, Answer, kept_at, IsPrefix, Consistent, History, opening, opening_of, calls_of, runs_of, kept_of, is_dead}
-use Rattle.act_replay.proofs.Common.{next_item, history, refusal_of, add_event, after, after_by, after_run, after_all, slice_get_front, after_all_keeps}
-use Rattle.act_replay.proofs.Common.{after_all-append, under-push, dead_stays, held_submission, IsSound, world_sound, consistent, is_death, is_death-only}
-use Rattle.act_replay.proofs.Common.{IsOwnerIn, IsEndIn, step_of, IsMeanwhile, DoesPlanIn, circle_casts, five_arg, circle_push, circle_ran, IsUnplanned}
-use Rattle.act_replay.proofs.Common.{await_plan, await_plans, await_calls, await_log, await_owner, await_owners, await_end, await_ends}
+use Rattle.act_replay.proofs.Common.{Event, Submit, Run, WorldRefusal, RunItem, Submission, Step, Answer, kept_at, IsPrefix, Consistent, History, opening}
+use Rattle.act_replay.proofs.Common.{opening_of, calls_of, runs_of, kept_of, is_dead, next_item, history, refusal_of, add_event, after, after_by, after_run}
+use Rattle.act_replay.proofs.Common.{after_all, slice_get_front, after_all_keeps, after_all-append, under-push, dead_stays, held_submission, IsSound}
+use Rattle.act_replay.proofs.Common.{world_sound, consistent, is_death, is_death-only, IsOwnerIn, IsEndIn, step_of, IsMeanwhile, DoesPlanIn, circle_casts}
+use Rattle.act_replay.proofs.Common.{five_arg, circle_push, circle_ran, IsUnplanned, await_plan, await_plans, await_calls, await_log, await_owner, await_owners}
+use Rattle.act_replay.proofs.Common.{await_end, await_ends}
 use Rattle.act_rules.specs.declared.script.Step.TheVariants.{Submit as SubmitStep, Release as ReleaseStep, Await as AwaitStep}
 use Rattle.act_replay.proofs.Unplayed.{is_after}
 
@@ -56,9 +56,8 @@ one_call c h a method args second none e = go (refusal_of h (Submit c a method a
     last false e = cc
 
     go : (o : Option WorldRefusal) → slice_get (calls_of c (after_by h (Submit c a method args) o)) 1 ≡ Some second → ⊥
-    go None e = last (c == c) (sym (ap (λ (l : List Submission). slice_get l 1) (under-push c c h.submitted call
-        ∙ ap (λ (l : List Submission). l ++ cond (c == c) (call ∷ []) []) none)) ∙ e)
-    go (Some refusal) e = let bad : slice_get [] 1 ≡ Some second = subst (λ (l : List Submission). slice_get l 1 ≡ Some second) none e in cc
+    go None e = last (c == c) (sym (ap (λ l. slice_get l 1) (under-push c c h.submitted call ∙ ap (λ l. l ++ cond (c == c) (call ∷ []) []) none)) ∙ e)
+    go (Some refusal) e = let bad : slice_get [] 1 ≡ Some second = subst (λ l. slice_get l 1 ≡ Some second) none e in cc
 
 -- a front of the events in which the caller submitted once, and after which its first call is answered
 record IsAwaited (c : ℕ) (events : List Event) : Type 0 where
@@ -73,12 +72,11 @@ awaited : (c o : ℕ) (more : List Step) (events : List Event) → DoesPlanIn ci
 awaited c o more events (first, done, later, whole, quiet, did, (second, nothing, rest, cut, still, (none, answered), goes)) = record {
   front = (first ++ done) ++ second;
   rest = rest;
-  whole = whole ∙ ap (λ (l : List Event). (first ++ done) ++ l) (cut ∙ ap (λ (l : List Event). (second ++ l) ++ rest) none
-      ∙ ap (λ (l : List Event). l ++ rest) (append-nil second))
-      ∙ sym (append_assoc (first ++ done) second rest);
+  whole = whole ∙ ap (λ l. (first ++ done) ++ l) (cut ∙ ap (λ l. (second ++ l) ++ rest) none ∙ ap (λ l. l ++ rest) (append-nil second)) ∙
+      sym (append_assoc (first ++ done) second rest);
   answered = answered;
   once = λ call e. one_call c (after_all (opening circle_casts) first) o Push (five_arg ∷ []) call (quiet_calls c (opening circle_casts) first quiet)
-      (ap (λ (l : List Submission). slice_get l 1) (sym calls) ∙ e);
+      (ap (λ l. slice_get l 1) (sym calls) ∙ e);
 }
   where
     submitted : after_all (opening circle_casts) (first ++ done) ≡ after (after_all (opening circle_casts) first) (Submit c o Push (five_arg ∷ []))
@@ -86,20 +84,18 @@ awaited c o more events (first, done, later, whole, quiet, did, (second, nothing
 
     calls : calls_of c (history circle_casts ((first ++ done) ++ second)) ≡ calls_of c
         (after (after_all (opening circle_casts) first) (Submit c o Push (five_arg ∷ [])))
-    calls = ap (calls_of c) (after_all-append (opening circle_casts) (first ++ done) second)
-        ∙ quiet_calls c (after_all (opening circle_casts) (first ++ done)) second still
-        ∙ ap (calls_of c) submitted
+    calls = ap (calls_of c) (after_all-append (opening circle_casts) (first ++ done) second) ∙
+        quiet_calls c (after_all (opening circle_casts) (first ++ done)) second still ∙ ap (calls_of c) submitted
 
 -- ---- what ran by then
 
 module _ (c o : ℕ) where
-  first_ran : (log : List RunItem) (place : ℕ) (item : RunItem) → IsPrefix log (await_log o c) → slice_get log place ≡ Some item
+  first_ran : (log : List RunItem) (place : ℕ) {item : RunItem} → IsPrefix log (await_log o c) → slice_get log place ≡ Some item
       → slice_get log 0 ≡ Some (circle_ran o 1 5)
-  first_ran [] place item front at = cc
-  first_ran (x ∷ log) place item front at =
+  first_ran [] place front at = cc
+  first_ran (x ∷ log) place front at =
       let e : x ∷ (log ++ front.0) ≡ circle_ran o 1 5 ∷ circle_ran c 0 5 ∷ [] = front.1 in
-      let same : x ≡ circle_ran o 1 5 = cc in
-      ap (λ (i : RunItem). Some i) same
+      let same : x ≡ circle_ran o 1 5 = cc in ap (λ i. Some i) same
 
   -- where the caller's first call is answered, the other list's first item is there, so its caller submitted twice
   second_call : (h : History) → IsSound h → IsPrefix (calls_of c h) (await_calls c o) → IsPrefix (runs_of o h) (await_log o c) → is_dead o h ≡ false
@@ -109,24 +105,21 @@ module _ (c o : ℕ) where
       fits : Consistent (λ x. opening_of x h) (λ x. calls_of x h) (λ x. runs_of x h) (λ x. kept_of x h) (λ x. is_dead x h)
       fits = consistent h s
 
-      to_other : (call : Submission) → slice_get (calls_of c h) 0 ≡ Some call → call.actor ≡ o
-      to_other call at =
-          let e : Some (circle_push o five_arg) ≡ Some call = slice_get_front (calls_of c h) (await_calls c o) 0 call calls at in
-          let same : circle_push o five_arg ≡ call = cc in
-          ap (λ (x : Submission). x.actor) (sym same)
+      to_other : {call : Submission} → slice_get (calls_of c h) 0 ≡ Some call → call.actor ≡ o
+      to_other {call} at =
+          let e : Some (circle_push o five_arg) ≡ Some call = slice_get_front (calls_of c h) (await_calls c o) 0 calls at in
+          let same : circle_push o five_arg ≡ call = cc in ap (λ (x : Submission). x.actor) (sym same)
 
       by : (x : Answer) → kept_at (kept_of c h) 0 ≡ Some x → (b : Bool) → is_death x ≡ b → (second : Submission) × (slice_get (calls_of o h) 1 ≡ Some second)
       by x kept true is =
-          let death = fits.deaths c 0 (kept ∙ ap (λ (y : Answer). Some y) (is_death-only x is)) in
-          let bad : true ≡ false = sym death.dead ∙ ap (λ (a : ℕ). is_dead a h) (to_other death.call death.at) ∙ alive in
-          cc
+          let death = fits.deaths c 0 (kept ∙ ap (λ y. Some y) (is_death-only x is)) in
+          let bad : true ≡ false = sym death.dead ∙ ap (λ a. is_dead a h) (to_other death.at) ∙ alive in cc
       by x kept false is =
           let r = fits.answers c 0 x kept (λ e. (let bad : true ≡ false = ap is_death (sym e) ∙ is in cc)) in
-          let held = held_submission h r.actor c 0 r.place r.item s.order r.at r.caller r.future in
-          let actor : r.actor ≡ o = sym held.2 ∙ to_other held.0 held.1 in
-          let first = first_ran (runs_of o h) r.place r.item log (subst (λ (a : ℕ). slice_get (runs_of a h) r.place ≡ Some r.item) actor r.at) in
-          let more = held_submission h o o 1 0 (circle_ran o 1 5) s.order first refl refl in
-          (more.0, more.1)
+          let held = held_submission h r.actor 0 r.place s.order r.at r.caller r.future in
+          let actor : r.actor ≡ o = sym held.2 ∙ to_other held.1 in
+          let first = first_ran (runs_of o h) r.place log (subst (λ a. slice_get (runs_of a h) r.place ≡ Some r.item) actor r.at) in
+          let more = held_submission h o {c = o} 1 0 s.order first refl refl in (more.0, more.1)
 
       go : (x : Option Answer) → kept_at (kept_of c h) 0 ≡ x → is_some x ≡ true → (second : Submission) × (slice_get (calls_of o h) 1 ≡ Some second)
       go None kept some = cc
@@ -138,11 +131,10 @@ meet : (xs ys zs ws : List Event) → xs ++ ys ≡ zs ++ ws → IsPrefix xs zs �
 meet [] ys zs ws e = inl (zs, refl)
 meet (x ∷ xs) ys [] ws e = inr (x ∷ xs, refl)
 meet (x ∷ xs) ys (z ∷ zs) ws e =
-    let head : x ≡ z = cc in
-    let tail : xs ++ ys ≡ zs ++ ws = cc in
+    let head : x ≡ z = cc in let tail : xs ++ ys ≡ zs ++ ws = cc in
     elim (meet xs ys zs ws tail) [
-      | inl front ↦ inl (front.0, ap (λ (y : Event). y ∷ (xs ++ front.0)) head ∙ ap (λ (l : List Event). z ∷ l) front.1)
-      | inr front ↦ inr (front.0, ap (λ (y : Event). y ∷ (zs ++ front.0)) (sym head) ∙ ap (λ (l : List Event). x ∷ l) front.1)
+      | inl front ↦ inl (front.0, ap (λ y. y ∷ (xs ++ front.0)) head ∙ ap (λ l. z ∷ l) front.1)
+      | inr front ↦ inr (front.0, ap (λ y. y ∷ (zs ++ front.0)) (sym head) ∙ ap (λ l. x ∷ l) front.1)
     ]
 
 dead_on : (a : ℕ) (h : History) (events : List Event) → is_dead a (after_all h events) ≡ false → is_dead a h ≡ false
@@ -150,14 +142,13 @@ dead_on a h events alive = go (is_dead a h) refl
   where
     go : (b : Bool) → is_dead a h ≡ b → is_dead a h ≡ false
     go true dead = let bad : true ≡ false = sym
-        (after_all_keeps (λ (g : History). is_dead a g ≡ true) (λ g event was accepted. dead_stays a g event accepted was) h events dead) ∙ alive in cc
+        (after_all_keeps (λ g. is_dead a g ≡ true) (λ g event was accepted. dead_stays a g event accepted was) h events dead) ∙ alive in cc
     go false living = living
 
 -- the caller that awaits no later than the other can't be answered by then
-too_soon : (c o : ℕ) (events : List Event) (one : IsAwaited c events) (other : IsAwaited o events) → IsPrefix one.front other.front
-    → calls_of c (history circle_casts events) ≡ await_calls c o → runs_of o (history circle_casts events) ≡ await_log o c
-    → is_dead o (history circle_casts events) ≡ false → ⊥
-too_soon c o events one other front calls_are runs_are alive = other.once second.0 there
+too_soon : (c o : ℕ) {events : List Event} (one : IsAwaited c events) (other : IsAwaited o events) → IsPrefix one.front other.front → calls_of c (history
+    circle_casts events) ≡ await_calls c o → runs_of o (history circle_casts events) ≡ await_log o c → is_dead o (history circle_casts events) ≡ false → ⊥
+too_soon c o {events} one other front calls_are runs_are alive = other.once second.0 there
   where
     h : History
     h = history circle_casts one.front
@@ -166,15 +157,13 @@ too_soon c o events one other front calls_are runs_are alive = other.once second
     on = ap (history circle_casts) one.whole ∙ after_all-append (opening circle_casts) one.front one.rest
 
     second : (call : Submission) × (slice_get (calls_of o h) 1 ≡ Some call)
-    second = second_call c o h (world_sound circle_casts one.front)
-        (subst (IsPrefix (calls_of c h)) (sym (ap (calls_of c) on) ∙ calls_are) ((is_after h one.rest).calls c))
-        (subst (IsPrefix (runs_of o h)) (sym (ap (runs_of o) on) ∙ runs_are) ((is_after h one.rest).runs o))
+    second = second_call c o h (world_sound circle_casts one.front) (subst (IsPrefix (calls_of c h)) (sym (ap (calls_of c) on) ∙ calls_are)
+        ((is_after h one.rest).calls c)) (subst (IsPrefix (runs_of o h)) (sym (ap (runs_of o) on) ∙ runs_are) ((is_after h one.rest).runs o))
         (dead_on o h one.rest (sym (ap (is_dead o) on) ∙ alive)) one.answered
 
     there : slice_get (calls_of o (history circle_casts other.front)) 1 ≡ Some second.0
-    there = subst (λ (g : History). slice_get (calls_of o g) 1 ≡ Some second.0)
-        (sym (ap (history circle_casts) (sym front.1) ∙ after_all-append (opening circle_casts) one.front front.0))
-        (slice_get_front (calls_of o h) (calls_of o (after_all h front.0)) 1 second.0 ((is_after h front.0).calls o) second.1)
+    there = subst (λ g. slice_get (calls_of o g) 1 ≡ Some second.0) (sym (ap (history circle_casts) (sym front.1) ∙ after_all-append
+        (opening circle_casts) one.front front.0)) (slice_get_front (calls_of o h) (calls_of o (after_all h front.0)) 1 ((is_after h front.0).calls o) second.1)
 
 -- what comes behind the await
 abbrev own_push : ℕ → List ℕ → List Step
@@ -182,8 +171,8 @@ own_push c closing = SubmitStep c Push (five_arg ∷ []) ∷ map (λ a. ReleaseS
 
 pub awaits_unplanned : IsUnplanned circle_casts await_plans await_owners await_ends
 awaits_unplanned (events, plays) = elim (meet one.front one.rest two.front two.rest (sym one.whole ∙ two.whole)) [
-  | inl front ↦ too_soon 1 2 events one two front (sym (owner_1.calls)) (sym end_2.runs) end_2.ended.0
-  | inr front ↦ too_soon 2 1 events two one front (sym (owner_2.calls)) (sym end_1.runs) end_1.ended.0
+  | inl front ↦ too_soon 1 2 one two front (sym (owner_1.calls)) (sym end_2.runs) end_2.ended.0
+  | inr front ↦ too_soon 2 1 two one front (sym (owner_2.calls)) (sym end_1.runs) end_1.ended.0
 ]
   where
     one : IsAwaited 1 events

@@ -54,8 +54,8 @@ pub use Rattle.act_world.specs.IsReachedBy.{HasPlayed, IsReachedBy}
 pub use Rattle.act_world.specs.Refines.{IsOwnerAt, IsStage}
 pub use Rattle.act_world.specs.View.{Died, Ended, Runs, SlotView, Vacant, WorldView, stage_view, world_view}
 pub use Rattle.std.proofs.Common.{All, AllPairs, Bool, Err, IsOk, IsTrue, List, None, Ok, Option, Some, [], ap, append-nil, append_assoc, arith, cond, false}
-pub use Rattle.std.proofs.Common.{get_or, inl, inr, is_some, length, map, ne_eqb, pos, refl, rules, slice_get, subst, suc, sym, take, true}
-pub use Rattle.std.proofs.Common.{true≢false, zero, ℕ, ◌++◌, ◌+◌, ◌<◌, ◌==◌, ◌↔◌, ◌∙◌, ◌∷◌, ◌≡◌, ◌≢◌, ◌⊎◌}
+pub use Rattle.std.proofs.Common.{get_or, inl, inr, is_some, length, map, ne_eqb, pos, refl, rules, slice_get, subst, suc, sym, take, true, true≢false, zero, ℕ}
+pub use Rattle.std.proofs.Common.{◌++◌, ◌+◌, ◌<◌, ◌==◌, ◌↔◌, ◌∙◌, ◌∷◌, ◌≡◌, ◌≢◌, ◌⊎◌}
 pub use Rattle.std.proofs.lemmas.Bool.{eqb-true, or_parts}
 pub use Rattle.std.proofs.lemmas.List.{get_or-map, length-map}
 pub use Rattle.std.proofs.lemmas.List.Elements.{All-map, All-more, recursion_from_All}

@@ -1,5 +1,5 @@
 -- What is asked of all items of a list, and of what is seen of them.
-use Rattle.act_replay.proofs.Common.{◌↔◌, Bool, List, length, map, get_or, subst, arith, All, IsTrue, get_or-map, length-map, All-map}
+use Rattle.act_replay.proofs.Common.{◌↔◌, Bool, List, map, subst, arith, All, IsTrue, get_or-map, length-map, All-map}
 
 -- what is asked of each item is asked of what is seen of it
 pub over_map : {X Y : Type 0} (P : X → Type 0) (f : Y → X) (ys : List Y) (r : Bool) → (IsTrue r ↔ All (λ y. P (f y)) ys) → IsTrue r ↔ All P (map f ys)

@@ -17,8 +17,8 @@ after_step : (h : History) → IsKept (IsAfter h)
 after_step h g event so_far accepted =
     let grows = added_grows g event in
     record {
-      runs = λ a. front_trans (runs_of a h) (runs_of a g) (runs_of a (add_event g event)) (so_far.runs a) (runs_grow a g (add_event g event) grows);
-      calls = λ c. front_trans (calls_of c h) (calls_of c g) (calls_of c (add_event g event)) (so_far.calls c) (calls_grow c g (add_event g event) grows);
+      runs = λ a. front_trans (runs_of a h) (runs_of a g) (runs_of a (add_event g event)) (so_far.runs a) (runs_grow a grows);
+      calls = λ c. front_trans (calls_of c h) (calls_of c g) (calls_of c (add_event g event)) (so_far.calls c) (calls_grow c grows);
     }
 
 pub is_after : (h : History) (events : List Event) → IsAfter h (after_all h events)
@@ -33,13 +33,13 @@ good_kept v None e = absurd (cc)
 good_kept v (Some (Ok w)) e = cc
 good_kept v (Some (Err fault)) e = absurd (cc)
 
-nothing_at : {A : Type 0} (k : ℕ) (x : A) → slice_get [] k ≡ Some x → ⊥
-nothing_at k x e = cc
+nothing_at : {A : Type 0} (k : ℕ) {x : A} → slice_get [] k ≡ Some x → ⊥
+nothing_at k e = cc
 
 -- the list a can't have run the other's second call while the list o, to which the first one went, ran nothing
 not_first : (a o : ℕ) (h : History) → IsSound h → IsPrefix (calls_of o h) (circle_calls o a) → runs_of a h ≡ circle_ran o 1 2 ∷ [] → runs_of o h ≡ [] → ⊥
-not_first a o h s front here there = nothing_at answer.place answer.item (subst (λ (l : List RunItem). slice_get l answer.place ≡ Some answer.item) there
-    (subst (λ (x : ℕ). slice_get (runs_of x h) answer.place ≡ Some answer.item) actor answer.at))
+not_first a o h s front here there = nothing_at answer.place (subst (λ l. slice_get l answer.place ≡ Some answer.item) there
+    (subst (λ x. slice_get (runs_of x h) answer.place ≡ Some answer.item) actor answer.at))
   where
     fits : Consistent (λ x. opening_of x h) (λ c. calls_of c h) (λ x. runs_of x h) (λ c. kept_of c h) (λ x. is_dead x h)
     fits = consistent h s
@@ -48,8 +48,7 @@ not_first a o h s front here there = nothing_at answer.place answer.item (subst 
     submitted = (subst (AllByRecursion (IsAsSubmitted (λ c. calls_of c h) (λ c. kept_of c h))) here (fits.as_submitted a)).0
 
     call : circle_push a first_future ≡ submitted.call
-    call = let e : Some (circle_push a first_future) ≡ Some submitted.call =
-        slice_get_front (calls_of o h) (circle_calls o a) 1 submitted.call front submitted.at in cc
+    call = let e : Some (circle_push a first_future) ≡ Some submitted.call = slice_get_front (calls_of o h) (circle_calls o a) 1 front submitted.at in cc
 
     kept : kept_at (kept_of o h) 0 ≡ Some (Ok (Int (pos 2)))
     kept =
@@ -62,19 +61,18 @@ not_first a o h s front here there = nothing_at answer.place answer.item (subst 
 
     actor : answer.actor ≡ o
     actor =
-        let held = held_submission h answer.actor o 0 answer.place answer.item s.order answer.at answer.caller answer.future in
-        let e : Some (circle_push o five_arg) ≡ Some held.0 = slice_get_front (calls_of o h) (circle_calls o a) 0 held.0 front held.1 in
-        let same : circle_push o five_arg ≡ held.0 = cc in
-        sym held.2 ∙ ap (λ (s : Submission). s.actor) (sym same)
+        let held = held_submission h answer.actor 0 answer.place s.order answer.at answer.caller answer.future in
+        let e : Some (circle_push o five_arg) ≡ Some held.0 = slice_get_front (calls_of o h) (circle_calls o a) 0 front held.1 in
+        let same : circle_push o five_arg ≡ held.0 = cc in sym held.2 ∙ ap (λ (s : Submission). s.actor) (sym same)
 
 -- the first item, where it is the first of the list that comes to be
-one_item : (a o : ℕ) (h g : History) (item : RunItem) → IsSound h → IsAfter h g → runs_of a h ≡ item ∷ [] → runs_of o h ≡ [] → calls_of o g ≡ circle_calls o a
-    → runs_of a g ≡ circle_log a o → ⊥
-one_item a o h g item s after here there calls_are runs_are =
-    not_first a o h s (subst (IsPrefix (calls_of o h)) calls_are (after.calls o)) (here ∙ ap (λ (i : RunItem). i ∷ []) same) there
+one_item : (a o : ℕ) (h : History) {g : History} (item : RunItem) → IsSound h → IsAfter h g → runs_of a h ≡ item ∷ [] → runs_of o h ≡ [] →
+    calls_of o g ≡ circle_calls o a → runs_of a g ≡ circle_log a o → ⊥
+one_item a o h item s after here there calls_are runs_are =
+    not_first a o h s (subst (IsPrefix (calls_of o h)) calls_are (after.calls o)) (here ∙ ap (λ i. i ∷ []) same) there
   where
     grown : IsPrefix (item ∷ []) (circle_log a o)
-    grown = subst (λ (l : List RunItem). IsPrefix l (circle_log a o)) here (subst (IsPrefix (runs_of a h)) runs_are (after.runs a))
+    grown = subst (λ l. IsPrefix l (circle_log a o)) here (subst (IsPrefix (runs_of a h)) runs_are (after.runs a))
 
     same : item ≡ circle_ran o 1 2
     same = let e : item ∷ ([] ++ grown.0) ≡ circle_ran o 1 2 ∷ circle_ran a 0 5 ∷ [] = grown.1 in cc
@@ -101,12 +99,12 @@ item_more events rest b c h item s none_1 none_2 end = go (b == 1) (b == 2) refl
     g = after_run b c h (Some item)
 
     more : (a : ℕ) → runs_of a h ≡ [] → runs_of a g ≡ cond (b == a) (item ∷ []) []
-    more a none = under-push a b h.ran item ∙ ap (λ (l : List RunItem). l ++ cond (b == a) (item ∷ []) []) none
+    more a none = under-push a b h.ran item ∙ ap (λ l. l ++ cond (b == a) (item ∷ []) []) none
 
     go : (one two : Bool) → (b == 1) ≡ one → (b == 2) ≡ two → runs_of 1 g ≡ cond one (item ∷ []) [] → runs_of 2 g ≡ cond two (item ∷ []) [] → ⊥
     go true true e f first_future second = let bad : 1 ≡ 2 = sym (eqb-true b 1 e) ∙ eqb-true b 2 f in absurd (omega (arith, bad))
-    go true false e f first_future second = one_item 1 2 g (after_all g events) item s (is_after g events) first_future second end.calls_2 end.runs_1
-    go false true e f first_future second = one_item 2 1 g (after_all g events) item s (is_after g events) second first_future end.calls_1 end.runs_2
+    go true false e f first_future second = one_item 1 2 g item s (is_after g events) first_future second end.calls_2 end.runs_1
+    go false true e f first_future second = one_item 2 1 g item s (is_after g events) second first_future end.calls_1 end.runs_2
     go false false e f first_future second = rest g s first_future second end
 
 event_more : (events : List Event) → Rest events → (h : History) (event : Event) → IsSound (add_event h event) → runs_of 1 h ≡ [] → runs_of 2 h ≡ []

@@ -21,7 +21,7 @@ fn actor_place(a: ActorId) -> usize
 
 /// What a caller put.
 #[derive(Drop)]
-struct Posted {
+struct CallerCauses {
     /// How many calls it submitted, and the letter of each that was sent.
     submitted: u32,
     calls: Vec<Option<u32>>,
@@ -31,7 +31,7 @@ struct Posted {
 
 /// What an actor gave, and whether its kill was asked.
 #[derive(Drop)]
-struct Given {
+struct ActorCauses {
     /// The notice of each call that ran.
     replies: Vec<u32>,
     /// The notices of its death, by the callers' numbers.
@@ -44,8 +44,8 @@ struct Given {
 pub(crate) struct Causes {
     letters: u32,
     notices: u32,
-    callers: Vec<Posted>,
-    actors: Vec<Given>,
+    callers: Vec<CallerCauses>,
+    actors: Vec<ActorCauses>,
 }
 
 impl Causes {
@@ -69,14 +69,14 @@ impl Causes {
     /// A caller and an actor for each number, which did nothing yet.
     fn add_nobody(&mut self, alloc: Global) -> Result<(), NoMemory> {
         for _caller in 0..CALLER_NUMBERS {
-            self.callers.push(Posted {
+            self.callers.push(CallerCauses {
                 submitted: 0,
                 calls: Vec::new(alloc),
                 notes: [None; ACTOR_NUMBERS],
             })?;
         }
         for _actor in 0..ACTOR_NUMBERS {
-            self.actors.push(Given {
+            self.actors.push(ActorCauses {
                 replies: Vec::new(alloc),
                 deaths: [None; CALLER_NUMBERS],
                 is_asked: false,

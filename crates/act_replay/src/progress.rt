@@ -122,7 +122,7 @@ fn is_to(owner: &Owner, k: FutureId, a: ActorId) -> bool {
 
 /// What an actor did so far.
 #[derive(Clone, Copy)]
-pub(crate) struct Served {
+pub(crate) struct ActorProgress {
     /// How many calls it ran.
     pub(crate) ran: usize,
     pub(crate) is_dead: bool,

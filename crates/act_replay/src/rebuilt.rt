@@ -10,7 +10,7 @@
 
 ghost use Rattle.std.specs.Prelude.{◌≡◌, ◌==◌, position};
 
-use crate::progress::{CallerProgress, Served};
+use crate::progress::{ActorProgress, CallerProgress};
 use act_executor::{Ended, Finished};
 use act_kinds::Actor;
 use act_owner::Owner;
@@ -28,7 +28,7 @@ struct Rebuilt {
     notices: u32,
     /// The callers and the actors, in the order in which they were joined.
     callers: Vec<CallerProgress>,
-    actors: Vec<Served>,
+    actors: Vec<ActorProgress>,
 }
 
 /// The place of the caller.
@@ -85,7 +85,7 @@ impl Rebuilt {
             self.callers.push(CallerProgress::new(self.alloc))?;
         }
         for _actor in 0..actors {
-            self.actors.push(Served {
+            self.actors.push(ActorProgress {
                 ran: 0,
                 is_dead: false,
             })?;
@@ -193,20 +193,19 @@ impl Rebuilt {
     }
 
     /// What the actor did so far.
-    fn served_by(&self, at: usize) -> Served {
+    fn actor_at(&self, at: usize) -> ActorProgress {
         match self.actors.get(at) {
-            Some(served) => *served,
-            None => Served {
+            Some(progress) => *progress,
+            None => ActorProgress {
                 ran: 0,
                 is_dead: false,
             },
         }
     }
 
-    /// Notes what the actor did so far.
-    fn note(&mut self, at: usize, served: Served) {
+    fn set_actor(&mut self, at: usize, progress: ActorProgress) {
         if let Some(place) = self.actors.get_mut(at) {
-            *place = served;
+            *place = progress;
         }
     }
 
@@ -218,16 +217,16 @@ impl Rebuilt {
         a: ActorId,
         log: &[RunItem],
     ) -> Result<bool, NoMemory> {
-        let mut served = self.served_by(at);
-        let before = served.ran;
+        let mut progress = self.actor_at(at);
+        let before = progress.ran;
         for place in before..log.len() {
             if !self.run(owners, a, &log[place])? {
                 break;
             }
-            served.ran = place + 1;
+            progress.ran = place + 1;
         }
-        self.note(at, served);
-        Ok(before < served.ran)
+        self.set_actor(at, progress);
+        Ok(before < progress.ran)
     }
 
     /// The actor takes a kill, which one of its callers asked for.
@@ -267,14 +266,14 @@ impl Rebuilt {
         a: ActorId,
         log: &[RunItem],
     ) -> Result<bool, NoMemory> {
-        let served = self.served_by(at);
-        if served.is_dead || served.ran < log.len() {
+        let progress = self.actor_at(at);
+        if progress.is_dead || progress.ran < log.len() {
             return Ok(false);
         }
-        self.note(
+        self.set_actor(
             at,
-            Served {
-                ran: served.ran,
+            ActorProgress {
+                ran: progress.ran,
                 is_dead: true,
             },
         );

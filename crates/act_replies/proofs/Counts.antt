@@ -12,8 +12,9 @@ counts_for a o = cond (is_for a o) 1 0
 more : (w : List (Option ℕ)) (a x : ℕ) → count_by (is_for x) (w ++ Some a ∷ []) ≡ count_by (is_for x) w + cond (a == x) 1 0
 more w a x = sum_by_push (counts_for x) w (Some a)
 
-pub counts_pushed : (w new : List (Option ℕ)) (counts : List ℕ) (a at : ℕ) → IsCounted w counts → at < length counts → at ≡ a → new ≡ w ++ Some a ∷ [] → IsCounted new (slice_set counts at (get_or counts at 0 + 1))
-counts_pushed w new counts a at fine listed at_is is x valid =
+pub counts_pushed : (w : List (Option ℕ)) {new : List (Option ℕ)} (counts : List ℕ) (a : ℕ) {at : ℕ} → IsCounted w counts → at < length counts → at ≡ a →
+    new ≡ w ++ Some a ∷ [] → IsCounted new (slice_set counts at (get_or counts at 0 + 1))
+counts_pushed w {new} counts a {at} fine listed at_is is x valid =
     let counted : count_by (is_for x) new ≡ count_by (is_for x) w + cond (a == x) 1 0 = ap (count_by (is_for x)) is ∙ more w a x in
     elim (eqb_tells a x) [
       | inl t ↦
@@ -35,17 +36,19 @@ less : (w : List (Option ℕ)) (k a x : ℕ) → found_at w k ≡ Some a → cou
 less w k a x here =
     let nobody : Option ℕ = None in
     let counted = sum_by-set (counts_for x) w k nobody nobody (within w k a here) in
-    let was : counts_for x (found_at w k) ≡ cond (a == x) 1 0 = ap (counts_for x) here in
-    omega (arith, counted, was)
+    let was : counts_for x (found_at w k) ≡ cond (a == x) 1 0 = ap (counts_for x) here in omega (arith, counted, was)
 
-pub counts_some : (w : List (Option ℕ)) (counts : List ℕ) (k a at : ℕ) → IsCounted w counts → a ≤ MAX_ACTORS → at ≡ a → found_at w k ≡ Some a → 1 ≤ get_or counts at 0
-counts_some w counts k a at fine valid at_is here =
+pub counts_some : (w : List (Option ℕ)) (counts : List ℕ) (k : ℕ) {a at : ℕ} → IsCounted w counts → a ≤ MAX_ACTORS → at ≡ a → found_at w k ≡ Some a →
+    1 ≤ get_or counts at 0
+counts_some w counts k {a} fine valid at_is here =
     let one : counts_for a (Some a) ≡ 1 = ap {B = ℕ} (λ b. cond b 1 0) (eq-eqb a a refl) in
     omega (arith, less w k a a here, one, fine a valid, ap (λ n. get_or counts n 0) at_is)
 
-pub counts_removed : (w new : List (Option ℕ)) (counts : List ℕ) (k a at : ℕ) → IsCounted w counts → at < length counts → at ≡ a → found_at w k ≡ Some a → new ≡ slice_set w k None → IsCounted new (slice_set counts at (get_or counts at 0 - 1))
-counts_removed w new counts k a at fine listed at_is here is x valid =
-    let counted : count_by (is_for x) new + cond (a == x) 1 0 ≡ count_by (is_for x) w = ap (λ l. count_by (is_for x) l + cond (a == x) 1 0) is ∙ less w k a x here in
+pub counts_removed : (w new : List (Option ℕ)) (counts : List ℕ) (k : ℕ) {a at : ℕ} → IsCounted w counts → at < length counts → at ≡ a → found_at w k ≡ Some a →
+    new ≡ slice_set w k None → IsCounted new (slice_set counts at (get_or counts at 0 - 1))
+counts_removed w new counts k {a} {at} fine listed at_is here is x valid =
+    let counted : count_by (is_for x) new + cond (a == x) 1 0 ≡ count_by (is_for x) w =
+    ap (λ l. count_by (is_for x) l + cond (a == x) 1 0) is ∙ less w k a x here in
     elim (eqb_tells a x) [
       | inl t ↦
           let one : cond (a == x) 1 0 ≡ 1 = ap {B = ℕ} (λ b. cond b 1 0) t.0 in

@@ -17,14 +17,15 @@ pub record IsPlaceOf {A : Type 0} (p : A → Bool) (xs : List A) (x : A) : Type 
   pub passes : p x ≡ true
 
 -- what stands in a filtered list stands in the list, and passes
-pub filter-slice_get : {A : Type 0} (p : A → Bool) (xs : List A) (n : ℕ) (x : A) → slice_get (filter p xs) n ≡ Some x → IsPlaceOf p xs x
-filter-slice_get p [] n x e = cc
-filter-slice_get {A = A} p (y ∷ xs) n x e = go (p y) refl n (λ (m : ℕ). filter-slice_get p xs m x) e
+pub filter-slice_get : {A : Type 0} (p : A → Bool) (xs : List A) (n : ℕ) {x : A} → slice_get (filter p xs) n ≡ Some x → IsPlaceOf p xs x
+filter-slice_get p [] n e = cc
+filter-slice_get {A = A} p (y ∷ xs) n {x} e = go (p y) refl n (λ m. filter-slice_get p xs m {x = x}) e
   where
     later : IsPlaceOf p xs x → IsPlaceOf p (y ∷ xs) x
     later r = record { place = suc r.place; at = r.at; passes = r.passes }
 
-    go : (b : Bool) → p y ≡ b → (n : ℕ) → ((m : ℕ) → slice_get (filter p xs) m ≡ Some x → IsPlaceOf p xs x) → slice_get (cond b (y ∷ filter p xs) (filter p xs)) n ≡ Some x → IsPlaceOf p (y ∷ xs) x
+    go : (b : Bool) → p y ≡ b → (n : ℕ) → ((m : ℕ) → slice_get (filter p xs) m ≡ Some x → IsPlaceOf p xs x) →
+        slice_get (cond b (y ∷ filter p xs) (filter p xs)) n ≡ Some x → IsPlaceOf p (y ∷ xs) x
     go true passes zero rest e = let same : y ≡ x = cc in record { place = zero; at = e; passes = ap p (sym same) ∙ passes }
     go true passes (suc m) rest e = later (rest m e)
     go false passes n rest e = later (rest n e)
@@ -34,19 +35,17 @@ pub record IsCallTo (a : ℕ) (calls : List Submission) (call : ℕ × Submissio
   pub actor : call.1.actor ≡ a
 
 -- a call to an actor stands at its future, and is to that actor
-pub calls_to-at : (a : ℕ) (calls : List Submission) (n : ℕ) (call : ℕ × Submission) → slice_get (calls_to a calls) n ≡ Some call → IsCallTo a calls call
-calls_to-at a calls n call e =
-    let place = filter-slice_get (λ (c : ℕ × Submission). c.1.actor == a) (enumerate_from 0 calls) n call e in
+pub calls_to-at : (a : ℕ) (calls : List Submission) (n : ℕ) {call : ℕ × Submission} → slice_get (calls_to a calls) n ≡ Some call → IsCallTo a calls call
+calls_to-at a calls n {call} e =
+    let place = filter-slice_get (λ (c : ℕ × Submission). c.1.actor == a) (enumerate_from 0 calls) n e in
     go place.place (slice_get calls place.place) refl (sym (slice_get-enumerate_from 0 calls place.place) ∙ place.at) (eqb-true call.1.actor a place.passes)
   where
-    go : (k : ℕ) (o : Option Submission) → slice_get calls k ≡ o → option_map (λ (x : Submission). (0 + k, x)) o ≡ Some call → call.1.actor ≡ a → IsCallTo a calls call
+    go : (k : ℕ) (o : Option Submission) → slice_get calls k ≡ o → option_map (λ x. (0 + k, x)) o ≡ Some call → call.1.actor ≡ a → IsCallTo a calls call
     go k None at e to = cc
     go k (Some x) at e to =
-        let pair : (0 + k, x) ≡ call = cc in
-        let zero_add : 0 + k ≡ k = omega arith in
+        let pair : (0 + k, x) ≡ call = cc in let zero_add : 0 + k ≡ k = omega arith in
         let first : call.0 ≡ k = sym (ap (λ (p : ℕ × Submission). p.0) pair) ∙ zero_add in
-        let second : x ≡ call.1 = ap (λ (p : ℕ × Submission). p.1) pair in
-        record { at = rw (first, ← second) at; actor = to }
+        let second : x ≡ call.1 = ap (λ (p : ℕ × Submission). p.1) pair in record { at = rw (first, ← second) at; actor = to }
 
 -- ---- each item
 
@@ -59,10 +58,10 @@ AreSubmitted h = AllByRecursion (IsSubmitted h) h.ran
 submitted_grows : (h g : History) → Grows h g → PostsAreSound h → (run : ℕ × RunItem) → IsSubmitted h run → IsSubmitted g run
 submitted_grows h g grows s run r =
     let c = run.1.caller in
-    let both = arguments_stay (kept_of c h) (kept_of c g) (kept_extends c h g grows s) r.call.args r.known in
+    let both = arguments_stay (kept_of c h) (kept_of c g) (kept_extends c grows s) r.call.args r.known in
     record {
       call = r.call;
-      at = slice_get_front (calls_of c h) (calls_of c g) run.1.future r.call (calls_grow c h g grows) r.at;
+      at = slice_get_front (calls_of c h) (calls_of c g) run.1.future (calls_grow c grows) r.at;
       method = r.method;
       known = both.0;
       args = r.args ∙ sym both.1;
@@ -70,9 +69,9 @@ submitted_grows h g grows s run r =
 
 -- the next item is as it was submitted
 next_submitted : (a c : ℕ) (h : History) (item : RunItem) → LettersAreSound h → IsNext a c h item → IsSubmitted h (a, item)
-next_submitted a c h item l next = subst (λ (i : RunItem). IsSubmitted h (a, i)) next.is (record {
+next_submitted a c h item l next = subst (λ i. IsSubmitted h (a, i)) next.is (record {
   call = next.call.1;
-  at = (calls_to-at a (calls_of c h) (ran_count c a h) next.call next.at).at;
+  at = (calls_to-at a (calls_of c h) (ran_count c a h) next.at).at;
   method = refl;
   known = known;
   args = refl;
@@ -98,5 +97,5 @@ submitted_step h (Run a c) s l r = go (next_item a c h) refl
     go (Some item) e =
         let grows = after_run_grows a c h (Some item) in
         All_more (IsSubmitted (after_run a c h (Some item))) h.ran (a, item) (submitted_stay h _ grows s r)
-        (submitted_grows h _ grows s (a, item) (next_submitted a c h item l (next_item_is a c h item e)))
+        (submitted_grows h _ grows s (a, item) (next_submitted a c h item l (next_item_is a c h e)))
 submitted_step h event s l r = submitted_stay h _ (added_grows h event) s r

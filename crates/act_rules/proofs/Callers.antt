@@ -1,35 +1,34 @@
 -- How many calls a caller has, and that the callers of a cast are callers.
 use Rattle.act_rules.proofs.Common.{◌≡◌, ℕ, ◌+◌, ◌<◌, ◌≤◌, Bool, true, false, cond, List, [], ◌∷◌, ◌++◌, length, Some, None, refl, subst, arith, length-append}
-use Rattle.act_rules.proofs.Common.{Option, ◌==◌, ◌||◌, find, is_some, nat_lt, nat_le, list_all, list_any, eqb-true, ltb-true, or_right, Arg, Method, RunItem}
-use Rattle.act_rules.proofs.Common.{Submission, Submit, Run, option_map, needs, copies_held, submit_refusal, limit_refusal, is_earlier, ActorSpec, History}
-use Rattle.act_rules.proofs.Common.{contains, under, names, is_caller, calls_of, copies_of, limit_of, next_item, unanswered, submission_refusal, refusal_of}
-use Rattle.act_rules.proofs.Common.{after_run, NoCaller, NoSuchActor, NoCopy, TooManyArgs, BadFuture, TooManyCalls, SubmitRefused}
+use Rattle.act_rules.proofs.Common.{Option, ◌==◌, ◌||◌, find, is_some, nat_lt, nat_le, list_all, list_any, eqb-true, leb-true, ltb-true, or_right, Arg, Method}
+use Rattle.act_rules.proofs.Common.{RunItem, Submission, Submit, Run, option_map, needs, copies_held, submit_refusal, limit_refusal, is_earlier, ActorSpec}
+use Rattle.act_rules.proofs.Common.{History, contains, under, names, is_caller, calls_of, copies_of, limit_of, next_item, unanswered, submission_refusal}
+use Rattle.act_rules.proofs.Common.{refusal_of, after_run, NoCaller, NoSuchActor, NoCopy, TooManyArgs, BadFuture, TooManyCalls, SubmitRefused}
 use Rattle.act_rules.proofs.Lists.{option_map-none, option_or-none}
 use Rattle.act_rules.proofs.Steps.{IsKept}
 use Rattle.act_rules.proofs.Ended.{needs-none, under-push}
 
 -- ---- no caller submits too much
 
+-- no caller has more calls than it may have
 abbrev pub AreFew : History → Type 0
 AreFew h = (c : ℕ) → length (calls_of c h) ≤ 65536
 
--- a call that nothing refuses is below the limit
-pub submit_below : (h : History) (c a : ℕ) (method : Method) (args : List Arg) → refusal_of h (Submit c a method args) ≡ None → length (calls_of c h) < 65536
-submit_below h c a method args e =
-    let count = length (calls_of c h) in
-    let copies = copies_of c a h in
+-- a submission that is accepted has few arguments, and is one of few
+pub submit_fits : (h : History) (c a : ℕ) (method : Method) (args : List Arg) → refusal_of h (Submit c a method args) ≡ None →
+    (length args ≤ 4) × (length (calls_of c h) < 65536)
+submit_fits h c a method args e =
+    let count = length (calls_of c h) in let copies = copies_of c a h in
     let whole = option_map-none SubmitRefused (submission_refusal c a args h)
     (needs-none (is_caller c h) NoCaller (option_map SubmitRefused (submission_refusal c a args h)) e).1 in
     let none = option_or-none (submit_refusal copies count args) (limit_refusal (limit_of c a h) (unanswered c a h)) whole in
-    let last = needs (nat_lt count 65536) TooManyCalls None in
-    let fourth = needs (list_all (is_earlier count) args) BadFuture last in
+    let last = needs (nat_lt count 65536) TooManyCalls None in let fourth = needs (list_all (is_earlier count) args) BadFuture last in
     let third = needs (nat_le (length args) 4) TooManyArgs fourth in
-    let second = needs (nat_lt 0 (copies_held copies)) NoCopy third in
-    let first = needs-none (is_some copies) NoSuchActor second none in
-    let held = needs-none (nat_lt 0 (copies_held copies)) NoCopy third first.1 in
-    let short = needs-none (nat_le (length args) 4) TooManyArgs fourth held.1 in
-    let known = needs-none (list_all (is_earlier count) args) BadFuture last short.1 in
-    ltb-true count 65536 (needs-none (nat_lt count 65536) TooManyCalls None known.1).0
+    let first = needs-none (is_some copies) NoSuchActor (needs (nat_lt 0 (copies_held copies)) NoCopy third) none in
+    let second = needs-none (nat_lt 0 (copies_held copies)) NoCopy third first.1 in
+    let few = needs-none (nat_le (length args) 4) TooManyArgs fourth second.1 in
+    let earlier = needs-none (list_all (is_earlier count) args) BadFuture last few.1 in
+    let room = needs-none (nat_lt count 65536) TooManyCalls None earlier.1 in (leb-true (length args) 4 few.0, ltb-true count 65536 room.0)
 
 one_more_call : (h : History) (c d : ℕ) (call : Submission) → (d ≡ c → length (calls_of c h) < 65536) → length (calls_of c h) ≤ 65536
     → length (under c (h.submitted ++ (d, call) ∷ [])) ≤ 65536
@@ -39,10 +38,11 @@ one_more_call h c d call below few = rw (under-push c d h.submitted call, length
     go true e = let less = below (eqb-true d c e) in omega arith
     go false e = omega arith
 
+-- no event gives a caller more
 pub few_step : IsKept AreFew
 few_step h (Submit d a method args) few accepted c =
     one_more_call h c d (record { actor = a; method = method; args = args })
-    (λ same. subst (λ (x : ℕ). length (calls_of x h) < 65536) same (submit_below h d a method args accepted)) (few c)
+    (λ same. subst (λ x. length (calls_of x h) < 65536) same (submit_fits h d a method args accepted).1) (few c)
 few_step h (Run a d) few accepted c = go (next_item a d h)
   where
     go : (o : Option RunItem) → length (calls_of c (after_run a d h o)) ≤ 65536

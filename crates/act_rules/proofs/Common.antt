@@ -62,7 +62,7 @@ pub use Rattle.std.proofs.Common.{nat_le, nat_lt, neg_ℤ, negsuc, not, option_a
 pub use Rattle.std.proofs.Common.{slice_index_or, subst, suc, sym, take, true, zero, zip, ℕ, ℤ, ⊎_elim, ◌&&◌, ◌++◌, ◌+◌, ◌-◌, ◌<◌, ◌==◌, ◌^◌, ◌||◌, ◌∙◌, ◌∷◌}
 pub use Rattle.std.proofs.Common.{◌≡◌, ◌≢◌, ◌≤◌, ◌⊎◌}
 pub use Rattle.std.proofs.Math.Seq.{get_or-append_seam, take-append_seam, take-length}
-pub use Rattle.std.proofs.lemmas.Bool.{and_from, and_parts, cases_lt, eq-eqb, eqb-true, ltb-false, ltb-true, ne_eqb, not-true, or_cases, or_right}
+pub use Rattle.std.proofs.lemmas.Bool.{and_from, and_parts, cases_lt, eq-eqb, eqb-true, leb-true, ltb-false, ltb-true, ne_eqb, not-true, or_cases, or_right}
 pub use Rattle.std.proofs.lemmas.Bool.Decides.{eqb_tells, nat_tests}
 pub use Rattle.std.proofs.lemmas.Fmt.{decimal-digits_value, decimal_digit, decimal_nonempty, digits_decimal, digits_value-decimal, first_decimal}
 pub use Rattle.std.proofs.lemmas.List.{append-nil, get_or-map, length-map, length_push, map-append, take_more}

@@ -21,8 +21,7 @@ pub run_needs : (h : History) (a c : ℕ) → refusal_of h (Run a c) ≡ None �
 run_needs h a c e =
     let first = needs-none (is_caller c h) NoCaller (needs (names c (cast_of a h)) (Handle NoActor) (needs (not (is_ended a h)) ActorEnded None)) e in
     let second = needs-none (names c (cast_of a h)) (Handle NoActor) (needs (not (is_ended a h)) ActorEnded None) first.1 in
-    let third = needs-none (not (is_ended a h)) ActorEnded None second.1 in
-    (first.0, second.0, not-true (is_ended a h) third.0)
+    let third = needs-none (not (is_ended a h)) ActorEnded None second.1 in (first.0, second.0, not-true (is_ended a h) third.0)
 
 -- one pair more: what stands under its number gets it last, and the rest stays
 pub under-push : {A : Type 0} (n m : ℕ) (pairs : List (ℕ × A)) (x : A) → under n (pairs ++ (m, x) ∷ []) ≡ under n pairs ++ cond (m == n) (x ∷ []) []
@@ -67,8 +66,13 @@ ended_stays a items h (Run b c) held accepted = go (next_item b c h)
     go None = held
     go (Some item) =
         let stays = other_run a b h item held.ended (run_needs h b c accepted).2 in
-        record { ended = subst (λ (items : List RunItem). ended_by a h items ≡ true) (sym stays) held.ended; same = stays ∙ held.same }
-ended_stays a items h (TakeKill b) held accepted = record { ended = more_or (is_dead a h) (is_retired a h) (contains a (h.killed ++ b ∷ []) || has_terminated (runs_of a h)) held.ended (λ dead. more_or (contains a h.killed) (has_terminated (runs_of a h)) (contains a (h.killed ++ b ∷ [])) dead (contains_more a h.killed (b ∷ []))); same = held.same }
+        record { ended = subst (λ items. ended_by a h items ≡ true) (sym stays) held.ended; same = stays ∙ held.same }
+ended_stays a items h (TakeKill b) held accepted =
+    record {
+      ended = more_or (is_dead a h) (is_retired a h) (contains a (h.killed ++ b ∷ []) || has_terminated (runs_of a h)) held.ended
+          (λ dead. more_or (contains a h.killed) (has_terminated (runs_of a h)) (contains a (h.killed ++ b ∷ [])) dead (contains_more a h.killed (b ∷ [])));
+      same = held.same;
+    }
 ended_stays a items h (Retire b) held accepted = record { ended = or_retired _ _ _ held.ended (contains_more a h.retired (b ∷ [])); same = held.same }
 ended_stays a items h other held accepted = record { ended = held.ended; same = held.same }
 
@@ -83,9 +87,9 @@ pub dead_stays : (a : ℕ) (h : History) (event : Event) → refusal_of h event 
 dead_stays a h event accepted dead =
     let grows = added_grows h event in
     let same = (ended_stays a (runs_of a h) h event (record { ended = dead_ended (is_dead a h) (is_retired a h) dead; same = refl }) accepted).same in
-    subst (λ (items : List RunItem). (contains a (add_event h event).killed || has_terminated items) ≡ true) (sym same)
+    subst (λ items. (contains a (add_event h event).killed || has_terminated items) ≡ true) (sym same)
     (more_or (contains a h.killed) (has_terminated (runs_of a h)) (contains a (add_event h event).killed) dead
-    (λ killed. subst (λ (xs : List ℕ). contains a xs ≡ true) grows.killed.1 (contains_more a h.killed grows.killed.0 killed)))
+    (λ killed. subst (λ xs. contains a xs ≡ true) grows.killed.1 (contains_more a h.killed grows.killed.0 killed)))
 
 -- ---- nothing follows a `terminate`
 
@@ -106,7 +110,7 @@ follows_run : (h : History) (b c : ℕ) (item : RunItem) → NothingFollows h �
 follows_run h b c item last live a = rw (under-push a b h.ran item) (go (b == a) refl)
   where
     go : (same : Bool) → (b == a) ≡ same → NothingFollowsAnEnd (runs_of a h ++ cond same (item ∷ []) [])
-    go true e = nothing_follows-push (runs_of a h) item (last a) (not_terminated a h (subst (λ (x : ℕ). is_ended x h ≡ false) (eqb-true b a e) live))
+    go true e = nothing_follows-push (runs_of a h) item (last a) (not_terminated a h (subst (λ x. is_ended x h ≡ false) (eqb-true b a e) live))
     go false e = rw (append-nil (runs_of a h)) (last a)
 
 -- each accepted event keeps it that nothing follows an end in a run list

@@ -33,12 +33,12 @@ pub under_grow : {A : Type 0} (n : ℕ) (xs ys : List (ℕ × A)) → IsPrefix x
 under_grow {A = A} n xs ys f = IsPrefix-map (λ (pair : ℕ × A). pair.1) _ _ (IsPrefix-filter (λ (pair : ℕ × A). pair.0 == n) xs ys f)
 
 -- where a history grows, each actor's run list begins as it was
-pub runs_grow : (a : ℕ) (h g : History) → Grows h g → IsPrefix (runs_of a h) (runs_of a g)
-runs_grow a h g grows = under_grow a h.ran g.ran grows.ran
+pub runs_grow : (a : ℕ) {h g : History} → Grows h g → IsPrefix (runs_of a h) (runs_of a g)
+runs_grow a {h} {g} grows = under_grow a h.ran g.ran grows.ran
 
 -- where a history grows, each caller's calls begin as they were
-pub calls_grow : (c : ℕ) (h g : History) → Grows h g → IsPrefix (calls_of c h) (calls_of c g)
-calls_grow c h g grows = under_grow c h.submitted g.submitted grows.submitted
+pub calls_grow : (c : ℕ) {h g : History} → Grows h g → IsPrefix (calls_of c h) (calls_of c g)
+calls_grow c {h} {g} grows = under_grow c h.submitted g.submitted grows.submitted
 
 -- where calls come behind others, the calls to an actor begin as they were
 pub calls_to_grow : (a : ℕ) (xs ys : List Submission) → IsPrefix xs ys → IsPrefix (calls_to a xs) (calls_to a ys)

@@ -21,43 +21,43 @@ kept_own next = record { own = λ fault e. cc }
 fault_own : (fault : Fault) → is_own fault ≡ true → OwnFault (Err fault)
 fault_own fault own = record { own = λ other e. let same : fault ≡ other = cc in ap is_own (sym same) ∙ own }
 
-need_own : (b : Bool) (fault : Fault) (next : Reply) → is_own fault ≡ true → OwnFault next → OwnFault (need b fault next)
-need_own true fault next own rest = rest
-need_own false fault next own rest = fault_own fault own
+need_own : (b : Bool) (fault : Fault) {next : Reply} → is_own fault ≡ true → OwnFault next → OwnFault (need b fault next)
+need_own true fault own rest = rest
+need_own false fault own rest = fault_own fault own
 
 look_up_own : (state : KindState) (fault : Fault) (o : Option Value) → is_own fault ≡ true → OwnFault (look_up state fault o)
 look_up_own state fault None own = fault_own fault own
 look_up_own state fault (Some value) own = kept_own (state, value)
 
 counter_own : (n : ℤ) (method : Method) (args : List Value) → OwnFault (counter_reply n method args)
-counter_own n Add (Int k ∷ []) = need_own _ _ _ refl (kept_own _)
+counter_own n Add (Int k ∷ []) = need_own _ _ refl (kept_own _)
 counter_own n Add args = fault_own _ refl
 counter_own n Get [] = kept_own _
 counter_own n Get args = fault_own _ refl
 counter_own n method args = fault_own _ refl
 
 table_own : (pairs : List (List ℕ × Value)) (method : Method) (args : List Value) → OwnFault (table_reply pairs method args)
-table_own pairs Put (Text key ∷ value ∷ []) = need_own _ _ _ refl (need_own _ _ _ refl (kept_own _))
+table_own pairs Put (Text key ∷ value ∷ []) = need_own _ _ refl (need_own _ _ refl (kept_own _))
 table_own pairs Put args = fault_own _ refl
-table_own pairs Get (Text key ∷ []) = need_own _ _ _ refl (look_up_own _ _ _ refl)
+table_own pairs Get (Text key ∷ []) = need_own _ _ refl (look_up_own _ _ _ refl)
 table_own pairs Get args = fault_own _ refl
-table_own pairs Del (Text key ∷ []) = need_own _ _ _ refl (look_up_own _ _ _ refl)
+table_own pairs Del (Text key ∷ []) = need_own _ _ refl (look_up_own _ _ _ refl)
 table_own pairs Del args = fault_own _ refl
 table_own pairs Size [] = kept_own _
 table_own pairs Size args = fault_own _ refl
 table_own pairs method args = fault_own _ refl
 
 account_own : (n : ℤ) (method : Method) (args : List Value) → OwnFault (account_reply n method args)
-account_own n Deposit (Int k ∷ []) = need_own _ _ _ refl (need_own _ _ _ refl (kept_own _))
+account_own n Deposit (Int k ∷ []) = need_own _ _ refl (need_own _ _ refl (kept_own _))
 account_own n Deposit args = fault_own _ refl
-account_own n Withdraw (Int k ∷ []) = need_own _ _ _ refl (need_own _ _ _ refl (kept_own _))
+account_own n Withdraw (Int k ∷ []) = need_own _ _ refl (need_own _ _ refl (kept_own _))
 account_own n Withdraw args = fault_own _ refl
 account_own n Balance [] = kept_own _
 account_own n Balance args = fault_own _ refl
 account_own n method args = fault_own _ refl
 
 list_own : (items : List Value) (method : Method) (args : List Value) → OwnFault (list_reply items method args)
-list_own items Push (value ∷ []) = need_own _ _ _ refl (need_own _ _ _ refl (kept_own _))
+list_own items Push (value ∷ []) = need_own _ _ refl (need_own _ _ refl (kept_own _))
 list_own items Push args = fault_own _ refl
 list_own items Pop [] = look_up_own _ _ _ refl
 list_own items Pop args = fault_own _ refl
@@ -81,7 +81,8 @@ reply_own (CounterAt n) = counter_own n
 reply_own (TableOf pairs) = table_own pairs
 reply_own (AccountAt n) = account_own n
 reply_own (ItemsOf items) = list_own items
-reply_own (OwnAt behaviour) = λ method args. let ask : Ask = record { method = method; args = args } in told_own (OwnAt (after_ask ask behaviour)) (behaviour.told [] ask)
+reply_own (OwnAt behaviour) = λ method args. let ask : Ask = record { method = method; args = args } in
+    told_own (OwnAt (after_ask ask behaviour)) (behaviour.told [] ask)
 
 -- so is a fault with which the actor itself answers
 call_own : (state : KindState) (method : Method) (args : List Value) → OwnFault (call_reply state method args)
@@ -102,9 +103,8 @@ asked_alive state item (Ok values) e = replied_alive state (call_reply state ite
 asked_alive state item (Err k) e = cc
 
 -- no place of a run list answers that the actor died
-pub answer_alive : (state : KindState) (items : List RunItem) (place : ℕ) (answer : Answer) → answer_at state items place ≡ Some answer → IsAlive answer
-answer_alive state [] place answer e dead = cc
-answer_alive state (item ∷ items) zero answer e dead =
-    let same : (after_item state item).1 ≡ answer = cc in
-    asked_alive state item (values_of item.args) (same ∙ dead)
-answer_alive state (item ∷ items) (suc place) answer e dead = answer_alive (after_item state item).0 items place answer e dead
+pub answer_alive : (state : KindState) (items : List RunItem) (place : ℕ) {answer : Answer} → answer_at state items place ≡ Some answer → IsAlive answer
+answer_alive state [] place e dead = cc
+answer_alive state (item ∷ items) zero {answer} e dead =
+    let same : (after_item state item).1 ≡ answer = cc in asked_alive state item (values_of item.args) (same ∙ dead)
+answer_alive state (item ∷ items) (suc place) {answer} e dead = answer_alive (after_item state item).0 items place e dead

@@ -20,19 +20,22 @@ abbrev pub has_none : List (Option Answer) → ℕ × Submission → Bool
 has_none kept call = is_none (kept_at kept call.0)
 
 -- of the same calls no more pend where more is answered
-pub fewer : (before after : List (Option Answer)) (calls : List (ℕ × Submission)) → Extends before after → length (filter (has_none after) calls) ≤ length (filter (has_none before) calls)
+pub fewer : (before after : List (Option Answer)) (calls : List (ℕ × Submission)) → Extends before after →
+    length (filter (has_none after) calls) ≤ length (filter (has_none before) calls)
 fewer before after [] extends = omega arith
 fewer before after (call ∷ calls) extends = go (kept_at before call.0) (kept_at after call.0) refl refl (fewer before after calls extends)
   where
-    go : (old new : Option Answer) → kept_at before call.0 ≡ old → kept_at after call.0 ≡ new → length (filter (has_none after) calls) ≤ length (filter (has_none before) calls)
-        → length (cond (is_none new) (call ∷ filter (has_none after) calls) (filter (has_none after) calls)) ≤ length (cond (is_none old) (call ∷ filter (has_none before) calls) (filter (has_none before) calls))
+    go : (old new : Option Answer) → kept_at before call.0 ≡ old → kept_at after call.0 ≡ new → length (filter (has_none after) calls) ≤ length
+        (filter (has_none before) calls) → length (cond (is_none new) (call ∷ filter (has_none after) calls) (filter (has_none after) calls)) ≤ length
+        (cond (is_none old) (call ∷ filter (has_none before) calls) (filter (has_none before) calls))
     go None None was is rest = omega arith
     go None (Some answer) was is rest = omega arith
     go (Some answer) None was is rest = let bad : Some answer ≡ None = sym (extends call.0 answer was) ∙ is in cc
     go (Some answer) (Some later) was is rest = rest
 
-pending_after : (h g : History) (c a : ℕ) → Grows h g → PostsAreSound h → unanswered c a g ≤ length (filter (has_none (kept_of c h)) (calls_to a (calls_of c g)))
-pending_after h g c a grows sound = fewer (kept_of c h) (kept_of c g) (calls_to a (calls_of c g)) (kept_extends c h g grows sound)
+pending_after : (h : History) {g : History} (c a : ℕ) → Grows h g → PostsAreSound h →
+    unanswered c a g ≤ length (filter (has_none (kept_of c h)) (calls_to a (calls_of c g)))
+pending_after h {g} c a grows sound = fewer (kept_of c h) (kept_of c g) (calls_to a (calls_of c g)) (kept_extends c grows sound)
 
 -- ---- each event
 
@@ -41,28 +44,33 @@ AreWithin h = (c a limit : ℕ) → limit_of c a h ≡ Some limit → unanswered
 
 -- where the casts are the same, so is the limit of a caller at an actor
 pub limit_of-same : (h g : History) (c a : ℕ) → g.casts ≡ h.casts → limit_of c a g ≡ limit_of c a h
-limit_of-same h g c a casts = ap (λ (l : List ActorSpec). limit_of c a (opening l)) casts
+limit_of-same h g c a casts = ap (λ l. limit_of c a (opening l)) casts
 
 -- where no call is submitted
-calm : (h g : History) → Grows h g → PostsAreSound h → g.submitted ≡ h.submitted → AreWithin h → AreWithin g
-calm h g grows sound same within c a limit is =
+calm : (h : History) {g : History} → Grows h g → PostsAreSound h → g.submitted ≡ h.submitted → AreWithin h → AreWithin g
+calm h {g} grows sound same within c a limit is =
     let before = within c a limit (sym (limit_of-same h g c a grows.casts) ∙ is) in
-    let after : unanswered c a g ≤ unanswered c a h = subst (λ (calls : List Submission). unanswered c a g ≤ length (filter (has_none (kept_of c h)) (calls_to a calls))) (ap (under c) same) (pending_after h g c a grows sound) in
+    let after : unanswered c a g ≤ unanswered c a h =
+    subst (λ calls. unanswered c a g ≤ length (filter (has_none (kept_of c h)) (calls_to a calls))) (ap (under c) same) (pending_after h c a grows sound) in
     omega arith
 
 -- a submission is accepted below the limit
-below : (h : History) (c a limit : ℕ) (method : Method) (args : List Arg) → refusal_of h (Submit c a method args) ≡ None → limit_of c a h ≡ Some limit → unanswered c a h < limit
+below : (h : History) (c a limit : ℕ) (method : Method) (args : List Arg) → refusal_of h (Submit c a method args) ≡ None → limit_of c a h ≡ Some limit →
+    unanswered c a h < limit
 below h c a limit method args accepted is =
-    let whole = option_map-none SubmitRefused (submission_refusal c a args h) (needs-none (is_caller c h) NoCaller (option_map SubmitRefused (submission_refusal c a args h)) accepted).1 in
-    let free = option_or-none_second (submit_refusal (copies_of c a h) (length (calls_of c h)) args) (limit_refusal (limit_of c a h) (unanswered c a h)) whole in
-    let fits : limit_refusal (Some limit) (unanswered c a h) ≡ None = subst (λ (o : Option ℕ). limit_refusal o (unanswered c a h) ≡ None) is free in
+    let whole = option_map-none SubmitRefused (submission_refusal c a args h)
+    (needs-none (is_caller c h) NoCaller (option_map SubmitRefused (submission_refusal c a args h)) accepted).1 in
+    let free =
+    option_or-none_second (submit_refusal (copies_of c a h) (length (calls_of c h)) args) (limit_refusal (limit_of c a h) (unanswered c a h)) whole in
+    let fits : limit_refusal (Some limit) (unanswered c a h) ≡ None = subst (λ o. limit_refusal o (unanswered c a h) ≡ None) is free in
     ltb-true (unanswered c a h) limit (needs-none (nat_lt (unanswered c a h) limit) PendingLimit None fits).0
 
 -- one call more
-grown : (h : History) (d b : ℕ) (method : Method) (args : List Arg) → PostsAreSound h → AreWithin h → refusal_of h (Submit d b method args) ≡ None → AreWithin (add_event h (Submit d b method args))
+grown : (h : History) (d b : ℕ) (method : Method) (args : List Arg) → PostsAreSound h → AreWithin h → refusal_of h (Submit d b method args) ≡ None →
+    AreWithin (add_event h (Submit d b method args))
 grown h d b method args sound within accepted c a limit is =
-    let after = pending_after h (add_event h (Submit d b method args)) c a (added_grows h (Submit d b method args)) sound in
-    let few = subst (λ (calls : List Submission). length (filter (has_none (kept_of c h)) (calls_to a calls)) ≤ limit) (sym (under-push c d h.submitted call)) (go (d == c) refl) in
+    let after = pending_after h c a (added_grows h (Submit d b method args)) sound in
+    let few = subst (λ calls. length (filter (has_none (kept_of c h)) (calls_to a calls)) ≤ limit) (sym (under-push c d h.submitted call)) (go (d == c) refl) in
     omega (arith, after, few)
   where
     call : Submission
@@ -72,11 +80,14 @@ grown h d b method args sound within accepted c a limit is =
     one true x = omega arith
     one false x = omega arith
 
-    inner : (to : Bool) → (b == a) ≡ to → d ≡ c → length (filter (has_none (kept_of c h)) (calls_to a (calls_of c h) ++ cond to ((0 + length (calls_of c h), call) ∷ []) [])) ≤ limit
+    inner : (to : Bool) → (b == a) ≡ to → d ≡ c →
+        length (filter (has_none (kept_of c h)) (calls_to a (calls_of c h) ++ cond to ((0 + length (calls_of c h), call) ∷ []) [])) ≤ limit
     inner true e caller =
-        let room : unanswered c a h < limit = subst (λ (x : ℕ). limit_of x a h ≡ Some limit → unanswered x a h < limit) caller (subst (λ (y : ℕ). limit_of d y h ≡ Some limit → unanswered d y h < limit) (eqb-true b a e) (below h d b limit method args accepted)) is in
+        let room : unanswered c a h < limit = subst (λ x. limit_of x a h ≡ Some limit → unanswered x a h < limit) caller
+        (subst (λ y. limit_of d y h ≡ Some limit → unanswered d y h < limit) (eqb-true b a e) (below h d b limit method args accepted)) is in
         let last = one (has_none (kept_of c h) (0 + length (calls_of c h), call)) (0 + length (calls_of c h), call) in
-        rw (filter-append (has_none (kept_of c h)) (calls_to a (calls_of c h)) ((0 + length (calls_of c h), call) ∷ []), length-append) (omega (arith, room, last))
+        rw (filter-append (has_none (kept_of c h)) (calls_to a (calls_of c h)) ((0 + length (calls_of c h), call) ∷ []), length-append)
+        (omega (arith, room, last))
     inner false e caller = rw (append-nil (calls_to a (calls_of c h))) (within c a limit is)
 
     go : (same : Bool) → (d == c) ≡ same → length (filter (has_none (kept_of c h)) (calls_to a (calls_of c h ++ cond same (call ∷ []) []))) ≤ limit
@@ -85,12 +96,12 @@ grown h d b method args sound within accepted c a limit is =
 
 within_step : (h : History) (event : Event) → PostsAreSound h → AreWithin h → refusal_of h event ≡ None → AreWithin (add_event h event)
 within_step h (Submit c a method args) sound within accepted = grown h c a method args sound within accepted
-within_step h (Run a c) sound within accepted = calm h (add_event h (Run a c)) (added_grows h (Run a c)) sound (go (next_item a c h)) within
+within_step h (Run a c) sound within accepted = calm h (added_grows h (Run a c)) sound (go (next_item a c h)) within
   where
     go : (o : Option RunItem) → (after_run a c h o).submitted ≡ h.submitted
     go None = refl
     go (Some item) = refl
-within_step h event sound within accepted = calm h (add_event h event) (added_grows h event) sound refl within
+within_step h event sound within accepted = calm h (added_grows h event) sound refl within
 
 -- what a step relies on, and what it keeps
 record AreSoundWithin (h : History) : Type 0 where

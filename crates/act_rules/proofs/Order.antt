@@ -18,10 +18,11 @@ pub record IsNext (a c : ℕ) (h : History) (item : RunItem) : Type 0 where
   pub is : run_item c (ran_count c a h) (kept_of c h) call ≡ item
 
 -- the item that runs next is of the caller's next call, and the letter of that call has arrived
-pub next_item_is : (a c : ℕ) (h : History) (item : RunItem) → next_item a c h ≡ Some item → IsNext a c h item
-next_item_is a c h item e = go (has_letter (CallLetter c a (ran_count c a h)) h.arrived) (slice_get (calls_to a (calls_of c h)) (ran_count c a h)) refl refl e
+pub next_item_is : (a c : ℕ) (h : History) {item : RunItem} → next_item a c h ≡ Some item → IsNext a c h item
+next_item_is a c h {item} e = go (has_letter (CallLetter c a (ran_count c a h)) h.arrived) (slice_get (calls_to a (calls_of c h)) (ran_count c a h)) refl refl e
   where
-    go : (b : Bool) (o : Option (ℕ × Submission)) → has_letter (CallLetter c a (ran_count c a h)) h.arrived ≡ b → slice_get (calls_to a (calls_of c h)) (ran_count c a h) ≡ o → cond b (option_map (run_item c (ran_count c a h) (kept_of c h)) o) None ≡ Some item → IsNext a c h item
+    go : (b : Bool) (o : Option (ℕ × Submission)) → has_letter (CallLetter c a (ran_count c a h)) h.arrived ≡ b → slice_get (calls_to a (calls_of c h))
+        (ran_count c a h) ≡ o → cond b (option_map (run_item c (ran_count c a h) (kept_of c h)) o) None ≡ Some item → IsNext a c h item
     go true None has at e = cc
     go true (Some call) has at e = record { call = call; arrived = has; at = at; is = cc }
     go false o has at e = cc
@@ -44,36 +45,37 @@ numbers_grow : (a : ℕ) (xs ys : List Submission) → IsPrefix xs ys → IsPref
 numbers_grow a xs ys f = IsPrefix-enumerate _ _ (IsPrefix-map (λ (call : ℕ × Submission). call.0) _ _ (calls_to_grow a xs ys f))
 
 -- one item more in a run list, of its caller's next call
-order_more : (c : ℕ) (items : List RunItem) (item : RunItem) (all : List (ℕ × ℕ)) → IsPrefix (map numbered (items_of c items)) all → ((item.caller == c) ≡ true → slice_get all (length (items_of c items)) ≡ Some (numbered item)) → IsPrefix (map numbered (items_of c (items ++ item ∷ []))) all
+order_more : (c : ℕ) (items : List RunItem) (item : RunItem) (all : List (ℕ × ℕ)) → IsPrefix (map numbered (items_of c items)) all → ((item.caller == c) ≡
+    true → slice_get all (length (items_of c items)) ≡ Some (numbered item)) → IsPrefix (map numbered (items_of c (items ++ item ∷ []))) all
 order_more c items item all f next = rw (items_of-push c items item, map-append) (go (item.caller == c) next)
   where
-    go : (b : Bool) → (b ≡ true → slice_get all (length (items_of c items)) ≡ Some (numbered item)) → IsPrefix (map numbered (items_of c items) ++ map numbered (cond b (item ∷ []) [])) all
-    go true next = front_next (map numbered (items_of c items)) all (numbered item) f (subst (λ (n : ℕ). slice_get all n ≡ Some (numbered item)) (sym (length-map (items_of c items) numbered)) (next refl))
+    go : (b : Bool) → (b ≡ true → slice_get all (length (items_of c items)) ≡ Some (numbered item)) →
+        IsPrefix (map numbered (items_of c items) ++ map numbered (cond b (item ∷ []) [])) all
+    go true next = front_next (map numbered (items_of c items)) all f
+        (subst (λ n. slice_get all n ≡ Some (numbered item)) (sym (length-map (items_of c items) numbered)) (next refl))
     go false next = rw append-nil f
 
 next_number : (a c : ℕ) (h : History) (item : RunItem) → IsNext a c h item → slice_get (numbers a (calls_of c h)) (ran_count c a h) ≡ Some (numbered item)
 next_number a c h item next =
-    let n = ran_count c a h in
-    let calls = calls_to a (calls_of c h) in
-    let first : slice_get (map (λ (call : ℕ × Submission). call.0) calls) n ≡ Some next.call.0 = slice_get-map (λ (call : ℕ × Submission). call.0) calls n ∙ ap (option_map (λ (call : ℕ × Submission). call.0)) next.at in
+    let n = ran_count c a h in let calls = calls_to a (calls_of c h) in
+    let first : slice_get (map (λ (call : ℕ × Submission). call.0) calls) n ≡ Some next.call.0 =
+    slice_get-map (λ (call : ℕ × Submission). call.0) calls n ∙ ap (option_map (λ (call : ℕ × Submission). call.0)) next.at in
     let zero_add : 0 + n ≡ n = omega arith in
     slice_get-enumerate_from 0 (map (λ (call : ℕ × Submission). call.0) calls) n
-    ∙ rw (first, zero_add) (ap (λ (i : RunItem). Some (numbered i)) next.is)
+    ∙ rw (first, zero_add) (ap (λ i. Some (numbered i)) next.is)
 
-order_run : (a c : ℕ) (h : History) (item : RunItem) → IsNext a c h item → InOrder h → (b d : ℕ) → IsPrefix (map numbered (items_of d (under b (h.ran ++ (a, item) ∷ [])))) (numbers b (calls_of d h))
+order_run : (a c : ℕ) (h : History) (item : RunItem) → IsNext a c h item → InOrder h → (b d : ℕ) →
+    IsPrefix (map numbered (items_of d (under b (h.ran ++ (a, item) ∷ [])))) (numbers b (calls_of d h))
 order_run a c h item next order b d = rw (under-push b a h.ran item) (go (a == b) refl)
   where
     go : (same : Bool) → (a == b) ≡ same → IsPrefix (map numbered (items_of d (runs_of b h ++ cond same (item ∷ []) []))) (numbers b (calls_of d h))
     go false e = rw append-nil (order b d)
-    go true e = order_more d (runs_of b h) item (numbers b (calls_of d h)) (order b d) (λ is.
-        let one : a ≡ b = eqb-true a b e in
-        let two : c ≡ d = ap (λ (i : RunItem). i.caller) next.is ∙ eqb-true item.caller d is in
-        subst (λ (x : ℕ). slice_get (numbers x (calls_of d h)) (ran_count d x h) ≡ Some (numbered item)) one
-        (subst (λ (y : ℕ). slice_get (numbers a (calls_of y h)) (ran_count y a h) ≡ Some (numbered item)) two (next_number a c h item next)))
+    go true e = order_more d (runs_of b h) item (numbers b (calls_of d h)) (order b d) (λ is. let one : a ≡ b = eqb-true a b e in let two : c ≡ d =
+        ap (λ (i : RunItem). i.caller) next.is ∙ eqb-true item.caller d is in subst (λ x. slice_get (numbers x (calls_of d h)) (ran_count d x h) ≡ Some
+        (numbered item)) one (subst (λ y. slice_get (numbers a (calls_of y h)) (ran_count y a h) ≡ Some (numbered item)) two (next_number a c h item next)))
 
 order_stays : (h g : History) → Grows h g → InOrder h → g.ran ≡ h.ran → InOrder g
-order_stays h g grows order ran a c =
-    rw ran (front_trans _ _ _ (order a c) (numbers_grow a (calls_of c h) (calls_of c g) (calls_grow c h g grows)))
+order_stays h g grows order ran a c = rw ran (front_trans _ _ _ (order a c) (numbers_grow a (calls_of c h) (calls_of c g) (calls_grow c grows)))
 
 pub order_step : (h : History) (event : Event) → InOrder h → InOrder (add_event h event)
 order_step h (Submit c a method args) order = order_stays h _ (added_grows h (Submit c a method args)) order refl
@@ -81,5 +83,5 @@ order_step h (Run a c) order = go (next_item a c h) refl
   where
     go : (o : Option RunItem) → next_item a c h ≡ o → InOrder (after_run a c h o)
     go None e = order
-    go (Some item) e = order_run a c h item (next_item_is a c h item e) order
+    go (Some item) e = order_run a c h item (next_item_is a c h e) order
 order_step h event order = order

@@ -63,8 +63,8 @@ pub names_is : (c a : ℕ) (casts : List ActorSpec) → Differ casts → names c
 names_is c a [] differ = refl
 names_is c a (cast ∷ casts) differ = go (cast.actor == a) (contains c cast.callers) refl refl (names_is c a casts (rest_differ cast casts differ))
   where
-    go : (here named : Bool) → (cast.actor == a) ≡ here → contains c cast.callers ≡ named → names c (find (λ x. x.actor == a) casts) ≡ has a (actors_naming c casts)
-        → names c (cond here (Some cast) (find (λ x. x.actor == a) casts)) ≡ has a (actors_by named cast (naming c casts))
+    go : (here named : Bool) → (cast.actor == a) ≡ here → contains c cast.callers ≡ named → names c (find (λ x. x.actor == a) casts) ≡ has a
+        (actors_naming c casts) → names c (cond here (Some cast) (find (λ x. x.actor == a) casts)) ≡ has a (actors_by named cast (naming c casts))
     go true true e f rest = rw (e, f) refl
     go true false e f rest =
         let same : cast.actor ≡ a = eqb-true cast.actor a e in
@@ -76,7 +76,8 @@ nobody : (c : ℕ) (casts : List ActorSpec) → list_any (λ cast. contains c ca
 nobody c [] e = refl
 nobody c (cast ∷ casts) e = go (contains c cast.callers) e (nobody c casts)
   where
-    go : (b : Bool) → (b || list_any (λ x. contains c x.callers) casts) ≡ false → (list_any (λ x. contains c x.callers) casts ≡ false → actors_naming c casts ≡ []) → actors_by b cast (naming c casts) ≡ []
+    go : (b : Bool) → (b || list_any (λ x. contains c x.callers) casts) ≡ false →
+        (list_any (λ x. contains c x.callers) casts ≡ false → actors_naming c casts ≡ []) → actors_by b cast (naming c casts) ≡ []
     go true e rest = cc
     go false e rest = rest e
 
@@ -134,19 +135,21 @@ both_refused P h g p q event refused e same before later = go (refusal_of h even
     go (Some refusal) false e = cc
 
 -- the refusal of a caller that is known
-gate : {R S : Type 0} (known : Bool) (stranger : S) (f : R → S) (o : Option R) → (known ≡ false → is_some o ≡ true) → is_some (needs known stranger (option_map f o)) ≡ is_some o
+gate : {R S : Type 0} (known : Bool) (stranger : S) (f : R → S) (o : Option R) → (known ≡ false → is_some o ≡ true) →
+    is_some (needs known stranger (option_map f o)) ≡ is_some o
 gate true stranger f None h = refl
 gate true stranger f (Some r) h = refl
 gate false stranger f o h = sym (h refl)
 
 -- the refusal of a caller that is known, where it isn't that of a limit
-limit_gate : (known : Bool) (refusal : Option SubmitRefusal) (limit : Option ℕ) (pending : ℕ)
-    → is_limit (needs known NoCaller (option_map SubmitRefused (option_or refusal (limit_refusal limit pending)))) ≡ false → (known ≡ false → is_some refusal ≡ true)
-    → is_some (needs known NoCaller (option_map SubmitRefused (option_or refusal (limit_refusal limit pending)))) ≡ is_some refusal
+limit_gate : (known : Bool) (refusal : Option SubmitRefusal) (limit : Option ℕ) (pending : ℕ) → is_limit
+    (needs known NoCaller (option_map SubmitRefused (option_or refusal (limit_refusal limit pending)))) ≡ false → (known ≡ false → is_some refusal ≡ true) →
+    is_some (needs known NoCaller (option_map SubmitRefused (option_or refusal (limit_refusal limit pending)))) ≡ is_some refusal
 limit_gate true None None pending e h = refl
 limit_gate true None (Some limit) pending e h = go (nat_lt pending limit) e
   where
-    go : (b : Bool) → is_limit (option_map SubmitRefused (needs b PendingLimit None)) ≡ false → is_some (option_map SubmitRefused (needs b PendingLimit None)) ≡ false
+    go : (b : Bool) → is_limit (option_map SubmitRefused (needs b PendingLimit None)) ≡ false →
+        is_some (option_map SubmitRefused (needs b PendingLimit None)) ≡ false
     go true e = refl
     go false e = cc
 limit_gate true (Some refusal) limit pending e h = refl
@@ -162,14 +165,16 @@ held_leaves P h event e held = go (refusal_of h event) e
 
 module _ (c : ℕ) (casts : List ActorSpec) (differ : Differ casts) where
   copies_is : (a : ℕ) (h : History) (p : Progress) → Agrees c casts h p → copies_of c a h ≡ holds a (actors_naming c casts) p
-  copies_is a h p agrees = rw (agrees.opened, names_is c a casts differ, times-under c a h.copied, times-under c a h.released, agrees.copied, agrees.released) refl
+  copies_is a h p agrees =
+      rw (agrees.opened, names_is c a casts differ, times-under c a h.copied, times-under c a h.released, agrees.copied, agrees.released) refl
 
   -- a caller that no cast names holds nothing
   holds_none : (a : ℕ) (h : History) (p : Progress) → Agrees c casts h p → is_caller c h ≡ false → holds a (actors_naming c casts) p ≡ None
-  holds_none a h p agrees e = let none : actors_naming c casts ≡ [] = nobody c casts (ap (λ cs. list_any (λ x. contains c x.callers) cs) (sym agrees.opened) ∙ e) in rw none refl
+  holds_none a h p agrees e = let none : actors_naming c casts ≡ [] =
+      nobody c casts (ap (λ cs. list_any (λ x. contains c x.callers) cs) (sym agrees.opened) ∙ e) in rw none refl
 
-  submission_refused : (a : ℕ) (method : Method) (args : List Arg) (h : History) (p : Progress) → is_held_back h (Submit c a method args) ≡ false → Agrees c casts h p
-      → is_some (refusal_of h (Submit c a method args)) ≡ is_refused (actors_naming c casts) p (step.Submit a method args)
+  submission_refused : (a : ℕ) (method : Method) (args : List Arg) (h : History) (p : Progress) → is_held_back h (Submit c a method args) ≡ false →
+      Agrees c casts h p → is_some (refusal_of h (Submit c a method args)) ≡ is_refused (actors_naming c casts) p (step.Submit a method args)
   submission_refused a method args h p through agrees =
       let same : submit_refusal (copies_of c a h) (length (calls_of c h)) args ≡ submit_refusal (holds a (actors_naming c casts) p) (length p.submitted) args
       = rw (copies_is a h p agrees, agrees.submitted) refl in
@@ -177,16 +182,21 @@ module _ (c : ℕ) (casts : List ActorSpec) (differ : Differ casts) where
       (λ e. ap is_some same ∙ rw (holds_none a h p agrees e) refl)
       ∙ ap is_some same
 
-  copy_refused : (a : ℕ) (h : History) (p : Progress) → Agrees c casts h p → is_some (refusal_of h (Copy c a)) ≡ is_refused (actors_naming c casts) p (step.Copy a)
-  copy_refused a h p agrees = rw (copies_is a h p agrees) (gate (is_caller c h) NoCaller Handle (copy_refusal (holds a (actors_naming c casts) p)) (λ e. rw (holds_none a h p agrees e) refl))
+  copy_refused : (a : ℕ) (h : History) (p : Progress) → Agrees c casts h p →
+      is_some (refusal_of h (Copy c a)) ≡ is_refused (actors_naming c casts) p (step.Copy a)
+  copy_refused a h p agrees = rw (copies_is a h p agrees)
+      (gate (is_caller c h) NoCaller Handle (copy_refusal (holds a (actors_naming c casts) p)) (λ e. rw (holds_none a h p agrees e) refl))
 
-  release_refused : (a : ℕ) (h : History) (p : Progress) → Agrees c casts h p → is_some (refusal_of h (Release c a)) ≡ is_refused (actors_naming c casts) p (step.Release a)
-  release_refused a h p agrees = rw (copies_is a h p agrees) (gate (is_caller c h) NoCaller Handle (handle_refusal (holds a (actors_naming c casts) p)) (λ e. rw (holds_none a h p agrees e) refl))
+  release_refused : (a : ℕ) (h : History) (p : Progress) → Agrees c casts h p →
+      is_some (refusal_of h (Release c a)) ≡ is_refused (actors_naming c casts) p (step.Release a)
+  release_refused a h p agrees = rw (copies_is a h p agrees)
+      (gate (is_caller c h) NoCaller Handle (handle_refusal (holds a (actors_naming c casts) p)) (λ e. rw (holds_none a h p agrees e) refl))
 
-  own_submission : (a : ℕ) (method : Method) (args : List Arg) (h : History) (p : Progress) → is_held_back h (Submit c a method args) ≡ false → Agrees c casts h p
-      → Agrees c casts (after h (Submit c a method args)) (next (actors_naming c casts) p (step.Submit a method args))
+  own_submission : (a : ℕ) (method : Method) (args : List Arg) (h : History) (p : Progress) → is_held_back h (Submit c a method args) ≡ false →
+      Agrees c casts h p → Agrees c casts (after h (Submit c a method args)) (next (actors_naming c casts) p (step.Submit a method args))
   own_submission a method args h p through agrees =
-      both_refused (Agrees c casts) h (add_event h (Submit c a method args)) p (do_step p (step.Submit a method args)) (Submit c a method args) _ (submission_refused a method args h p through agrees) refl agrees (record {
+      both_refused (Agrees c casts) h (add_event h (Submit c a method args)) p (do_step p (step.Submit a method args))
+      (Submit c a method args) _ (submission_refused a method args h p through agrees) refl agrees (record {
         opened = agrees.opened;
         submitted = own c h.submitted _ p.submitted agrees.submitted;
         copied = agrees.copied;
@@ -202,9 +212,11 @@ module _ (c : ℕ) (casts : List ActorSpec) (differ : Differ casts) where
         released = agrees.released;
       })
 
-  own_release : (a : ℕ) (h : History) (p : Progress) → Agrees c casts h p → Agrees c casts (after h (Release c a)) (next (actors_naming c casts) p (step.Release a))
+  own_release : (a : ℕ) (h : History) (p : Progress) → Agrees c casts h p →
+      Agrees c casts (after h (Release c a)) (next (actors_naming c casts) p (step.Release a))
   own_release a h p agrees =
-      both_refused (Agrees c casts) h (add_event h (Release c a)) p (do_step p (step.Release a)) (Release c a) _ (release_refused a h p agrees) refl agrees (record {
+      both_refused (Agrees c casts) h (add_event h (Release c a)) p (do_step p (step.Release a))
+      (Release c a) _ (release_refused a h p agrees) refl agrees (record {
         opened = agrees.opened;
         submitted = agrees.submitted;
         copied = agrees.copied;
@@ -212,7 +224,8 @@ module _ (c : ℕ) (casts : List ActorSpec) (differ : Differ casts) where
       })
 
   -- a history with the same calls, copies and releases
-  alike : (h g : History) (p : Progress) → g.casts ≡ h.casts → g.submitted ≡ h.submitted → g.copied ≡ h.copied → g.released ≡ h.released → Agrees c casts h p → Agrees c casts g p
+  alike : (h g : History) (p : Progress) → g.casts ≡ h.casts → g.submitted ≡ h.submitted → g.copied ≡ h.copied → g.released ≡ h.released → Agrees c casts h p →
+      Agrees c casts g p
   alike h g p casts_same submitted_same copied_same released_same agrees = record {
     opened = casts_same ∙ agrees.opened;
     submitted = ap (under c) submitted_same ∙ agrees.submitted;
@@ -228,14 +241,17 @@ module _ (c : ℕ) (casts : List ActorSpec) (differ : Differ casts) where
   quiet h event p agrees later = after_keeps (λ g. Agrees c casts g p) h event agrees (λ _. later)
 
   -- each event that no limit holds back
-  moves : (h : History) (event : Event) (p : Progress) → is_held_back h event ≡ false → Agrees c casts h p → Agrees c casts (after h event) (moved c (actors_naming c casts) p event)
+  moves : (h : History) (event : Event) (p : Progress) → is_held_back h event ≡ false → Agrees c casts h p →
+      Agrees c casts (after h event) (moved c (actors_naming c casts) p event)
   moves h (Submit d a method args) p through agrees = go (d == c) refl
     where
-      go : (mine : Bool) → (d == c) ≡ mine → Agrees c casts (after h (Submit d a method args)) (cond mine (next (actors_naming c casts) p (step.Submit a method args)) p)
+      go : (mine : Bool) → (d == c) ≡ mine →
+          Agrees c casts (after h (Submit d a method args)) (cond mine (next (actors_naming c casts) p (step.Submit a method args)) p)
       go true e =
           let same : d ≡ c = eqb-true d c e in
           let own_through = subst (λ x. is_held_back h (Submit x a method args) ≡ false) same through in
-          subst (λ x. Agrees c casts (after h (Submit x a method args)) (next (actors_naming c casts) p (step.Submit a method args))) (sym same) (own_submission a method args h p own_through agrees)
+          subst (λ x. Agrees c casts (after h (Submit x a method args)) (next (actors_naming c casts) p (step.Submit a method args))) (sym same)
+          (own_submission a method args h p own_through agrees)
       go false e = quiet h (Submit d a method args) p agrees (record {
         opened = agrees.opened;
         submitted = others c d h.submitted _ p.submitted e agrees.submitted;
@@ -245,7 +261,8 @@ module _ (c : ℕ) (casts : List ActorSpec) (differ : Differ casts) where
   moves h (Copy d a) p through agrees = go (d == c) refl
     where
       go : (mine : Bool) → (d == c) ≡ mine → Agrees c casts (after h (Copy d a)) (cond mine (next (actors_naming c casts) p (step.Copy a)) p)
-      go true e = let same : d ≡ c = eqb-true d c e in subst (λ x. Agrees c casts (after h (Copy x a)) (next (actors_naming c casts) p (step.Copy a))) (sym same) (own_copy a h p agrees)
+      go true e = let same : d ≡ c = eqb-true d c e in
+          subst (λ x. Agrees c casts (after h (Copy x a)) (next (actors_naming c casts) p (step.Copy a))) (sym same) (own_copy a h p agrees)
       go false e = quiet h (Copy d a) p agrees (record {
         opened = agrees.opened;
         submitted = agrees.submitted;
@@ -255,7 +272,8 @@ module _ (c : ℕ) (casts : List ActorSpec) (differ : Differ casts) where
   moves h (Release d a) p through agrees = go (d == c) refl
     where
       go : (mine : Bool) → (d == c) ≡ mine → Agrees c casts (after h (Release d a)) (cond mine (next (actors_naming c casts) p (step.Release a)) p)
-      go true e = let same : d ≡ c = eqb-true d c e in subst (λ x. Agrees c casts (after h (Release x a)) (next (actors_naming c casts) p (step.Release a))) (sym same) (own_release a h p agrees)
+      go true e = let same : d ≡ c = eqb-true d c e in
+          subst (λ x. Agrees c casts (after h (Release x a)) (next (actors_naming c casts) p (step.Release a))) (sym same) (own_release a h p agrees)
       go false e = quiet h (Release d a) p agrees (record {
         opened = agrees.opened;
         submitted = agrees.submitted;
@@ -265,15 +283,17 @@ module _ (c : ℕ) (casts : List ActorSpec) (differ : Differ casts) where
   moves h (Run a d) p through agrees = quiet h (Run a d) p agrees (run_agrees a d h p (next_item a d h) agrees)
   moves h event p through agrees = quiet h event p agrees (alike h _ p refl refl refl refl agrees)
 
-  all_agree : (h : History) (events : List Event) (p : Progress) → Agrees c casts h p → Agrees c casts (after_all h events) (moved_all c (actors_naming c casts) p (let_through h events))
+  all_agree : (h : History) (events : List Event) (p : Progress) → Agrees c casts h p →
+      Agrees c casts (after_all h events) (moved_all c (actors_naming c casts) p (let_through h events))
   all_agree h [] p agrees = agrees
   all_agree h (event ∷ events) p agrees = go (is_held_back h event) refl (λ q. all_agree (after h event) events q)
     where
       later : List Event
       later = let_through (after h event) events
 
-      go : (held : Bool) → is_held_back h event ≡ held → ((q : Progress) → Agrees c casts (after h event) q → Agrees c casts (after_all (after h event) events) (moved_all c (actors_naming c casts) q later))
-          → Agrees c casts (after_all (after h event) events) (moved_all c (actors_naming c casts) p (cond held later (event ∷ later)))
+      go : (held : Bool) → is_held_back h event ≡ held → ((q : Progress) → Agrees c casts (after h event) q →
+          Agrees c casts (after_all (after h event) events) (moved_all c (actors_naming c casts) q later)) →
+          Agrees c casts (after_all (after h event) events) (moved_all c (actors_naming c casts) p (cond held later (event ∷ later)))
       go true e rest = rest p (held_leaves (λ g. Agrees c casts g p) h event e agrees)
       go false e rest = rest (moved c (actors_naming c casts) p event) (moves h event p e agrees)
 
@@ -286,12 +306,14 @@ unmoved c actors p (Copy d a) e = rw e refl
 unmoved c actors p (Release d a) e = rw e refl
 unmoved c actors p event e = refl
 
-moved_all-filter : (c : ℕ) (actors : List ℕ) (p : Progress) (events : List Event) → moved_all c actors p (filter (is_planned_by c) events) ≡ moved_all c actors p events
+moved_all-filter : (c : ℕ) (actors : List ℕ) (p : Progress) (events : List Event) →
+    moved_all c actors p (filter (is_planned_by c) events) ≡ moved_all c actors p events
 moved_all-filter c actors p [] = refl
 moved_all-filter c actors p (event ∷ events) = go (is_planned_by c event) refl (λ q. moved_all-filter c actors q events)
   where
-    go : (mine : Bool) → is_planned_by c event ≡ mine → ((q : Progress) → moved_all c actors q (filter (is_planned_by c) events) ≡ moved_all c actors q events)
-        → moved_all c actors p (cond mine (event ∷ filter (is_planned_by c) events) (filter (is_planned_by c) events)) ≡ moved_all c actors (moved c actors p event) events
+    go : (mine : Bool) → is_planned_by c event ≡ mine →
+        ((q : Progress) → moved_all c actors q (filter (is_planned_by c) events) ≡ moved_all c actors q events) → moved_all c actors p
+        (cond mine (event ∷ filter (is_planned_by c) events) (filter (is_planned_by c) events)) ≡ moved_all c actors (moved c actors p event) events
     go true e rest = rest (moved c actors p event)
     go false e rest = rest p ∙ ap (λ q. moved_all c actors q events) (sym (unmoved c actors p event e))
 
@@ -302,9 +324,12 @@ either false x = refl
 -- a plan's events move what its steps do
 moved_all-events_of : (c : ℕ) (actors : List ℕ) (p : Progress) (plan : List Step) → moved_all c actors p (events_of c plan) ≡ done_by actors p plan
 moved_all-events_of c actors p [] = refl
-moved_all-events_of c actors p (step.Kill a ∷ plan) = moved_all-events_of c actors p plan ∙ ap (λ q. done_by actors q plan) (sym (either (is_refused actors p (step.Kill a)) p))
-moved_all-events_of c actors p (step.Await k ∷ plan) = moved_all-events_of c actors p plan ∙ ap (λ q. done_by actors q plan) (sym (either (is_refused actors p (step.Await k)) p))
-moved_all-events_of c actors p (other ∷ plan) = let same : (c == c) ≡ true = eq-eqb c c refl in rw same (moved_all-events_of c actors (next actors p other) plan)
+moved_all-events_of c actors p (step.Kill a ∷ plan) =
+    moved_all-events_of c actors p plan ∙ ap (λ q. done_by actors q plan) (sym (either (is_refused actors p (step.Kill a)) p))
+moved_all-events_of c actors p (step.Await k ∷ plan) =
+    moved_all-events_of c actors p plan ∙ ap (λ q. done_by actors q plan) (sym (either (is_refused actors p (step.Await k)) p))
+moved_all-events_of c actors p (other ∷ plan) = let same : (c == c) ≡ true = eq-eqb c c refl in
+    rw same (moved_all-events_of c actors (next actors p other) plan)
 
 -- ---- the law
 
@@ -316,11 +341,11 @@ taken : (c : ℕ) (casts : List ActorSpec) (events : List Event) → AllPairs (�
     → (moved_all c (actors_naming c casts) nothing_done (let_through (opening casts) events)).submitted ≡ calls_of c (after_all (opening casts) events)
 taken c casts events differ = sym (all_agree c casts differ (opening casts) events nothing_done (nothing_yet c casts)).submitted
 
-pub planned_is_taken_among_others : (casts : List ActorSpec) (c : ℕ) (plan : List Step) (events : List Event) → AllPairs (λ one other. one.actor ≢ other.actor) casts
-    → filter (is_planned_by c) (let_through (opening casts) events) ≡ events_of c plan → planned (actors_naming c casts) plan ≡ calls_of c (after_all (opening casts) events)
+pub planned_is_taken_among_others : (casts : List ActorSpec) (c : ℕ) (plan : List Step) (events : List Event) →
+    AllPairs (λ one other. one.actor ≢ other.actor) casts → filter (is_planned_by c) (let_through (opening casts) events) ≡ events_of c plan →
+    planned (actors_naming c casts) plan ≡ calls_of c (after_all (opening casts) events)
 planned_is_taken_among_others casts c plan events differ same =
-    let actors : List ℕ = actors_naming c casts in
-    let through : List Event = let_through (opening casts) events in
+    let actors : List ℕ = actors_naming c casts in let through : List Event = let_through (opening casts) events in
     let by_plan : moved_all c actors nothing_done through ≡ done_by actors nothing_done plan
     = sym (moved_all-filter c actors nothing_done through) ∙ ap (moved_all c actors nothing_done) same ∙ moved_all-events_of c actors nothing_done plan in
     ap (λ (p : Progress). p.submitted) (sym by_plan) ∙ taken c casts events differ
@@ -331,7 +356,8 @@ planned_is_taken_among_others casts c plan events differ same =
 abbrev AreFree : List ActorSpec → Type 0
 AreFree casts = All (λ cast. cast.pending ≡ None) casts
 
-found_free : (a : ℕ) (casts : List ActorSpec) → AreFree casts → option_and_then (λ (cast : ActorSpec). cast.pending) (find (λ cast. cast.actor == a) casts) ≡ None
+found_free : (a : ℕ) (casts : List ActorSpec) → AreFree casts →
+    option_and_then (λ (cast : ActorSpec). cast.pending) (find (λ cast. cast.actor == a) casts) ≡ None
 found_free a [] free = refl
 found_free a (cast ∷ casts) free = go (cast.actor == a) (found_free a casts (λ i d within. free (suc i) d (omega arith)))
   where
@@ -348,7 +374,8 @@ limit_free c a h free = go (names c (cast_of a h))
     go false = refl
 
 -- what is needed is refused by no limit
-needs_no_limit : (b : Bool) (refusal : WorldRefusal) (o : Option WorldRefusal) → is_limit (Some refusal) ≡ false → is_limit o ≡ false → is_limit (needs b refusal o) ≡ false
+needs_no_limit : (b : Bool) (refusal : WorldRefusal) (o : Option WorldRefusal) → is_limit (Some refusal) ≡ false → is_limit o ≡ false →
+    is_limit (needs b refusal o) ≡ false
 needs_no_limit true refusal o one other = other
 needs_no_limit false refusal o one other = one
 
@@ -360,8 +387,8 @@ sending_no_limit : (o : Option SendRefusal) → is_limit (option_map Sending o) 
 sending_no_limit None = refl
 sending_no_limit (Some refusal) = refl
 
-submit_no_limit : (listed held few earlier room : Bool)
-    → is_limit (option_map SubmitRefused (option_or (needs listed NoSuchActor (needs held NoCopy (needs few TooManyArgs (needs earlier BadFuture (needs room TooManyCalls None))))) None)) ≡ false
+submit_no_limit : (listed held few earlier room : Bool) → is_limit (option_map SubmitRefused
+    (option_or (needs listed NoSuchActor (needs held NoCopy (needs few TooManyArgs (needs earlier BadFuture (needs room TooManyCalls None))))) None)) ≡ false
 submit_no_limit false held few earlier room = refl
 submit_no_limit true false few earlier room = refl
 submit_no_limit true true false earlier room = refl
@@ -375,32 +402,37 @@ deliver_no_limit (Some letter) h = needs_no_limit (not (is_ended (letter_actor l
 
 none_held : (h : History) (event : Event) → AreFree h.casts → is_held_back h event ≡ false
 none_held h (Submit c a method args) free =
-    let count = length (calls_of c h) in
-    let copies = copies_of c a h in
+    let count = length (calls_of c h) in let copies = copies_of c a h in
     let only : option_map SubmitRefused (submission_refusal c a args h) ≡ option_map SubmitRefused (option_or (submit_refusal copies count args) None)
     = ap (λ limit. option_map SubmitRefused (option_or (submit_refusal copies count args) (limit_refusal limit (unanswered c a h)))) (limit_free c a h free) in
     needs_no_limit (is_caller c h) NoCaller (option_map SubmitRefused (submission_refusal c a args h)) refl
-    (ap is_limit only ∙ submit_no_limit (is_some copies) (nat_lt 0 (copies_held copies)) (nat_le (length args) 4) (list_all (is_earlier count) args) (nat_lt count 65536))
+    (ap is_limit only ∙
+    submit_no_limit (is_some copies) (nat_lt 0 (copies_held copies)) (nat_le (length args) 4) (list_all (is_earlier count) args) (nat_lt count 65536))
 none_held h (Copy c a) free = needs_no_limit (is_caller c h) NoCaller _ refl (handle_no_limit (copy_refusal (copies_of c a h)))
 none_held h (Release c a) free = needs_no_limit (is_caller c h) NoCaller _ refl (handle_no_limit (handle_refusal (copies_of c a h)))
-none_held h (Send c k) free = needs_no_limit (is_caller c h) NoCaller _ refl (sending_no_limit (send_refusal (kept_of c h) k (was_sent c k (slice_get (calls_of c h) k) h) (slice_get (calls_of c h) k)))
+none_held h (Send c k) free = needs_no_limit (is_caller c h) NoCaller _ refl
+    (sending_no_limit (send_refusal (kept_of c h) k (was_sent c k (slice_get (calls_of c h) k) h) (slice_get (calls_of c h) k)))
 none_held h (Deliver i) free = deliver_no_limit (slice_get h.mail i) h
-none_held h (Run a c) free = needs_no_limit (is_caller c h) NoCaller _ refl (needs_no_limit (names c (cast_of a h)) (Handle NoActor) _ refl (needs_no_limit (not (is_ended a h)) ActorEnded None refl refl))
+none_held h (Run a c) free = needs_no_limit (is_caller c h) NoCaller _ refl
+    (needs_no_limit (names c (cast_of a h)) (Handle NoActor) _ refl (needs_no_limit (not (is_ended a h)) ActorEnded None refl refl))
 none_held h (Collect j) free = needs_no_limit (is_some (slice_get h.posts j)) NoReply None refl refl
 none_held h (AskKill c a) free = needs_no_limit (is_caller c h) NoCaller _ refl (handle_no_limit (handle_refusal (copies_of c a h)))
-none_held h (TakeKill a) free = needs_no_limit (is_some (cast_of a h)) (Handle NoActor) _ refl (needs_no_limit (not (is_ended a h)) ActorEnded _ refl (needs_no_limit (contains a h.asked) NoKill None refl refl))
-none_held h (Tell a c) free = needs_no_limit (is_caller c h) NoCaller _ refl (needs_no_limit (names c (cast_of a h)) (Handle NoActor) _ refl (needs_no_limit (is_dead a h) NotDead None refl refl))
-none_held h (Retire a) free = needs_no_limit (is_some (cast_of a h)) (Handle NoActor) _ refl (needs_no_limit (not (is_ended a h)) ActorEnded _ refl (needs_no_limit (is_drained a h) NotDrained None refl refl))
+none_held h (TakeKill a) free = needs_no_limit (is_some (cast_of a h)) (Handle NoActor) _ refl
+    (needs_no_limit (not (is_ended a h)) ActorEnded _ refl (needs_no_limit (contains a h.asked) NoKill None refl refl))
+none_held h (Tell a c) free = needs_no_limit (is_caller c h) NoCaller _ refl
+    (needs_no_limit (names c (cast_of a h)) (Handle NoActor) _ refl (needs_no_limit (is_dead a h) NotDead None refl refl))
+none_held h (Retire a) free = needs_no_limit (is_some (cast_of a h)) (Handle NoActor) _ refl
+    (needs_no_limit (not (is_ended a h)) ActorEnded _ refl (needs_no_limit (is_drained a h) NotDrained None refl refl))
 
 -- then each event is let through
 all_through : (h : History) (events : List Event) → AreFree h.casts → let_through h events ≡ events
 all_through h [] free = refl
 all_through h (event ∷ events) free =
     let later : AreFree (after h event).casts = after_keeps (λ g. AreFree g.casts) h event free (λ _. subst AreFree (sym (added_grows h event).casts) free) in
-    rw (none_held h event free) (ap (λ (rest : List Event). event ∷ rest) (all_through (after h event) events later))
+    rw (none_held h event free) (ap (λ rest. event ∷ rest) (all_through (after h event) events later))
 
-pub planned_is_taken : (casts : List ActorSpec) (c : ℕ) (plan : List Step) → AllPairs (λ one other. one.actor ≢ other.actor) casts → All (λ cast. cast.pending ≡ None) casts
-    → planned (actors_naming c casts) plan ≡ calls_of c (after_all (opening casts) (events_of c plan))
+pub planned_is_taken : (casts : List ActorSpec) (c : ℕ) (plan : List Step) → AllPairs (λ one other. one.actor ≢ other.actor) casts →
+    All (λ cast. cast.pending ≡ None) casts → planned (actors_naming c casts) plan ≡ calls_of c (after_all (opening casts) (events_of c plan))
 planned_is_taken casts c plan differ free =
     ap (λ (p : Progress). p.submitted) (sym (moved_all-events_of c (actors_naming c casts) nothing_done plan))
     ∙ ap (λ events. (moved_all c (actors_naming c casts) nothing_done events).submitted) (sym (all_through (opening casts) (events_of c plan) free))

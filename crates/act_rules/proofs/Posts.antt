@@ -19,12 +19,13 @@ pub record PostsAreSound (h : History) : Type 0 where
   pub collected : AllByRecursion (IsSoundPost h) h.collected
 
 pub sound_stays : (h : History) (event : Event) → refusal_of h event ≡ None → (post : Post) → IsSoundPost h post → IsSoundPost (add_event h event) post
-sound_stays h event accepted (ReplyPost c a place) s = (s.0, slice_get_front (runs_of a h) (runs_of a (add_event h event)) place s.0 (runs_grow a h (add_event h event) (added_grows h event)) s.1, s.2)
+sound_stays h event accepted (ReplyPost c a place) s =
+    (s.0, slice_get_front (runs_of a h) (runs_of a (add_event h event)) place (runs_grow a (added_grows h event)) s.1, s.2)
 sound_stays h event accepted (DeathPost c a) s = dead_stays a h event accepted s
 
 -- the next item is the caller's
-pub next_item_caller : (a c : ℕ) (h : History) (item : RunItem) → next_item a c h ≡ Some item → item.caller ≡ c
-next_item_caller a c h item e = go (has_letter (CallLetter c a (ran_count c a h)) h.arrived) (slice_get (calls_to a (calls_of c h)) (ran_count c a h)) e
+pub next_item_caller : (a c : ℕ) (h : History) {item : RunItem} → next_item a c h ≡ Some item → item.caller ≡ c
+next_item_caller a c h {item} e = go (has_letter (CallLetter c a (ran_count c a h)) h.arrived) (slice_get (calls_to a (calls_of c h)) (ran_count c a h)) e
   where
     go : (b : Bool) (call : Option (ℕ × Submission)) → cond b (option_map (run_item c (ran_count c a h) (kept_of c h)) call) None ≡ Some item → item.caller ≡ c
     go true None e = cc
@@ -42,11 +43,13 @@ tell_needs h a c e =
     (needs-none (is_dead a h) NotDead None second.1).0
 
 -- the posts that there are stay sound
-all_stay : (h : History) (event : Event) (posts : List Post) → refusal_of h event ≡ None → AllByRecursion (IsSoundPost h) posts → AllByRecursion (IsSoundPost (add_event h event)) posts
+all_stay : (h : History) (event : Event) (posts : List Post) → refusal_of h event ≡ None → AllByRecursion (IsSoundPost h) posts →
+    AllByRecursion (IsSoundPost (add_event h event)) posts
 all_stay h event posts accepted s = All_weaker (IsSoundPost h) (IsSoundPost (add_event h event)) posts (sound_stays h event accepted) s
 
 -- an event that adds none
-posts_stay : (h : History) (event : Event) → refusal_of h event ≡ None → PostsAreSound h → (add_event h event).posts ≡ h.posts → (add_event h event).collected ≡ h.collected → PostsAreSound (add_event h event)
+posts_stay : (h : History) (event : Event) → refusal_of h event ≡ None → PostsAreSound h → (add_event h event).posts ≡ h.posts →
+    (add_event h event).collected ≡ h.collected → PostsAreSound (add_event h event)
 posts_stay h event accepted s posts collected = record {
   posts = rw posts (all_stay h event h.posts accepted s.posts);
   collected = rw collected (all_stay h event h.collected accepted s.collected);
@@ -54,12 +57,15 @@ posts_stay h event accepted s posts collected = record {
 
 -- each accepted event keeps the posts sound
 pub posts_step : IsKept PostsAreSound
-posts_step h (Run a c) s accepted = go (next_item a c h) refl (all_stay h (Run a c) h.posts accepted s.posts) (all_stay h (Run a c) h.collected accepted s.collected)
+posts_step h (Run a c) s accepted =
+    go (next_item a c h) refl (all_stay h (Run a c) h.posts accepted s.posts) (all_stay h (Run a c) h.collected accepted s.collected)
   where
-    go : (o : Option RunItem) → next_item a c h ≡ o → AllByRecursion (IsSoundPost (after_run a c h o)) h.posts → AllByRecursion (IsSoundPost (after_run a c h o)) h.collected → PostsAreSound (after_run a c h o)
+    go : (o : Option RunItem) → next_item a c h ≡ o → AllByRecursion (IsSoundPost (after_run a c h o)) h.posts →
+        AllByRecursion (IsSoundPost (after_run a c h o)) h.collected → PostsAreSound (after_run a c h o)
     go None e posts collected = s
     go (Some item) e posts collected = record {
-      posts = All_more (IsSoundPost (after_run a c h (Some item))) h.posts (ReplyPost c a (length (runs_of a h))) posts (item, run_stands a h.ran item, next_item_caller a c h item e);
+      posts = All_more (IsSoundPost (after_run a c h (Some item))) h.posts (ReplyPost c a (length (runs_of a h))) posts
+          (item, run_stands a h.ran item, next_item_caller a c h e);
       collected = collected;
     }
 posts_step h (Collect j) s accepted = go (slice_get h.posts j) refl
@@ -68,7 +74,7 @@ posts_step h (Collect j) s accepted = go (slice_get h.posts j) refl
     go None e = s
     go (Some post) e = record {
       posts = s.posts;
-      collected = All_more (IsSoundPost h) h.collected post s.collected (All_at (IsSoundPost h) h.posts j post s.posts e);
+      collected = All_more (IsSoundPost h) h.collected post s.collected (All_at (IsSoundPost h) h.posts j s.posts e);
     }
 posts_step h (Tell a c) s accepted = record {
   posts = All_more (IsSoundPost h) h.posts (DeathPost c a) s.posts (tell_needs h a c accepted);

@@ -50,20 +50,17 @@ small_enough n h = grind (arith, nat_tests)
 -- neither a quote nor `u` nor `@`
 begins_plainly : (n : ℕ) → n < 2 ^ 63 → (slice_index (decimal n) 0 ≢ 34) × (slice_index (decimal n) 0 ≢ 117) × (slice_index (decimal n) 0 ≢ 64)
 begins_plainly n small =
-    let first = first_printed n (omega arith) in
-    (λ e. omega (arith, e, first.0), λ e. omega (arith, e, first.1), λ e. omega (arith, e, first.1))
+    let first = first_printed n (omega arith) in (λ e. omega (arith, e, first.0), λ e. omega (arith, e, first.1), λ e. omega (arith, e, first.1))
 
 minus_begins_plainly : (ds : Word) → (slice_index (45 ∷ ds) 0 ≢ 34) × (slice_index (45 ∷ ds) 0 ≢ 64)
 minus_begins_plainly ds = (λ e. cc, λ e. cc)
 
 pub int_reads_back : ReadsBack is_in_range signed_decimal int_at
 int_reads_back (pos n) h =
-    let small = small_enough n h in
-    let first = first_printed n (omega arith) in
+    let small = small_enough n h in let first = first_printed n (omega arith) in
     plain_int (decimal n) n (decimal_is_numeral n (omega arith)) (λ e. omega (arith, e, first.0)) (value_printed n (omega arith)) small
 int_reads_back (negsuc n) h =
-    let small : suc n ≤ 2 ^ 63 = grind (arith, nat_tests) in
-    let first = first_decimal (suc n) (omega arith) (omega arith) in
+    let small : suc n ≤ 2 ^ 63 = grind (arith, nat_tests) in let first = first_decimal (suc n) (omega arith) (omega arith) in
     minus_int (decimal (suc n)) (suc n) (decimal_is_numeral (suc n) (omega arith)) (λ e. omega (arith, e, first)) (value_printed (suc n) (omega arith)) small
 
 -- ---- callers and actors
@@ -74,16 +71,12 @@ ranged n most one few = grind (arith, nat_tests)
 pub caller_reads_back : ReadsBack is_caller_number caller_text caller_at
 unfolding caller_at
 caller_reads_back c h =
-    let one : 1 ≤ c = grind (arith, nat_tests) in
-    let few : c ≤ 16 = grind (arith, nat_tests) in
-    rw (printed_is_number c (omega arith)) (ranged c 16 one few)
+    let one : 1 ≤ c = grind (arith, nat_tests) in let few : c ≤ 16 = grind (arith, nat_tests) in rw (printed_is_number c (omega arith)) (ranged c 16 one few)
 
 pub actor_reads_back : ReadsBack is_actor_number actor_text actor_at
 unfolding actor_at
 actor_reads_back a h =
-    let one : 1 ≤ a = grind (arith, nat_tests) in
-    let few : a ≤ 8 = grind (arith, nat_tests) in
-    rw (printed_is_number a (omega arith)) (ranged a 8 one few)
+    let one : 1 ≤ a = grind (arith, nat_tests) in let few : a ≤ 8 = grind (arith, nat_tests) in rw (printed_is_number a (omega arith)) (ranged a 8 one few)
 
 -- ---- values
 
@@ -92,9 +85,9 @@ unfolding text_at
 text_reads_back text good = rw (closed_some text 34) (rw good refl)
 
 -- a word whose first byte is no quote, and no `u`, is a number
-spelled_int : (word : Word) (n : ℤ) → bytes_eq word (codes "unit") ≡ false → slice_index word 0 ≢ 34 → int_at word ≡ Ok n → value_at word ≡ Ok (value.Int n)
+spelled_int : (word : Word) {n : ℤ} → bytes_eq word (codes "unit") ≡ false → slice_index word 0 ≢ 34 → int_at word ≡ Ok n → value_at word ≡ Ok (value.Int n)
 unfolding value_at
-spelled_int word n unit quote h = rw unit (rw h (grind (arith, nat_tests)))
+spelled_int word unit quote h = rw unit (rw h (grind (arith, nat_tests)))
 
 not_unit : (word : Word) → slice_index word 0 ≢ 117 → bytes_eq word (codes "unit") ≡ false
 not_unit [] ne = refl
@@ -102,9 +95,8 @@ not_unit (b ∷ bs) ne = let no : (b == 117) ≡ false = grind (arith, nat_tests
 
 int_value_back : (n : ℤ) → is_in_range n ≡ true → value_at (signed_decimal n) ≡ Ok (value.Int n)
 int_value_back (pos n) h =
-    let first = begins_plainly n (small_enough n h) in
-    spelled_int (decimal n) (pos n) (not_unit (decimal n) first.1) first.0 (int_reads_back (pos n) h)
-int_value_back (negsuc n) h = spelled_int (45 ∷ decimal (suc n)) (negsuc n) refl (minus_begins_plainly (decimal (suc n))).0 (int_reads_back (negsuc n) h)
+    let first = begins_plainly n (small_enough n h) in spelled_int (decimal n) (not_unit (decimal n) first.1) first.0 (int_reads_back (pos n) h)
+int_value_back (negsuc n) h = spelled_int (45 ∷ decimal (suc n)) refl (minus_begins_plainly (decimal (suc n))).0 (int_reads_back (negsuc n) h)
 
 text_value_back : (text : Word) → is_good_text text ≡ true → value_at (value_text (value.Text text)) ≡ Ok (value.Text text)
 unfolding value_at
@@ -141,6 +133,5 @@ pub arg_reads_back : ReadsBack is_sayable_arg arg_text arg_at
 unfolding arg_at
 arg_reads_back (Plain v) h =
     let ne = not_marked v h in
-    let no : (slice_index (value_text v) 0 == 64) ≡ false = grind (arith, nat_tests) in
-    rw (no, value_reads_back v h) refl
+    let no : (slice_index (value_text v) 0 == 64) ≡ false = grind (arith, nat_tests) in rw (no, value_reads_back v h) refl
 arg_reads_back (Fut k) h = rw (number_reads_back k h) refl

@@ -15,5 +15,6 @@ answer_at-push opening [] item = refl
 answer_at-push opening (first ∷ items) item = answer_at-push (after_item opening first).0 items item
 
 -- a caller's items with one more
-pub items_of-push : (c : ℕ) (items : List RunItem) (item : RunItem) → items_of c (items ++ item ∷ []) ≡ items_of c items ++ cond (item.caller == c) (item ∷ []) []
+pub items_of-push : (c : ℕ) (items : List RunItem) (item : RunItem) →
+    items_of c (items ++ item ∷ []) ≡ items_of c items ++ cond (item.caller == c) (item ∷ []) []
 items_of-push c items item = filter-append (λ (i : RunItem). i.caller == c) items (item ∷ [])

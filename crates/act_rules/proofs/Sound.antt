@@ -46,11 +46,13 @@ pub record IsFrom (h : History) (c k b : ℕ) (answer : Answer) : Type 0 where
   pub sound : IsSoundPost h post
   pub gives : answer_in h c k b post ≡ Some answer
 
-first_gives : (h : History) (c k b n : ℕ) (answer : Answer) (posts : List Post) → AllByRecursion (IsSoundPost h) posts → slice_get (filter_map (answer_in h c k b) posts) n ≡ Some answer → IsFrom h c k b answer
+first_gives : (h : History) (c k b n : ℕ) (answer : Answer) (posts : List Post) → AllByRecursion (IsSoundPost h) posts →
+    slice_get (filter_map (answer_in h c k b) posts) n ≡ Some answer → IsFrom h c k b answer
 first_gives h c k b n answer [] sound e = cc
-first_gives h c k b n answer (post ∷ posts) sound e = go (answer_in h c k b post) refl n (λ (m : ℕ). first_gives h c k b m answer posts sound.1) e
+first_gives h c k b n answer (post ∷ posts) sound e = go (answer_in h c k b post) refl n (λ m. first_gives h c k b m answer posts sound.1) e
   where
-    go : (o : Option Answer) → answer_in h c k b post ≡ o → (n : ℕ) → ((m : ℕ) → slice_get (filter_map (answer_in h c k b) posts) m ≡ Some answer → IsFrom h c k b answer) → slice_get (cons_option o (filter_map (answer_in h c k b) posts)) n ≡ Some answer → IsFrom h c k b answer
+    go : (o : Option Answer) → answer_in h c k b post ≡ o → (n : ℕ) → ((m : ℕ) → slice_get (filter_map (answer_in h c k b) posts) m ≡ Some answer →
+        IsFrom h c k b answer) → slice_get (cons_option o (filter_map (answer_in h c k b) posts)) n ≡ Some answer → IsFrom h c k b answer
     go None is n rest e = rest n e
     go (Some first) is zero rest e = record { post = post; sound = sound.0; gives = is ∙ e }
     go (Some first) is (suc m) rest e = rest m e
@@ -62,21 +64,21 @@ pub record IsKeptFrom (h : History) (c k : ℕ) (answer : Answer) : Type 0 where
   pub from : IsFrom h c k call.actor answer
 
 -- where the posts are sound, each kept answer has such a call and such a post
-pub kept_from : (h : History) (c k : ℕ) (answer : Answer) → PostsAreSound h → kept_at (kept_of c h) k ≡ Some answer → IsKeptFrom h c k answer
-kept_from h c k answer s e = go (slice_get (calls_of c h) k) refl (sym (kept_at_is h c k) ∙ e)
+pub kept_from : (h : History) (c k : ℕ) {answer : Answer} → PostsAreSound h → kept_at (kept_of c h) k ≡ Some answer → IsKeptFrom h c k answer
+kept_from h c k {answer} s e = go (slice_get (calls_of c h) k) refl (sym (kept_at_is h c k) ∙ e)
   where
     go : (o : Option Submission) → slice_get (calls_of c h) k ≡ o → kept_by h c k o ≡ Some answer → IsKeptFrom h c k answer
     go None at e = cc
     go (Some call) at e = record { call = call; at = at; from = first_gives h c k call.actor 0 answer h.collected s.collected e }
 
 -- a reply that answers the call names its place
-reply_place : (h : History) (c k b d a place : ℕ) (answer : Answer) → InOrder h → IsSoundPost h (ReplyPost d a place) → answer_in h c k b (ReplyPost d a place) ≡ Some answer → IsAnswerOfRun (λ x. opening_of x h) (λ x. runs_of x h) c k answer
+reply_place : (h : History) (c k b d a place : ℕ) (answer : Answer) → InOrder h → IsSoundPost h (ReplyPost d a place) →
+    answer_in h c k b (ReplyPost d a place) ≡ Some answer → IsAnswerOfRun (λ x. opening_of x h) (λ x. runs_of x h) c k answer
 reply_place h c k b d a place answer order s e =
-    let parts = cond_gives ((d == c) && is_item_of c k (slice_get (runs_of a h) place)) (answer_of a place h) answer e in
+    let parts = cond_gives ((d == c) && is_item_of c k (slice_get (runs_of a h) place)) (answer_of a place h) e in
     let tests = and_parts (d == c) (is_item_of c k (slice_get (runs_of a h) place)) parts.0 in
-    let call = and_parts (s.0.caller == c) (s.0.future == k) (subst (λ (o : Option RunItem). is_item_of c k o ≡ true) s.1 tests.1) in
-    let caller : s.0.caller ≡ c = eqb-true s.0.caller c call.0 in
-    let future : s.0.future ≡ k = eqb-true s.0.future k call.1 in
+    let call = and_parts (s.0.caller == c) (s.0.future == k) (subst (λ o. is_item_of c k o ≡ true) s.1 tests.1) in
+    let caller : s.0.caller ≡ c = eqb-true s.0.caller c call.0 in let future : s.0.future ≡ k = eqb-true s.0.future k call.1 in
     record {
       actor = a;
       place = place;
@@ -85,43 +87,47 @@ reply_place h c k b d a place answer order s e =
       caller = caller;
       future = future;
       answered = parts.1;
-      only = λ x p other there is what. one_place h c k a place x p s.0 other order s.1 caller future there is what;
+      only = λ x p other there is what. one_place h a place x p order s.1 caller future there is what;
     }
 
 -- a reply never answers that the actor died
-pub reply_alive : (h : History) (c k b d a place : ℕ) (answer : Answer) → answer_in h c k b (ReplyPost d a place) ≡ Some answer → IsAlive answer
-reply_alive h c k b d a place answer e = go (opening_of a h) (cond_gives ((d == c) && is_item_of c k (slice_get (runs_of a h) place)) (answer_of a place h) answer e).1
+pub reply_alive : (h : History) (c k b d a place : ℕ) {answer : Answer} → answer_in h c k b (ReplyPost d a place) ≡ Some answer → IsAlive answer
+reply_alive h c k b d a place {answer} e =
+    go (opening_of a h) (cond_gives ((d == c) && is_item_of c k (slice_get (runs_of a h) place)) (answer_of a place h) e).1
   where
-    go : (o : Option KindState) → option_and_then (λ (state : KindState). answer_at state (runs_of a h) place) o ≡ Some answer → IsAlive answer
+    go : (o : Option KindState) → option_and_then (λ state. answer_at state (runs_of a h) place) o ≡ Some answer → IsAlive answer
     go None e = cc
-    go (Some state) e = answer_alive state (runs_of a h) place answer e
+    go (Some state) e = answer_alive state (runs_of a h) place e
 
 -- in a sound history a kept answer other than a death is that of the one run of its call
-pub answers_are : (h : History) (c k : ℕ) (answer : Answer) → IsSound h → kept_at (kept_of c h) k ≡ Some answer → answer ≢ Err ActorDied → IsAnswerOfRun (λ x. opening_of x h) (λ x. runs_of x h) c k answer
-answers_are h c k answer s e alive = let kept = kept_from h c k answer s.posts e in go kept.call.actor kept.from.post kept.from.sound kept.from.gives
+pub answers_are : {h : History} (c k : ℕ) {answer : Answer} → IsSound h → kept_at (kept_of c h) k ≡ Some answer → answer ≢ Err ActorDied →
+    IsAnswerOfRun (λ x. opening_of x h) (λ x. runs_of x h) c k answer
+answers_are {h} c k {answer} s e alive = let kept = kept_from h c k s.posts e in go kept.call.actor kept.from.post kept.from.sound kept.from.gives
   where
     go : (b : ℕ) (post : Post) → IsSoundPost h post → answer_in h c k b post ≡ Some answer → IsAnswerOfRun (λ x. opening_of x h) (λ x. runs_of x h) c k answer
     go b (ReplyPost d a place) sound gives = reply_place h c k b d a place answer s.order sound gives
     go b (DeathPost d a) sound gives =
-        let died : Some (Err ActorDied) ≡ Some answer = (cond_gives ((d == c) && (a == b)) (Some (Err ActorDied)) answer gives).1 in
+        let died : Some (Err ActorDied) ≡ Some answer = (cond_gives ((d == c) && (a == b)) (Some (Err ActorDied)) gives).1 in
         absurd (alive (let same : Err ActorDied ≡ answer = cc in sym same))
 
 -- in a sound history a death is kept only for a call to a dead actor
-pub deaths_are : (h : History) (c k : ℕ) → IsSound h → kept_at (kept_of c h) k ≡ Some (Err ActorDied) → IsCallToDead (λ x. calls_of x h) (λ x. is_dead x h) c k
-deaths_are h c k s e = let kept = kept_from h c k (Err ActorDied) s.posts e in record { call = kept.call; at = kept.at; dead = go kept.call.actor kept.from.post kept.from.sound kept.from.gives }
+pub deaths_are : {h : History} (c k : ℕ) → IsSound h → kept_at (kept_of c h) k ≡ Some (Err ActorDied) → IsCallToDead (λ x. calls_of x h) (λ x. is_dead x h) c k
+deaths_are {h} c k s e = let kept = kept_from h c k s.posts e in
+    record { call = kept.call; at = kept.at; dead = go kept.call.actor kept.from.post kept.from.sound kept.from.gives }
   where
     go : (b : ℕ) (post : Post) → IsSoundPost h post → answer_in h c k b post ≡ Some (Err ActorDied) → is_dead b h ≡ true
-    go b (ReplyPost d a place) sound gives = absurd (reply_alive h c k b d a place (Err ActorDied) gives refl)
+    go b (ReplyPost d a place) sound gives = absurd (reply_alive h c k b d a place gives refl)
     go b (DeathPost d a) sound gives =
-        let tests = and_parts (d == c) (a == b) (cond_gives ((d == c) && (a == b)) (Some (Err ActorDied)) (Err ActorDied) gives).0 in
-        subst (λ (x : ℕ). is_dead x h ≡ true) (eqb-true a b tests.1) sound
+        let tests = and_parts (d == c) (a == b) (cond_gives ((d == c) && (a == b)) (Some (Err ActorDied)) gives).0 in
+        subst (λ x. is_dead x h ≡ true) (eqb-true a b tests.1) sound
 
 -- what holds of each run holds of each item of one run list
 under-all : (P : RunItem → Type 0) (a : ℕ) (ran : List (ℕ × RunItem)) → AllByRecursion (λ run. P run.1) ran → AllByRecursion P (under a ran)
 under-all P a [] all = tt
 under-all P a (run ∷ ran) all = go (run.0 == a) (under-all P a ran all.1)
   where
-    go : (b : Bool) → AllByRecursion P (under a ran) → AllByRecursion P (map (λ (r : ℕ × RunItem). r.1) (cond b (run ∷ filter (λ (r : ℕ × RunItem). r.0 == a) ran) (filter (λ (r : ℕ × RunItem). r.0 == a) ran)))
+    go : (b : Bool) → AllByRecursion P (under a ran) → AllByRecursion P
+        (map (λ (r : ℕ × RunItem). r.1) (cond b (run ∷ filter (λ (r : ℕ × RunItem). r.0 == a) ran) (filter (λ (r : ℕ × RunItem). r.0 == a) ran)))
     go true rest = (all.0, rest)
     go false rest = rest
 
@@ -130,6 +136,6 @@ pub consistent : (h : History) → IsSound h → Consistent (λ a. opening_of a 
 consistent h s = record {
   in_order = s.order;
   as_submitted = λ a. under-all (IsAsSubmitted (λ c. calls_of c h) (λ c. kept_of c h)) a h.ran s.submitted;
-  answers = λ c k answer e alive. answers_are h c k answer s e alive;
-  deaths = λ c k e. deaths_are h c k s e;
+  answers = λ c k answer e alive. answers_are c k s e alive;
+  deaths = λ c k e. deaths_are c k s e;
 }

@@ -1,6 +1,6 @@
 -- A fact that each accepted event keeps holds of every run.
-use Rattle.act_rules.proofs.Common.{◌≡◌, List, [], ◌∷◌, ◌++◌, Some, None, refl, ap, Option, Event, WorldRefusal, History, Outcome, refusal_of, add_event}
-use Rattle.act_rules.proofs.Common.{after_by, after, after_all, outcome_of, outcomes}
+use Rattle.act_rules.proofs.Common.{◌≡◌, List, [], ◌∷◌, ◌++◌, Some, None, refl, ap, Option, Event, WorldRefusal, History, refusal_of, add_event, after_by}
+use Rattle.act_rules.proofs.Common.{after, after_all, outcome_of, outcomes}
 
 -- an event leaves the history, or adds to it where nothing refuses it
 pub after_keeps : (P : History → Type 0) (h : History) (event : Event) → P h → (refusal_of h event ≡ None → P (add_event h event)) → P (after h event)
@@ -27,4 +27,4 @@ after_all-append h (x ∷ xs) ys = after_all-append (after h x) xs ys
 -- the outcomes of two lists of events: those of the first, then the second's from where the first led
 pub outcomes-append : (h : History) (xs ys : List Event) → outcomes h (xs ++ ys) ≡ outcomes h xs ++ outcomes (after_all h xs) ys
 outcomes-append h [] ys = refl
-outcomes-append h (x ∷ xs) ys = ap (λ (told : List Outcome). outcome_of h x ∷ told) (outcomes-append (after h x) xs ys)
+outcomes-append h (x ∷ xs) ys = ap (λ told. outcome_of h x ∷ told) (outcomes-append (after h x) xs ys)

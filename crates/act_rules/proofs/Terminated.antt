@@ -6,22 +6,22 @@ use Rattle.act_rules.proofs.Common.{NothingFollowsAnEnd, slice_get_more}
 -- nothing has ended the actor yet
 pub none_ends : (items : List RunItem) (place : ℕ) → NothingFollowsAnEnd items → has_terminated items ≡ false → ends_actor (slice_get items place) ≡ true → ⊥
 none_ends items place last on ends =
-    let long : length items ≡ place + 1 = last place ends in
-    let here : length items - 1 ≡ place = omega (arith, long) in
-    let bad : true ≡ false = sym ends ∙ ap (λ (n : ℕ). ends_actor (slice_get items n)) (sym here) ∙ on in
-    cc
+    let long : length items ≡ place + 1 = last place ends in let here : length items - 1 ≡ place = omega (arith, long) in
+    let bad : true ≡ false = sym ends ∙ ap (λ n. ends_actor (slice_get items n)) (sym here) ∙ on in cc
 
-front_ends : (items : List RunItem) (item : RunItem) (place : ℕ) (o : Option RunItem) → slice_get items place ≡ o → place < length items → ends_actor (slice_get (items ++ item ∷ []) place) ≡ true → ends_actor (slice_get items place) ≡ true
+front_ends : (items : List RunItem) (item : RunItem) (place : ℕ) (o : Option RunItem) → slice_get items place ≡ o → place < length items →
+    ends_actor (slice_get (items ++ item ∷ []) place) ≡ true → ends_actor (slice_get items place) ≡ true
 front_ends items item place None at below ends = let n : length items ≤ place = none_past items place at in absurd (omega (arith, n, below))
   where
     none_past : (xs : List RunItem) (k : ℕ) → slice_get xs k ≡ None → length xs ≤ k
     none_past [] k e = omega arith
     none_past (x ∷ xs) zero e = cc
     none_past (x ∷ xs) (suc k) e = let n = none_past xs k e in omega (arith, n)
-front_ends items item place (Some one) at below ends = ap ends_actor at ∙ sym (ap ends_actor (slice_get_more items (item ∷ []) place one at)) ∙ ends
+front_ends items item place (Some one) at below ends = ap ends_actor at ∙ sym (ap ends_actor (slice_get_more items (item ∷ []) place at)) ∙ ends
 
 -- one item more, at an actor that wasn't ended
-pub nothing_follows-push : (items : List RunItem) (item : RunItem) → NothingFollowsAnEnd items → has_terminated items ≡ false → NothingFollowsAnEnd (items ++ item ∷ [])
+pub nothing_follows-push : (items : List RunItem) (item : RunItem) → NothingFollowsAnEnd items → has_terminated items ≡ false →
+    NothingFollowsAnEnd (items ++ item ∷ [])
 nothing_follows-push items item last on place ends = go (cases_lt place (length items))
   where
     long : length (items ++ item ∷ []) ≡ length items + 1

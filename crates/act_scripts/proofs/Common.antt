@@ -1,6 +1,6 @@
 -- The names of specifications and of the crates below that most proofs here cite, passed on from one place.
 pub use Rattle.act_rules.proofs.Lists.{AllPairs-map}
-pub use Rattle.act_rules.proofs.Numbers.{numeral_is_digits, own}
+pub use Rattle.act_rules.proofs.Numbers.{digits_have_values, numeral_is_digits}
 pub use Rattle.act_rules.specs.Grammar.{Form, Script, args_at, callers_at, each_at, forms_of, has_twice, in_line, is_plain_byte, line_added, lines_in, no_lines}
 pub use Rattle.act_rules.specs.Grammar.{plain_at, some_callers_at, spelled_from, words_in}
 pub use Rattle.act_rules.specs.History.{ActorSpec}

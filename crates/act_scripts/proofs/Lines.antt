@@ -9,7 +9,8 @@ abbrev and_then : List Form → ℕ → List (List ℕ) → Result Script Wrong 
 and_then forms n lines read = in_line n read >>= λ next. spelled_from forms (n + 1) next lines
 
 -- a line that is not short and plain adds nothing
-pub not_plain : (forms : List Form) (n : ℕ) (script : Script) (line : List ℕ) (fault : LineFault) → Fails fault (plain_at line) → Fails fault (line_added forms script n line)
+pub not_plain : (forms : List Form) (n : ℕ) (script : Script) (line : List ℕ) (fault : LineFault) → Fails fault (plain_at line) →
+    Fails fault (line_added forms script n line)
 unfolding line_at
 not_plain forms n script line faults.Memory fails = tt
 not_plain forms n script line (faults.Wrong wrong) fails = rw fails refl

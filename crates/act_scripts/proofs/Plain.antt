@@ -7,6 +7,4 @@ plain_below b h = grind (arith, nat_tests)
 
 pub plain_ascii : (bs : List ℕ) → list_all is_plain_byte bs ≡ true → IsAscii bs
 plain_ascii [] h = IsAscii-nil
-plain_ascii (b ∷ bs) h =
-    let p = and_parts (is_plain_byte b) (list_all is_plain_byte bs) h in
-    IsAscii-cons b bs (plain_below b p.0) (plain_ascii bs p.1)
+plain_ascii (b ∷ bs) h = let p = and_parts (is_plain_byte b) (list_all is_plain_byte bs) h in IsAscii-cons b bs (plain_below b p.0) (plain_ascii bs p.1)

@@ -34,7 +34,7 @@ pub use Rattle.act_serve.specs.Served.{caller_at, endpoint_callers, first_note, 
 pub use Rattle.act_serve.specs.Turns.{ActorGoesOn, EndpointsDiffer, HasCome, HasGone, HasLooked, HasReplied, HasReplies, IsAtItsEndpoint, IsFed, IsFreshExec}
 pub use Rattle.act_serve.specs.Turns.{IsServing, IsTracedSoFar, PassesFit, PassesOf, has_next, is_endpoint_of, replied_to, with_death_given}
 pub use Rattle.act_serve.specs.declared.letter.Received.{Received}
-pub use Rattle.act_serve.specs.declared.letter.Received.TheVariants.{Held, Nothing, Ran}
+pub use Rattle.act_serve.specs.declared.letter.Received.TheVariants.{Nothing}
 pub use Rattle.act_serve.specs.declared.turn.ExecPasses.{ExecPasses}
 pub use Rattle.act_types.specs.KindState.{KindState}
 pub use Rattle.act_types.specs.declared.call.Notice.{Notice}
@@ -45,8 +45,8 @@ pub use Rattle.act_types.specs.declared.call.Reply.{Reply}
 pub use Rattle.atomic_table.specs.Seated.{TableId}
 pub use Rattle.std.proofs.Common.{All, AllPairs, Bool, Contains, Err, IfNone, IfOk, IfSome, List, None, Ok, OnErr, OnOk, Option, Result, Some, [], ap}
 pub use Rattle.std.proofs.Common.{append-nil, append_assoc, arith, cond, drop, false, filter, filter_map, find, flat_map, get_or, inl, inr, is_some, length}
-pub use Rattle.std.proofs.Common.{length-append, map, nat_lt, option_map, position, refl, rules, set, slice_get, subst, suc, sym, take, true, true≢false}
-pub use Rattle.std.proofs.Common.{zero, zip, ℕ, ◌&&◌, ◌++◌, ◌+◌, ◌<◌, ◌==◌, ◌||◌, ◌∙◌, ◌∷◌, ◌≡◌, ◌≢◌, ◌≤◌, ◌⊎◌}
+pub use Rattle.std.proofs.Common.{length-append, map, nat_lt, option_map, position, refl, rules, set, slice_get, subst, suc, sym, take, true, true≢false, zero}
+pub use Rattle.std.proofs.Common.{zip, ℕ, ◌&&◌, ◌++◌, ◌+◌, ◌<◌, ◌==◌, ◌||◌, ◌∙◌, ◌∷◌, ◌≡◌, ◌≢◌, ◌≤◌, ◌⊎◌}
 pub use Rattle.std.proofs.Math.Bool.{and-false}
 pub use Rattle.std.proofs.Math.Seq.{get_or-append_seam, map-set_same}
 pub use Rattle.std.proofs.lemmas.Bool.{cases_lt, eq-eqb, eqb-true, le-ltb, lt-ltb, ne_eqb}

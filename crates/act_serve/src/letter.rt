@@ -9,7 +9,7 @@ ghost use Rattle.act_actor.specs.Actor.{RunsAtOnce, with_packet};
 ghost use Rattle.act_serve.specs.Turns.{EndpointsFit, EndpointsStay, TakesLetters, HasReplied, ActorGoesOn, IsFed, IsIn, IsServing, KeepsServing, HasCome, KeepsTrace, TracesTurn, is_endpoint_of};
 ghost use Rattle.act_serve.specs.declared.letter.Received.TheVariants.{Nothing};
 
-use crate::turn::{ExecLines, ExecPasses, Passed, give_reply, pass_gate};
+use crate::turn::{ExecLines, ExecPasses, GatePassed, give_reply, pass_gate};
 use act_actor::{Live, RunLog};
 use act_kinds::Actor;
 use act_mailbox::{Endpoint, Letter, Mark, Notes, Replies, ReplyExec};
@@ -80,7 +80,7 @@ fn endpoint_at_once<K: Actor, L: RunLog>(
 fn run_now<K: Actor, L: RunLog>(
     live: &mut Live<K, L>,
     packet: Packet,
-    passed: Passed,
+    passed: GatePassed,
 ) -> Result<Reply, NoMemory>
     requires passed { passed.place ≡ length live.old.log }
     requires at_once { RunsAtOnce packet live.old.id live.old.log live.old.inbox }

@@ -107,7 +107,7 @@ fn next_endpoint<K: Actor, L: RunLog>(
 fn run_next<K: Actor, L: RunLog>(
     live: &mut Live<K, L>,
     caller: CallerId,
-    passed: Passed,
+    passed: GatePassed,
 ) -> Result<Option<Reply>, NoMemory>
     requires { passed.place ≡ length live.old.log }
     ensures ran { IfOk result (λ reply.
@@ -363,7 +363,7 @@ impl Gate for NoGate {
 /// That the gate was passed for the run at a place of the log. A run takes one of its place, which
 /// `pass_gate` alone can make.
 #[derive(Drop)]
-pub(crate) struct Passed {
+pub(crate) struct GatePassed {
     place: usize,
 }
 
@@ -371,13 +371,13 @@ pub(crate) struct Passed {
 pub(crate) fn pass_gate<K: Actor, F: Fn(ActorId, u32), L: RunLog>(
     live: &Live<K, L>,
     pass: &F,
-) -> Passed
+) -> GatePassed
     requires { F.IsAlwaysCallable pass.now }
     ensures { result.place ≡ length live.now.log }
 {
     let place = live.ran();
     pass(live.id(), place as u32);
-    Passed { place }
+    GatePassed { place }
 }
 
 /// The lines of one executor. Its callers' lines are found by the places of its endpoints.

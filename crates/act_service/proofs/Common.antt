@@ -23,7 +23,7 @@ pub use Rattle.act_rules.specs.Plans.{first_bad}
 pub use Rattle.act_rules.specs.Report.{one_to}
 pub use Rattle.act_rules.specs.Submissions.{IsLimit}
 pub use Rattle.act_rules.specs.declared.script.Step.{Step}
-pub use Rattle.act_serve.specs.Served.{EndView, Killed, Retired, Starved, end_id, end_view}
+pub use Rattle.act_serve.specs.Served.{EndView, Retired, end_id, end_view}
 pub use Rattle.act_serve.specs.declared.turn.Finished.{Finished}
 pub use Rattle.act_service.specs.Faults.{IsEpochFault, IsFaultAt, IsFaultOfCodes, IsOfService}
 pub use Rattle.act_service.specs.Services.{BecomesKnown, CarriesOver, Given, HaveLed, IsUnderWay, Known, LeadsOn}
@@ -32,8 +32,8 @@ pub use Rattle.act_service.specs.declared.epochs.EpochFault.{EpochFault}
 pub use Rattle.act_service.specs.declared.epochs.EpochFault.TheVariants.{BadCodes, Run, Service}
 pub use Rattle.act_service.specs.declared.shapes.Shape.{Shape}
 pub use Rattle.act_types.specs.KindState.{KindState}
-pub use Rattle.std.proofs.Common.{All, AllPairs, List, None, Option, Some, [], ap, arith, filter_map, find, inl, inr, map}
-pub use Rattle.std.proofs.Common.{option_map, position, refl, slice_get, subst, suc, sym, take, ℕ, ◌++◌, ◌==◌, ◌∙◌, ◌∷◌, ◌≡◌, ◌≢◌}
+pub use Rattle.std.proofs.Common.{All, AllPairs, List, None, Option, Some, [], ap, arith, filter_map, find, inl, inr, map, option_map, position, refl}
+pub use Rattle.std.proofs.Common.{slice_get, subst, suc, sym, take, ℕ, ◌++◌, ◌==◌, ◌∙◌, ◌∷◌, ◌≡◌, ◌≢◌}
 pub use Rattle.std.proofs.lemmas.Bool.{eqb-true}
 pub use Rattle.std.proofs.lemmas.List.{get_or-map, length-map}
 pub use Rattle.std.proofs.lemmas.List.Elements.{All-cons, All-map, All-nil}

@@ -1,15 +1,14 @@
 -- An epoch, made of a run, and the casts that it leaves.
 use Rattle.act_service.proofs.Common.{◌≡◌, ℕ, ◌==◌, List, [], ◌∷◌, ◌++◌, map, Option, Some, None, refl, sym, ap, ◌∙◌, subst, find, filter_map, option_map}
-use Rattle.act_service.proofs.Common.{cons_option, KindState, ActorSpec, find-map, Cast, actor_spec, Step, Finished, EndView, Retired}
-use Rattle.act_service.proofs.Common.{end_view, SessionView, Joined, IsJoinedBy, IsPlayedBy, IsPlayed, Epoch, IsEpoch, cast_of_end, casts_left, are_more}
-use Rattle.act_service.proofs.Common.{left_more, Shape, shape_of, opened_in, cast_left_by, Known, Given, CarriesOver, BecomesKnown, LeadsOn}
+use Rattle.act_service.proofs.Common.{cons_option, KindState, ActorSpec, find-map, Cast, actor_spec, Step, Finished, EndView, Retired, end_view, SessionView}
+use Rattle.act_service.proofs.Common.{Joined, IsJoinedBy, IsPlayedBy, IsPlayed, Epoch, IsEpoch, cast_of_end, casts_left, are_more, left_more, Shape, shape_of}
+use Rattle.act_service.proofs.Common.{opened_in, cast_left_by, Known, Given, CarriesOver, BecomesKnown, LeadsOn}
 
 -- ---- what shapes leave is what casts leave
 
 module _ {K : Type 0} (state : K → KindState) (casts : List (Cast K)) where
-  fused : (opening : KindState) (o : Option (Cast K))
-      → option_map (opened_in opening) (option_map shape_of o) ≡ option_map (λ (cast : ActorSpec). record cast { opening = opening })
-      (option_map (actor_spec state) o)
+  fused : (opening : KindState) (o : Option (Cast K)) → option_map (opened_in opening) (option_map shape_of o) ≡ option_map
+      (λ (cast : ActorSpec). record cast { opening = opening }) (option_map (actor_spec state) o)
   fused opening None = refl
   fused opening (Some cast) = refl
 
@@ -50,13 +49,12 @@ module _ {C K L : Type 0} (tells : C → SessionView → SessionView → Type 0)
   abbrev pub epoch : Epoch C
   epoch = record { casts = here; codes = codes; owners = joined.owners.items; ends = ends }
 
-  pub is_epoch : (plans : List (ℕ × List Step)) → plans ≡ [] → IsJoinedBy tells here plans codes joined.owners.items ends
-      → IsPlayed here joined.owners.items ends →
-      IsPlayedBy tells here plans codes joined.owners.items ends → IsEpoch tells epoch
-  is_epoch plans none run play planned = record {
-    joined = subst (λ (l : List (ℕ × List Step)). IsJoinedBy tells here l codes joined.owners.items ends) none run;
+  pub is_epoch : {plans : List (ℕ × List Step)} → plans ≡ [] → IsJoinedBy tells here plans codes joined.owners.items ends →
+      IsPlayed here joined.owners.items ends → IsPlayedBy tells here plans codes joined.owners.items ends → IsEpoch tells epoch
+  is_epoch none run play planned = record {
+    joined = subst (λ l. IsJoinedBy tells here l codes joined.owners.items ends) none run;
     played = play;
-    planned = subst (λ (l : List (ℕ × List Step)). IsPlayedBy tells here l codes joined.owners.items ends) none planned;
+    planned = subst (λ l. IsPlayedBy tells here l codes joined.owners.items ends) none planned;
   }
 
   -- epochs that led to its casts lead on to those that it leaves
@@ -70,6 +68,6 @@ module _ {C K L : Type 0} (tells : C → SessionView → SessionView → Type 0)
   }
 
   -- which are those that its shapes leave
-  pub left_is : (shapes : List Shape) (left : List (Cast K)) → shapes ≡ map shape_of casts → map (actor_spec state) left ≡ filter_map (cast_left_by shapes) ends
+  pub left_is : {shapes : List Shape} (left : List (Cast K)) → shapes ≡ map shape_of casts → map (actor_spec state) left ≡ filter_map (cast_left_by shapes) ends
       → map (actor_spec state) left ≡ casts_left epoch
-  left_is shapes left are is = is ∙ ap (λ (l : List Shape). filter_map (cast_left_by l) ends) are ∙ by_shapes state casts ends
+  left_is left are is = is ∙ ap (λ l. filter_map (cast_left_by l) ends) are ∙ by_shapes state casts ends

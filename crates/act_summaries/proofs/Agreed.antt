@@ -21,8 +21,7 @@ abbrev Pair : Type 0
 Pair = List ℕ × List ℕ
 
 stems_told : (stems : List Stem) (ps : List Pair) → AllByRecursion (λ (p : Pair). IsToldAs p.0 p.1) ps →
-    AllZip Agrees stems (shown (map (λ (p : Pair). p.0) ps)) →
-    AllZip IsToldOf stems (shown (map (λ (p : Pair). p.1) ps))
+    AllZip Agrees stems (shown (map (λ (p : Pair). p.0) ps)) → AllZip IsToldOf stems (shown (map (λ (p : Pair). p.1) ps))
 stems_told [] [] told all = tt
 stems_told (stem ∷ stems) [] told all = absurd all
 stems_told stems (p ∷ ps) told all = go (is_skipped p.0) (is_skipped p.1) (sym (skipped_alike p.0 p.1 p.0 both)) stems all
@@ -48,9 +47,9 @@ stems_told stems (p ∷ ps) told all = go (is_skipped p.0) (is_skipped p.1) (sym
 pub agreed_lines : (bytes : List ℕ) (stems : List Stem) (xs : List (List ℕ)) → AllByRecursion (Lacks 10) xs → AreTold bytes (flat_map line xs) →
     AreAgreed stems bytes → AllZip IsToldOf stems xs
 agreed_lines bytes stems xs lack make agreed =
-    subst (λ (l : List (List ℕ)). AllZip IsToldOf stems l) (told_texts bytes xs lack make)
+    subst (λ l. AllZip IsToldOf stems l) (told_texts bytes xs lack make)
     (stems_told stems make.pairs (recursion_from_All (λ (p : Pair). IsToldAs p.0 p.1) make.pairs make.told)
-    (subst (λ (l : List (List ℕ)). AllZip Agrees stems (shown l)) (sym make.given) agreed))
+    (subst (λ l. AllZip Agrees stems (shown l)) (sym make.given) agreed))
 
 -- ---- a future's line
 
@@ -70,7 +69,7 @@ front_is : (c k a : ℕ) (end : List ℕ) → future_text c k ++ space ++ actor_
 front_is c k a end =
     append_assoc (future_text c k ++ space) (actor_text a) end
     ∙ append_assoc (future_text c k) space (actor_text a ++ end)
-    ∙ ap (λ (l : List ℕ). l ++ 32 ∷ (actor_text a ++ end)) (name_is c k)
+    ∙ ap (λ l. l ++ 32 ∷ (actor_text a ++ end)) (name_is c k)
 
 pub call_line : (c k : ℕ) (call : Call) (line : List ℕ) → AgreesKept call.kept (future_text c k ++ space ++ actor_text call.actor) line → CallLine c k call line
 call_line c k call line agrees = go call.kept agrees
@@ -111,8 +110,7 @@ end_line a false true line agrees = record {
 }
 end_line a false false line agrees = record {
   tail = codes "live " ++ agrees.0;
-  is = agrees.1 ∙ append_assoc (actor_text a)
-      (codes " live ") agrees.0;
+  is = agrees.1 ∙ append_assoc (actor_text a) (codes " live ") agrees.0;
   says = (agrees.0, refl);
 }
 
@@ -155,7 +153,7 @@ run_line a place ran line agrees = go ran.words agrees
           whole.0
           ∙ append_assoc front (method_text method) (with_spaces (map settled_text args))
           ∙ run_front_is a place ran.caller ran.future (method_text method ++ with_spaces (map settled_text args))
-          ∙ ap (λ (l : List ℕ). place_text a place ++ 32 ∷ (future_name ran.caller ran.future ++ 32 ∷ (method_text method ++ l)))
+          ∙ ap (λ l. place_text a place ++ 32 ∷ (future_name ran.caller ran.future ++ 32 ∷ (method_text method ++ l)))
           (spaced_is (map settled_text args));
       says = (refl, whole.1, recursion_from_All IsReadable args whole.2);
     }

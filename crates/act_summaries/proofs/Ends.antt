@@ -14,7 +14,7 @@ pub record EndOnce (h : History) : Type 0 where
 
 -- one number more contains no other
 other_stays : (a b : ℕ) (ns : List ℕ) → (b == a) ≡ false → contains a (ns ++ b ∷ []) ≡ contains a ns
-other_stays a b ns ne = list_any-append (λ (m : ℕ). m == a) ns (b ∷ []) ∙ ap (λ (t : Bool). contains a ns || (t || false)) ne ∙ last (contains a ns)
+other_stays a b ns ne = list_any-append (λ m. m == a) ns (b ∷ []) ∙ ap (λ t. contains a ns || (t || false)) ne ∙ last (contains a ns)
   where
     last : (x : Bool) → (x || false) ≡ x
     last true = refl
@@ -23,21 +23,20 @@ other_stays a b ns ne = list_any-append (λ (m : ℕ). m == a) ns (b ∷ []) ∙
 -- what holds of the actor that ends now, and of each other one as before
 module _ (h : History) (s : EndOnce h) (b : ℕ) (live : is_ended b h ≡ false) (stands : is_some (cast_of b h) ≡ true) where
   unretired : (a : ℕ) → b ≡ a → is_retired a h ≡ false
-  unretired a same = (or_parts (is_dead a h) (is_retired a h) (subst (λ (x : ℕ). is_ended x h ≡ false) same live)).1
+  unretired a same = (or_parts (is_dead a h) (is_retired a h) (subst (λ x. is_ended x h ≡ false) same live)).1
 
   undead : (a : ℕ) → b ≡ a → is_dead a h ≡ false
-  undead a same = (or_parts (is_dead a h) (is_retired a h) (subst (λ (x : ℕ). is_ended x h ≡ false) same live)).0
+  undead a same = (or_parts (is_dead a h) (is_retired a h) (subst (λ x. is_ended x h ≡ false) same live)).0
 
   cast_there : (a : ℕ) → b ≡ a → is_some (cast_of a h) ≡ true
-  cast_there a same = subst (λ (x : ℕ). is_some (cast_of x h) ≡ true) same stands
+  cast_there a same = subst (λ x. is_some (cast_of x h) ≡ true) same stands
 
   -- another actor is as it was, and this one doesn't end twice
-  once_at : (g : History) → ((a : ℕ) → cast_of a g ≡ cast_of a h)
-      → ((a : ℕ) → (b == a) ≡ false → (is_dead a g ≡ is_dead a h) × (is_retired a g ≡ is_retired a h))
-      → ((a : ℕ) → b ≡ a → is_dead a g ≡ true → is_retired a g ≡ false) → EndOnce g
+  once_at : (g : History) → ((a : ℕ) → cast_of a g ≡ cast_of a h) → ((a : ℕ) → (b == a) ≡ false →
+      (is_dead a g ≡ is_dead a h) × (is_retired a g ≡ is_retired a h)) → ((a : ℕ) → b ≡ a → is_dead a g ≡ true → is_retired a g ≡ false) → EndOnce g
   once_at g casts others own = record {
     apart = λ a dead. apart a (b == a) refl dead;
-    cast = λ a ended. ap (λ (o : Option ActorSpec). is_some o) (casts a) ∙ there a (b == a) refl ended;
+    cast = λ a ended. ap (λ o. is_some o) (casts a) ∙ there a (b == a) refl ended;
   }
     where
       apart : (a : ℕ) (t : Bool) → (b == a) ≡ t → is_dead a g ≡ true → is_retired a g ≡ false
@@ -51,15 +50,15 @@ module _ (h : History) (s : EndOnce h) (b : ℕ) (live : is_ended b h ≡ false)
   ran_once : (item : RunItem) → EndOnce (record h { ran = h.ran ++ (b, item) ∷ []; posts = (after_run b 0 h (Some item)).posts })
   ran_once item = once_at (record h { ran = h.ran ++ (b, item) ∷ []; posts = (after_run b 0 h (Some item)).posts }) (λ a. refl)
       (λ a ne. (
-        ap (λ (items : List RunItem). contains a h.killed || has_terminated items)
-            (under-push a b h.ran item ∙ ap (λ (t : Bool). runs_of a h ++ cond t (item ∷ []) []) ne ∙ append-nil (runs_of a h)),
+        ap (λ items. contains a h.killed || has_terminated items)
+            (under-push a b h.ran item ∙ ap (λ t. runs_of a h ++ cond t (item ∷ []) []) ne ∙ append-nil (runs_of a h)),
         refl,
       ))
       (λ a same dead. unretired a same)
 
   killed_once : EndOnce (add_event h (TakeKill b))
   killed_once = once_at (add_event h (TakeKill b)) (λ a. refl)
-      (λ a ne. (ap (λ (k : Bool). k || has_terminated (runs_of a h)) (other_stays a b h.killed ne), refl)) (λ a same dead. unretired a same)
+      (λ a ne. (ap (λ k. k || has_terminated (runs_of a h)) (other_stays a b h.killed ne), refl)) (λ a same dead. unretired a same)
 
   retired_once : EndOnce (add_event h (Retire b))
   retired_once = once_at (add_event h (Retire b)) (λ a. refl) (λ a ne. (refl, other_stays a b h.retired ne))
@@ -72,8 +71,7 @@ once_step h (Run a c) s accepted = go (next_item a c h)
     go None = s
     go (Some item) =
         let fits = run_needs h a c accepted in
-        let once = ran_once h s a fits.2 (some_cast c (cast_of a h) fits.1) item in
-        record { apart = once.apart; cast = once.cast }
+        let once = ran_once h s a fits.2 (some_cast c (cast_of a h) fits.1) item in record { apart = once.apart; cast = once.cast }
 once_step h (TakeKill a) s accepted =
     let first = needs-none (is_some (cast_of a h)) (Handle NoActor) (needs (not (is_ended a h)) ActorEnded (needs (contains a h.asked) NoKill None)) accepted in
     let second = needs-none (not (is_ended a h)) ActorEnded (needs (contains a h.asked) NoKill None) first.1 in

@@ -24,7 +24,8 @@ under_all : {A : Type 0} (P : A → Type 0) (n : ℕ) (pairs : List (ℕ × A)) 
 under_all P n [] all = tt
 under_all {A = A} P n (pair ∷ pairs) all = go (pair.0 == n) (under_all P n pairs all.1)
   where
-    go : (b : Bool) → AllByRecursion P (under n pairs) → AllByRecursion P (map (λ (r : ℕ × A). r.1) (cond b (pair ∷ filter (λ (r : ℕ × A). r.0 == n) pairs) (filter (λ (r : ℕ × A). r.0 == n) pairs)))
+    go : (b : Bool) → AllByRecursion P (under n pairs) →
+        AllByRecursion P (map (λ (r : ℕ × A). r.1) (cond b (pair ∷ filter (λ (r : ℕ × A). r.0 == n) pairs) (filter (λ (r : ℕ × A). r.0 == n) pairs)))
     go true rest = (all.0, rest)
     go false rest = rest
 
@@ -65,8 +66,7 @@ callers_good : (callers : List ℕ) → list_all is_caller_number callers ≡ tr
 callers_good [] e = tt
 callers_good (c ∷ callers) e =
     let parts = and_parts (is_caller_number c) (list_all is_caller_number callers) e in
-    let number = and_parts (nat_le 1 c) (nat_le c 16) parts.0 in
-    ((leb-true 1 c number.0, leb-true c 16 number.1), callers_good callers parts.1)
+    let number = and_parts (nat_le 1 c) (nat_le c 16) parts.0 in ((leb-true 1 c number.0, leb-true c 16 number.1), callers_good callers parts.1)
 
 casts_good : (roles : List Role) → list_all is_sayable_role roles ≡ true → AllByRecursion IsGoodCast (map actor_spec_of roles)
 casts_good [] e = tt
@@ -109,7 +109,8 @@ opening_good h a state s e = go (cast_of a h) refl e
         subst IsGoodState same (found IsGoodCast (λ (cast : ActorSpec). cast.actor == a) h.casts cast s.casts is).0.state
 
 -- what an actor's run list answers is good, and so is the state that it leaves
-pub opened_good : (h : History) (a : ℕ) (state : KindState) → IsGood h → opening_of a h ≡ Some state → IsGoodState (state_after state (runs_of a h)) × AllByRecursion IsGoodAnswer (answers_from state (runs_of a h))
+pub opened_good : (h : History) (a : ℕ) (state : KindState) → IsGood h → opening_of a h ≡ Some state →
+    IsGoodState (state_after state (runs_of a h)) × AllByRecursion IsGoodAnswer (answers_from state (runs_of a h))
 opened_good h a state s e = runs_good state (runs_of a h) (opening_good h a state s e) (items_good h a s)
 
 pub died_or_not : (answer : Answer) → (answer ≡ Err ActorDied) ⊎ (answer ≢ Err ActorDied)
@@ -117,19 +118,20 @@ died_or_not (Ok value) = inr (λ e. cc)
 died_or_not (Err ActorDied) = inl refl
 died_or_not (Err fault) = inr (λ e. cc)
 
-pub kept_good : (h : History) (c k : ℕ) (answer : Answer) → IsGood h → IsSound h → kept_at (kept_of c h) k ≡ Some answer → IsGoodAnswer answer
-kept_good h c k answer s sound e = elim (died_or_not answer) [
+pub kept_good : (h : History) (c k : ℕ) {answer : Answer} → IsGood h → IsSound h → kept_at (kept_of c h) k ≡ Some answer → IsGoodAnswer answer
+kept_good h c k {answer} s sound e = elim (died_or_not answer) [
   | inl died ↦ subst IsGoodAnswer (sym died) refl
   | inr alive ↦
-      let run = answers_are h c k answer sound e alive in
-      go run.actor run.place (opening_of run.actor h) refl run.answered
+      let run = answers_are c k sound e alive in go run.actor run.place (opening_of run.actor h) refl run.answered
 ]
   where
-    go : (a place : ℕ) (o : Option KindState) → opening_of a h ≡ o → option_and_then (λ (state : KindState). answer_at state (runs_of a h) place) o ≡ Some answer → IsGoodAnswer answer
+    go : (a place : ℕ) (o : Option KindState) → opening_of a h ≡ o → option_and_then (λ state. answer_at state (runs_of a h) place) o ≡ Some answer →
+        IsGoodAnswer answer
     go a place None is e = absurd (cc)
-    go a place (Some state) is e = All_at IsGoodAnswer (answers_from state (runs_of a h)) place answer (opened_good h a state s is).1 e
+    go a place (Some state) is e = All_at IsGoodAnswer (answers_from state (runs_of a h)) place (opened_good h a state s is).1 e
 
-settled_good : (h : History) (c : ℕ) (args : List Arg) → IsGood h → IsSound h → list_all is_sayable_arg args ≡ true → AllByRecursion IsGoodArg (map (settle (kept_of c h)) args)
+settled_good : (h : History) (c : ℕ) (args : List Arg) → IsGood h → IsSound h → list_all is_sayable_arg args ≡ true →
+    AllByRecursion IsGoodArg (map (settle (kept_of c h)) args)
 settled_good h c [] s sound e = tt
 settled_good h c (Plain v ∷ args) s sound e =
     let parts = and_parts (is_sayable v) (list_all is_sayable_arg args) e in (parts.0, settled_good h c args s sound parts.1)
@@ -139,21 +141,24 @@ settled_good h c (Fut j ∷ args) s sound e =
   where
     go : (o : Option Answer) → kept_at (kept_of c h) j ≡ o → j < 2 ^ 32 → IsGoodArg (settled_future j o)
     go None is small = small
-    go (Some (Ok v)) is small = kept_good h c j (Ok v) s sound is
+    go (Some (Ok v)) is small = kept_good h c j s sound is
     go (Some (Err fault)) is small = small
 
 next_good : (h : History) (a c : ℕ) (item : RunItem) → IsGood h → IsSound h → next_item a c h ≡ Some item → AllByRecursion IsGoodArg item.args
 next_good h a c item s sound e =
-    let next = next_item_is a c h item e in
-    let call = calls_to-at a (calls_of c h) (ran_count c a h) next.call next.at in
-    let good = All_at IsGoodCall (calls_of c h) next.call.0 next.call.1 (calls_good h c s) call.at in
+    let next = next_item_is a c h e in let call = calls_to-at a (calls_of c h) (ran_count c a h) next.at in
+    let good = All_at IsGoodCall (calls_of c h) next.call.0 (calls_good h c s) call.at in
     subst (λ (i : RunItem). AllByRecursion IsGoodArg i.args) next.is (settled_good h c next.call.1.args s sound good.1)
 
 good_step : (h : History) (event : Event) → is_sayable_event event ≡ true → IsGood h → IsSound h → refusal_of h event ≡ None → IsGood (add_event h event)
 good_step h (Submit c a method args) sayable s sound accepted =
     let parts = and_parts (is_sayable_method method) (list_all is_sayable_arg args) sayable in
     let call : Submission = record { actor = a; method = method; args = args } in
-    record { casts = s.casts; submitted = All_more (λ (call : ℕ × Submission). IsGoodCall call.1) h.submitted (c, call) s.submitted (parts.0, parts.1); args = s.args }
+    record {
+      casts = s.casts;
+      submitted = All_more (λ (call : ℕ × Submission). IsGoodCall call.1) h.submitted (c, call) s.submitted (parts.0, parts.1);
+      args = s.args;
+    }
 good_step h (Run a c) sayable s sound accepted = go (next_item a c h) refl
   where
     go : (o : Option RunItem) → next_item a c h ≡ o → IsGood (after_run a c h o)
@@ -217,8 +222,7 @@ cast_good h a s e = go (cast_of a h) refl e
     go None is e = absurd (cc)
     go (Some cast) is e =
         let it = found IsGoodCast (λ (cast : ActorSpec). cast.actor == a) h.casts cast s.casts is in
-        let number : cast.actor ≡ a = eqb-true cast.actor a it.1 in
-        (subst (λ (n : ℕ). 1 ≤ n) number it.0.some, subst (λ (n : ℕ). n ≤ 8) number it.0.few)
+        let number : cast.actor ≡ a = eqb-true cast.actor a it.1 in (subst (λ n. 1 ≤ n) number it.0.some, subst (λ n. n ≤ 8) number it.0.few)
 
 named_good : (h : History) (c a : ℕ) → IsGood h → names c (cast_of a h) ≡ true → AreNumbers c a h
 named_good h c a s e = go (cast_of a h) refl e
@@ -227,10 +231,10 @@ named_good h c a s e = go (cast_of a h) refl e
     go None is e = absurd (let bad : false ≡ true = e in cc)
     go (Some cast) is e =
         let it = found IsGoodCast (λ (cast : ActorSpec). cast.actor == a) h.casts cast s.casts is in
-        let there : is_some (cast_of a h) ≡ true = ap (λ (o : Option ActorSpec). is_some o) is in
-        let number = cast_good h a s there in
+        let there : is_some (cast_of a h) ≡ true = ap (λ o. is_some o) is in let number = cast_good h a s there in
         record { caller = contained IsCallerNumber c cast.callers it.0.callers e; some = number.0; few = number.1; cast = there }
 
 -- a call that stands
-pub call_numbers : (casts : List ActorSpec) (h : History) (c k : ℕ) (call : Submission) → Facts casts h → slice_get (calls_of c h) k ≡ Some call → AreNumbers c call.actor h
-call_numbers casts h c k call f at = named_good h c call.actor f.good (named_call h c k call f.named at)
+pub call_numbers : (casts : List ActorSpec) (h : History) (c k : ℕ) (call : Submission) → Facts casts h → slice_get (calls_of c h) k ≡ Some call →
+    AreNumbers c call.actor h
+call_numbers casts h c k call f at = named_good h c call.actor f.good (named_call h c k f.named at)

@@ -3,14 +3,13 @@ use Rattle.act_summaries.proofs.Common.{◌≡◌, ◌≢◌, inl, inr, ℕ, zer
 use Rattle.act_summaries.proofs.Common.{map, filter, take, slice_get, Some, option_map, refl, sym, ap, subst, ◌∙◌, arith, codes, append_assoc, eq-eqb}
 use Rattle.act_summaries.proofs.Common.{slice_get-map, AllByRecursion, History, ActorSpec, calls_of, kept_of, actor_spec_of, length-append, drop, decimal}
 use Rattle.act_summaries.proofs.Common.{AllZip, flat_map, bytes_decides, pointwise, or_left, and_from, recursion_from_All, All-from_recursion, same_Some}
-use Rattle.act_summaries.proofs.Common.{drop-append_seam, caller_text, actor_text, kept_at, is_skipped, lines_in, line, history, slice_get-filter, AreTold}
-use Rattle.act_summaries.proofs.Common.{IsToldAs, is_open, ends_in, told_line, IsLeftOpen, open_line, AreToldAlike, All_at, map-slice_get, place_in}
-use Rattle.act_summaries.proofs.Common.{filter_mapped}
+use Rattle.act_summaries.proofs.Common.{drop-append_seam, caller_text, actor_text, is_skipped, lines_in, line, history, slice_get-filter, AreTold, IsToldAs}
+use Rattle.act_summaries.proofs.Common.{is_open, ends_in, told_line, IsLeftOpen, open_line, AreToldAlike, All_at, map-slice_get, place_in, filter_mapped}
 use Rattle.act_summaries.proofs.Bytes.{cut, begins_once, word_lacks, before_cut, before}
 use Rattle.act_summaries.proofs.Marks.{Equals}
 use Rattle.act_summaries.proofs.Reading.{shown, tells_both, skipped_alike, told_at, filled_in, told_texts}
-use Rattle.act_summaries.proofs.Texts.{numbered, kept_word, future_as, futures, lines_of, summary_is, is_of, of_caller, owner, future_name, future_word}
-use Rattle.act_summaries.proofs.Texts.{actor_word, caller_dots}
+use Rattle.act_summaries.proofs.Texts.{numbered, future_as, futures, lines_of, summary_is, is_of, of_caller, owner, future_name, future_word, actor_word}
+use Rattle.act_summaries.proofs.Texts.{caller_dots}
 use Rattle.act_summaries.proofs.Facts.{Facts, facts, IsCallerNumber}
 use Rattle.act_summaries.proofs.Decoding.{future_is, open_is}
 use Rattle.act_summaries.proofs.Alike.{lines_lack_ends}
@@ -19,23 +18,20 @@ use Rattle.act_summaries.proofs.Near.{AreNear, lines_near}
 -- ---- lists
 
 -- the element stands at some place
-abbrev Stands : {A : Type 0} → List A → A → Type 0
+abbrev pub Stands : {A : Type 0} → List A → A → Type 0
 Stands xs x = (i : ℕ) × (slice_get xs i ≡ Some x)
 
 stands-filter : {A : Type 0} (p : A → Bool) (xs : List A) (x : A) → Stands xs x → p x ≡ true → Stands (filter p xs) x
-stands-filter p xs x at passes = (length (filter p (take at.0 xs)), slice_get-filter p xs at.0 x at.1 passes)
+stands-filter p xs x at passes = (length (filter p (take at.0 xs)), slice_get-filter p xs at.0 at.1 passes)
 
 numbered_at : {X : Type 0} (text_of : ℕ → X → List ℕ) (place : ℕ) (xs : List X) (i : ℕ) (text : List ℕ) → slice_get (numbered text_of place xs) i ≡ Some text →
     (x : X) × (i < length xs) × (text ≡ text_of (place + i) x)
 numbered_at text_of place [] i text e = absurd (cc)
 numbered_at text_of place (x ∷ xs) zero text e =
-    let same : place ≡ place + 0 = omega arith in
-    let is : text_of place x ≡ text = cc in
-    (x, omega arith, sym is ∙ ap (λ (n : ℕ). text_of n x) same)
+    let same : place ≡ place + 0 = omega arith in let is : text_of place x ≡ text = cc in (x, omega arith, sym is ∙ ap (λ n. text_of n x) same)
 numbered_at text_of place (x ∷ xs) (suc i) text e =
-    let rest = numbered_at text_of (place + 1) xs i text e in
-    let same : (place + 1) + i ≡ place + suc i = omega arith in
-    (rest.0, omega (arith, rest.1), rest.2 ∙ ap (λ (n : ℕ). text_of n rest.0) same)
+    let rest = numbered_at text_of (place + 1) xs i text e in let same : (place + 1) + i ≡ place + suc i = omega arith in
+    (rest.0, omega (arith, rest.1), rest.2 ∙ ap (λ n. text_of n rest.0) same)
 
 -- ---- a line that is open
 
@@ -48,7 +44,7 @@ is_marked front =
     let text : List ℕ = front ++ codes " = *" in
     let count : length text - length (codes " = *") ≡ length front = omega (arith, length-append front (codes " = *")) in
     let end : ends_in (codes " = *") text ≡ true =
-    ap (λ (n : ℕ). pointwise (λ a b. a == b) (codes " = *") (drop n text)) count
+    ap (λ n. pointwise (λ a b. a == b) (codes " = *") (drop n text)) count
     ∙ ap (pointwise (λ a b. a == b) (codes " = *")) (drop-append_seam front (codes " = *"))
     ∙ pointwise_itself (codes " = *") in
     or_left (ends_in (codes " = *") text || ends_in (codes " live ?") text) (ends_in (codes " retired ?") text)
@@ -68,7 +64,7 @@ module _ (casts : List ActorSpec) (g : History) (t : Facts casts g) (bytes : Lis
   texts_of : (c : ℕ) → IsCallerNumber c → map (λ (p : Pair). p.1) (pairs_of (caller_text c) ps) ≡ futures g c
   texts_of c number =
       sym (filter_mapped (is_of (caller_text c)) (λ (p : Pair). p.1) (filter (λ (p : Pair). not (is_skipped p.1)) ps))
-      ∙ ap (filter (is_of (caller_text c))) (sym (filter_mapped (λ (text : List ℕ). not (is_skipped text)) (λ (p : Pair). p.1) ps) ∙ texts)
+      ∙ ap (filter (is_of (caller_text c))) (sym (filter_mapped (λ text. not (is_skipped text)) (λ (p : Pair). p.1) ps) ∙ texts)
       ∙ of_caller g c number.0 number.1
 
   -- a pair of future k is the k-th one of its caller
@@ -78,20 +74,18 @@ module _ (casts : List ActorSpec) (g : History) (t : Facts casts g) (bytes : Lis
       let word = word_lacks 32 (future_name c k) (omega arith) (future_word c k) in
       let name : owner p.1 ≡ caller_text c = ap owner is ∙ ap (before 46) (before_cut 32 (future_name c k) rest word) ∙ before_cut 46 (caller_text c)
       (decimal k) (caller_dots c) in
-      let inner = stands-filter (λ (p : Pair). not (is_skipped p.1)) ps p at (ap (λ (l : List ℕ). not (is_skipped l)) is) in
+      let inner = stands-filter (λ (p : Pair). not (is_skipped p.1)) ps p at (ap (λ l. not (is_skipped l)) is) in
       let outer = stands-filter (λ (p : Pair). is_of (caller_text c) p.1) (filter (λ (p : Pair). not (is_skipped p.1)) ps) p inner
       ((bytes_decides (owner p.1) (caller_text c)).1 name) in
       let text : slice_get (futures g c) outer.0 ≡ Some p.1 =
-      ap (λ (l : List (List ℕ)). slice_get l outer.0) (sym (texts_of c number)) ∙ slice_get-map (λ (p : Pair). p.1) (pairs_of (caller_text c) ps) outer.0
+      ap (λ l. slice_get l outer.0) (sym (texts_of c number)) ∙ slice_get-map (λ (p : Pair). p.1) (pairs_of (caller_text c) ps) outer.0
       ∙ ap (option_map (λ (p : Pair). p.1)) outer.1 in
       let call = numbered_at (future_as c (kept_of c g)) 0 (calls_of c g) outer.0 p.1 text in
       let other = word_lacks 32 (future_name c (0 + outer.0)) (omega arith) (future_word c (0 + outer.0)) in
-      let names = begins_once (future_name c k) (future_name c (0 + outer.0)) rest (actor_text call.0.actor ++ 32 ∷ kept_word
-      (kept_at (kept_of c g) (0 + outer.0))) p.1 word other is call.2 in
+      let names = begins_once (future_name c k) (future_name c (0 + outer.0)) word other is call.2 in
       let place = future_is c c k (0 + outer.0) (omega (arith, number.1)) (omega (arith, number.1)) (omega (arith, few))
       (omega (arith, call.1, t.few c)) names.0 in
-      let same : outer.0 ≡ k = omega (arith, place.1) in
-      subst (λ (n : ℕ). slice_get (pairs_of (caller_text c) ps) n ≡ Some p) same outer.1
+      let same : outer.0 ≡ k = omega (arith, place.1) in subst (λ n. slice_get (pairs_of (caller_text c) ps) n ≡ Some p) same outer.1
 
   -- the line of a future that is left open
   front_is : (c k b : ℕ) (rest : List ℕ) → (future_name c k ++ 32 ∷ actor_text b) ++ rest ≡ future_name c k ++ 32 ∷ (actor_text b ++ rest)
@@ -103,11 +97,10 @@ module _ (casts : List ActorSpec) (g : History) (t : Facts casts g) (bytes : Lis
   open_pair : (c k : ℕ) (p : Pair) (rest : List ℕ) → IsCallerNumber c → k < 65536 → Stands ps p → p.1 ≡ future_name c k ++ 32 ∷ rest → IsLeftOpen bytes c k →
       (b : ℕ) × (p.0 ≡ open_line c k b)
   open_pair c k p rest number few at is opened =
-      let b = opened.0 in
-      let line = place_in (lines_in bytes) (open_line c k b) opened.1 in
-      let q = map-slice_get (λ (p : Pair). p.0) ps line.0 (open_line c k b) (ap (λ (l : List (List ℕ)). slice_get l line.0) given ∙ line.1) in
+      let b = opened.0 in let line = place_in (lines_in bytes) (open_line c k b) opened.1 in
+      let q = map-slice_get (λ (p : Pair). p.0) ps line.0 (ap (λ l. slice_get l line.0) given ∙ line.1) in
       let front : List ℕ = future_name c k ++ 32 ∷ actor_text b in
-      let text = told_at q.0.0 q.0.1 front Equals (q.2 ∙ left_is c k b) (All_at (λ (p : Pair). IsToldAs p.0 p.1) ps line.0 q.0 told q.1) in
+      let text = told_at q.0.0 q.0.1 front Equals (q.2 ∙ left_is c k b) (All_at (λ (p : Pair). IsToldAs p.0 p.1) ps line.0 told q.1) in
       let mine = pair_at c k p rest number few at is in
       let theirs = pair_at c k q.0 (actor_text b ++ 32 ∷ (61 ∷ 32 ∷ text.0)) number few (line.0, q.1) (text.1 ∙ front_is c k b (32 ∷ (61 ∷ 32 ∷ text.0))) in
       (b, ap (λ (p : Pair). p.0) (same_Some p q.0 (sym mine ∙ theirs)) ∙ q.2)
@@ -117,23 +110,21 @@ module _ (casts : List ActorSpec) (g : History) (t : Facts casts g) (bytes : Lis
   tells_near p at as_told y (inl same) = subst (IsToldAs p.0) (sym same) as_told
   tells_near p at as_told y (inr d) =
       let opened = open_pair d.c d.k p (actor_text d.a ++ 32 ∷ 61 ∷ 32 ∷ d.what) d.number d.few at d.one d.opened in
-      let b = opened.0 in
-      let front : List ℕ = future_name d.c d.k ++ 32 ∷ actor_text b in
+      let b = opened.0 in let front : List ℕ = future_name d.c d.k ++ 32 ∷ actor_text b in
       let is : p.0 ≡ front ++ 32 ∷ (61 ∷ 32 ∷ 42 ∷ []) = opened.1 ∙ left_is d.c d.k b in
       let text = told_at p.0 p.1 front Equals is as_told in
       let word = word_lacks 32 (future_name d.c d.k) (omega arith) (future_word d.c d.k) in
-      let rest = begins_once (future_name d.c d.k) (future_name d.c d.k) (actor_text d.a ++ 32 ∷ 61 ∷ 32 ∷ d.what)
-      (actor_text b ++ 32 ∷ (61 ∷ 32 ∷ text.0)) p.1 word word
+      let rest = begins_once (future_name d.c d.k) (future_name d.c d.k) word word
       d.one (text.1 ∙ front_is d.c d.k b (32 ∷ (61 ∷ 32 ∷ text.0))) in
       let actor = cut 32 (actor_text d.a) (actor_text b) (61 ∷ 32 ∷ d.what) (61 ∷ 32 ∷ text.0)
       (word_lacks 32 (actor_text d.a) (omega arith) (actor_word d.a)) (word_lacks 32 (actor_text b) (omega arith) (actor_word b)) rest.1 in
       inr (record {
         marked = ap is_open is ∙ is_marked front;
         what = d.other;
-        of_one_line = All-from_recursion (λ (x : ℕ). x ≢ 10) d.other d.lack;
+        of_one_line = All-from_recursion (λ x. x ≢ 10) d.other d.lack;
         filled =
             d.two
-            ∙ ap (λ (l : List ℕ). future_name d.c d.k ++ 32 ∷ (l ++ 32 ∷ 61 ∷ 32 ∷ d.other)) actor.0
+            ∙ ap (λ l. future_name d.c d.k ++ 32 ∷ (l ++ 32 ∷ 61 ∷ 32 ∷ d.other)) actor.0
             ∙ sym (front_is d.c d.k b (32 ∷ 61 ∷ 32 ∷ d.other))
             ∙ sym (filled_in p.0 front Equals d.other is);
       })
@@ -165,36 +156,26 @@ module _ (bytes : List ℕ) where
           let r = more rest zip in
           record {
             pairs = p ∷ r.pairs;
-            given = ap (λ (l : List (List ℕ)). p.0 ∷ l) r.given;
+            given = ap (λ l. p.0 ∷ l) r.given;
             told = (told.0, r.told);
-            whole = ap (λ (b : Bool). cond b [] (line p.1) ++ flat_map (λ (p : Pair). told_line p.1) r.pairs) e ∙ r.whole;
+            whole = ap (λ b. cond b [] (line p.1) ++ flat_map (λ (p : Pair). told_line p.1) r.pairs) e ∙ r.whole;
           }
       go false e [] zip more = absurd zip
       go false e (y ∷ rest) zip more =
-          let r = more rest zip.1 in
-          let tell = each p (0, refl) y zip.0 in
+          let r = more rest zip.1 in let tell = each p (0, refl) y zip.0 in
           let skip : is_skipped y ≡ false = sym (skipped_alike p.0 p.1 y (tells_both p.0 p.1 y told.0 tell)) ∙ e in
-          record {
-            pairs = (p.0, y) ∷ r.pairs;
-            given = ap (λ (l : List (List ℕ)). p.0 ∷ l) r.given;
-            told = (tell, r.told);
-            whole = (λ i. cond (skip i) [] (line y) ++ r.whole i);
-          }
+          record { pairs = (p.0, y) ∷ r.pairs; given = ap (λ l. p.0 ∷ l) r.given; told = (tell, r.told); whole = (λ i. cond (skip i) [] (line y) ++ r.whole i) }
 
 -- where two histories of the same roles that scripts can write end alike, lines that tell one tell the other
 pub told_alike : AreToldAlike
 told_alike roles events others bytes said first second alike make =
-    let casts = map actor_spec_of roles in
-    let h = history casts events in
-    let g = history casts others in
-    let f = facts roles events said first in
-    let t = facts roles others said second in
-    let whole = subst (AreTold bytes) (summary_is g) make in
+    let casts = map actor_spec_of roles in let h = history casts events in let g = history casts others in let f = facts roles events said first in
+    let t = facts roles others said second in let whole = subst (AreTold bytes) (summary_is g) make in
     let texts = told_texts bytes (lines_of g) (lines_lack_ends casts g t) whole in
     let told = recursion_from_All (λ (p : Pair). IsToldAs p.0 p.1) whole.pairs whole.told in
-    let near = subst (λ (l : List (List ℕ)). AllZip (AreNear bytes) l (lines_of h)) (sym texts) (lines_near casts h g f t bytes alike) in
+    let near = subst (λ l. AllZip (AreNear bytes) l (lines_of h)) (sym texts) (lines_near casts h g f t bytes alike) in
     let made = remade bytes whole.pairs (lines_of h) told
-    (λ q at. tells_near casts g t bytes whole.pairs whole.given told texts q at (All_at (λ (p : Pair). IsToldAs p.0 p.1) whole.pairs at.0 q told at.1)) near in
+    (λ q at. tells_near casts g t bytes whole.pairs whole.given told texts q at (All_at (λ (p : Pair). IsToldAs p.0 p.1) whole.pairs at.0 told at.1)) near in
     record {
       pairs = made.pairs;
       given = made.given ∙ whole.given;

@@ -1,8 +1,8 @@
 -- Calls and ends with which lines agree fit the history that the lines tell.
 use Rattle.act_summaries.proofs.Common.{◌≡◌, ℕ, ◌+◌, ◌≤◌, Bool, true, false, cond, List, [], ◌∷◌, ◌++◌, map, filter, slice_get, Some, None, Option, is_some}
 use Rattle.act_summaries.proofs.Common.{option_map, refl, sym, ap, subst, ◌∙◌, arith, History, ActorSpec, cast_of, calls_of, runs_of, kept_of, is_dead}
-use Rattle.act_summaries.proofs.Common.{is_retired, KindState, actor_spec_of, append-nil, Submission, bytes_eq, AllZip, flat_map, filter-append, caller_text}
-use Rattle.act_summaries.proofs.Common.{actor_text, state_after, kept_at, one_to, stage_text, history, AreTold, Call, End, Stem, OfCall, OfEnd, OfRun, placed}
+use Rattle.act_summaries.proofs.Common.{is_retired, actor_spec_of, append-nil, Submission, bytes_eq, AllZip, flat_map, filter-append, caller_text, actor_text}
+use Rattle.act_summaries.proofs.Common.{state_after, kept_at, one_to, stage_text, history, AreTold, Call, End, Stem, OfCall, OfEnd, OfRun, placed}
 use Rattle.act_summaries.proofs.Common.{stems_of_actor, stems_of, IsKeptSo, IsActorSo, AgreedLinesFit}
 use Rattle.act_summaries.proofs.Owned.{belongs, AreOwned, others, one_of}
 use Rattle.act_summaries.proofs.Texts.{actor_as, futures, actors, lines_of, summary_is, is_of, of_caller, of_actor, owner_same, callers_differ, actors_differ}
@@ -18,13 +18,12 @@ filtered_stems : (name : List ℕ) (stems : List Stem) (xs : List (List ℕ)) �
     AllZip IsToldOf (filter (belongs stem_name name) stems) (filter (is_of name) xs)
 filtered_stems name [] [] all = tt
 filtered_stems name (stem ∷ stems) (x ∷ xs) all =
-    go (bytes_eq (stem_name stem) name) (is_of name x) (ap (λ (o : List ℕ). bytes_eq o name)
+    go (bytes_eq (stem_name stem) name) (is_of name x) (ap (λ o. bytes_eq o name)
     (sym (line_name stem all.0.line all.0.agrees) ∙ sym (owner_same all.0.line x all.0.line all.0.tells)))
     (filtered_stems name stems xs all.1)
   where
-    go : (a b : Bool) → a ≡ b → AllZip IsToldOf (filter (belongs stem_name name) stems) (filter (is_of name) xs) →
-        AllZip IsToldOf (cond a (stem ∷ filter (belongs stem_name name) stems) (filter (belongs stem_name name) stems))
-        (cond b (x ∷ filter (is_of name) xs) (filter (is_of name) xs))
+    go : (a b : Bool) → a ≡ b → AllZip IsToldOf (filter (belongs stem_name name) stems) (filter (is_of name) xs) → AllZip IsToldOf (cond a
+        (stem ∷ filter (belongs stem_name name) stems) (filter (belongs stem_name name) stems)) (cond b (x ∷ filter (is_of name) xs) (filter (is_of name) xs))
     go true true e rest = (all.0, rest)
     go false false e rest = rest
     go more other e rest = cc
@@ -72,28 +71,26 @@ module _ (calls : ℕ → List Call) (ends : ℕ → Option End) where
         × ((j : ℕ) (call : Call) → slice_get (calls c) j ≡ Some call → IsKeptSo call.kept (kept_at (kept_of c h) (0 + j)))
     caller_fits c some few =
         calls_told c (kept_of c h) (kept_fine casts h f c) 0 (calls c) (calls_of c h) (few_actors casts h f c)
-        (subst (λ (l : List Stem). AllZip IsToldOf l (futures h c)) (of_one_caller c some few)
-        (subst (λ (l : List (List ℕ)). AllZip IsToldOf (filter (belongs stem_name (caller_text c)) (stems_of calls ends)) l) (of_caller h c some few)
-        (filtered_stems (caller_text c) (stems_of calls ends) (lines_of h) told)))
+        (subst (λ l. AllZip IsToldOf l (futures h c)) (of_one_caller c some few) (subst (λ l. AllZip IsToldOf (filter (belongs stem_name (caller_text c))
+        (stems_of calls ends)) l) (of_caller h c some few) (filtered_stems (caller_text c) (stems_of calls ends) (lines_of h) told)))
 
     abbrev staged : ℕ → Option ActorSpec → Option (List ℕ)
-    staged a o = option_map (λ (state : KindState). stage_text (is_dead a h) (is_retired a h) (state_after state (runs_of a h)))
+    staged a o = option_map (λ state. stage_text (is_dead a h) (is_retired a h) (state_after state (runs_of a h)))
         (option_map (λ (cast : ActorSpec). cast.opening) o)
 
     actor_fits : (a : ℕ) → 1 ≤ a → a ≤ 8 → IsActorSo a h (ends a)
-    actor_fits a some few = go (ends a) (cast_of a h) refl
-        (subst (λ (l : List Stem). AllZip IsToldOf l (actors h a)) (of_one_actor a some few)
-        (subst (λ (l : List (List ℕ)). AllZip IsToldOf (filter (belongs stem_name (actor_text a)) (stems_of calls ends)) l) (of_actor h a some few)
+    actor_fits a some few = go (ends a) (cast_of a h) refl (subst (λ l. AllZip IsToldOf l (actors h a)) (of_one_actor a some few)
+        (subst (λ l. AllZip IsToldOf (filter (belongs stem_name (actor_text a)) (stems_of calls ends)) l) (of_actor h a some few)
         (filtered_stems (actor_text a) (stems_of calls ends) (lines_of h) told)))
       where
-        retires : (dead retired d : Bool) → d ≡ dead → is_dead a h ≡ d → (dead ≡ true → retired ≡ false) → (d ≡ false → is_retired a h ≡ retired) →
+        retires : (dead retired : Bool) {d : Bool} → d ≡ dead → is_dead a h ≡ d → (dead ≡ true → retired ≡ false) → (d ≡ false → is_retired a h ≡ retired) →
             is_retired a h ≡ retired
-        retires true retired d same is apart live = f.once.apart a (is ∙ same) ∙ sym (apart refl)
-        retires false retired d same is apart live = live same
+        retires true retired same is apart live = f.once.apart a (is ∙ same) ∙ sym (apart refl)
+        retires false retired same is apart live = live same
 
-        apart : (dead retired : Bool) (text : List ℕ) → IsToldOf (OfEnd a dead retired) text → dead ≡ true → retired ≡ false
-        apart true retired text is e = not_both a retired text is
-        apart false retired text is e = cc
+        apart : (dead : Bool) {retired : Bool} {text : List ℕ} → IsToldOf (OfEnd a dead retired) text → dead ≡ true → retired ≡ false
+        apart true {retired} {text} is e = not_both a retired is
+        apart false is e = cc
 
         go : (o : Option End) (p : Option ActorSpec) → cast_of a h ≡ p → AllZip IsToldOf (stems_of_actor a o) (actor_as a (runs_of a h) (staged a p)) →
             IsActorSo a h o
@@ -102,10 +99,9 @@ module _ (calls : ℕ → List Call) (ends : ℕ → Option End) where
             let state = state_after cast.opening (runs_of a h) in
             let stage = end_told a end.dead end.retired (is_dead a h) (is_retired a h) state all.0 in
             record {
-              cast = ap (λ (o : Option ActorSpec). is_some o) e;
+              cast = ap (λ o. is_some o) e;
               dead = stage.0;
-              retired = retires end.dead end.retired (is_dead a h) stage.0 refl
-                  (apart end.dead end.retired (actor_text a ++ 32 ∷ stage_text (is_dead a h) (is_retired a h) state) all.0) stage.1;
+              retired = retires end.dead end.retired stage.0 refl (apart end.dead all.0) stage.1;
               runs = runs_told a 0 end.runs (runs_of a h) (items_fine casts h f a) all.1;
             }
         go more other e all = absurd all
@@ -113,14 +109,12 @@ module _ (calls : ℕ → List Call) (ends : ℕ → Option End) where
 -- where lines agree with calls and ends, these fit each history that a script can write and the lines tell
 pub agreed_lines_fit : AgreedLinesFit
 agreed_lines_fit calls ends bytes roles events said sayable agreed told =
-    let casts = map actor_spec_of roles in
-    let h = history casts events in
-    let f = facts roles events said sayable in
+    let casts = map actor_spec_of roles in let h = history casts events in let f = facts roles events said sayable in
     let zipped = agreed_lines bytes (stems_of calls ends) (lines_of h) (lines_lack_ends casts h f) (subst (AreTold bytes) (summary_is h) told) agreed in
     record {
       called = λ c some few. (caller_fits calls ends casts h f zipped c some few).0;
       kept = λ c k call some few at.
           let same : 0 + k ≡ k = omega arith in
-          subst (λ (n : ℕ). IsKeptSo call.kept (kept_at (kept_of c h) n)) same ((caller_fits calls ends casts h f zipped c some few).1 k call at);
+          subst (λ n. IsKeptSo call.kept (kept_at (kept_of c h) n)) same ((caller_fits calls ends casts h f zipped c some few).1 k call at);
       ended = λ a some few. actor_fits calls ends casts h f zipped a some few;
     }

@@ -72,20 +72,18 @@ step line a b x y (inr opened) = go opened.front opened.mark opened.left opened.
     go : (front : List ℕ) (mark : Mark) (left right : List ℕ) → line ≡ front ++ 32 ∷ (word_of mark ++ 32 ∷ end_of mark ∷ []) →
         a ∷ x ≡ front ++ 32 ∷ (word_of mark ++ 32 ∷ left) → b ∷ y ≡ front ++ 32 ∷ (word_of mark ++ 32 ∷ right) → Step line a b x y
     go [] mark left right l e f =
-        let first : a ≡ 32 = cc in
-        let second : b ≡ 32 = cc in
+        let first : a ≡ 32 = cc in let second : b ≡ 32 = cc in
         record {
           rest = word_of mark ++ 32 ∷ end_of mark ∷ [];
-          line_is = l ∙ ap (λ (n : ℕ). n ∷ (word_of mark ++ 32 ∷ end_of mark ∷ [])) (sym first);
+          line_is = l ∙ ap (λ n. n ∷ (word_of mark ++ 32 ∷ end_of mark ∷ [])) (sym first);
           same = first ∙ sym second;
           tells = inr (first, record { mark = mark; left = left; right = right; line_is = refl; left_is = cc; right_is = cc });
         }
     go (n ∷ front) mark left right l e f =
-        let first : a ≡ n = cc in
-        let second : b ≡ n = cc in
+        let first : a ≡ n = cc in let second : b ≡ n = cc in
         record {
           rest = front ++ 32 ∷ (word_of mark ++ 32 ∷ end_of mark ∷ []);
-          line_is = l ∙ ap (λ (m : ℕ). m ∷ (front ++ 32 ∷ (word_of mark ++ 32 ∷ end_of mark ∷ []))) (sym first);
+          line_is = l ∙ ap (λ m. m ∷ (front ++ 32 ∷ (word_of mark ++ 32 ∷ end_of mark ∷ []))) (sym first);
           same = first ∙ sym second;
           tells = inl (inr (record { front = front; mark = mark; left = left; right = right; line_is = refl; left_is = cc; right_is = cc }));
         }
@@ -108,12 +106,7 @@ peel (c ∷ u) (d ∷ v) x y line nu nv t =
     elim s.tells [
       | inl both ↦
           let rest = peel u v x y s.rest nu.1 nv.1 both in
-          record {
-            same = (λ i. s.same i ∷ rest.same i);
-            rest = rest.rest;
-            line_is = s.line_is ∙ ap (λ (l : List ℕ). c ∷ l) rest.line_is;
-            tells = rest.tells;
-          }
+          record { same = (λ i. s.same i ∷ rest.same i); rest = rest.rest; line_is = s.line_is ∙ ap (λ l. c ∷ l) rest.line_is; tells = rest.tells }
       | inr marked ↦ absurd (nu.0 marked.0)
     ]
 
@@ -158,34 +151,30 @@ pub unmarked : (first : List ℕ) (words : List (List ℕ)) (front : List ℕ) (
 unmarked [] [] [] mark rest lacks lack none e = cc
 unmarked [] [] (c ∷ front) mark rest lacks lack none e = cc
 unmarked [] (u ∷ us) [] mark rest lacks lack none e =
-    let tail : u ++ spaced us ≡ word_of mark ++ 32 ∷ rest = cc in
-    none.0 mark (marked_word u us mark rest lack.0 tail)
+    let tail : u ++ spaced us ≡ word_of mark ++ 32 ∷ rest = cc in none.0 mark (marked_word u us mark rest lack.0 tail)
 unmarked [] (u ∷ us) (c ∷ front) mark rest lacks lack none e =
-    let tail : u ++ spaced us ≡ front ++ 32 ∷ (word_of mark ++ 32 ∷ rest) = cc in
-    unmarked u us front mark rest lack.0 lack.1 none.1 tail
+    let tail : u ++ spaced us ≡ front ++ 32 ∷ (word_of mark ++ 32 ∷ rest) = cc in unmarked u us front mark rest lack.0 lack.1 none.1 tail
 unmarked (b ∷ first) words [] mark rest lacks lack none e = let same : b ≡ 32 = cc in lacks.0 same
 unmarked (b ∷ first) words (c ∷ front) mark rest lacks lack none e =
-    let tail : first ++ spaced words ≡ front ++ 32 ∷ (word_of mark ++ 32 ∷ rest) = cc in
-    unmarked first words front mark rest lacks.1 lack none tail
+    let tail : first ++ spaced words ≡ front ++ 32 ∷ (word_of mark ++ 32 ∷ rest) = cc in unmarked first words front mark rest lacks.1 lack none tail
 
 -- a text whose words are none of a mark is told as it stands
-pub told_same : (line first : List ℕ) (words : List (List ℕ)) (y : List ℕ) → Lacks 32 first → AreLacking words → IsNoMark first →
+pub told_same : (line : List ℕ) {first : List ℕ} (words : List (List ℕ)) (y : List ℕ) → Lacks 32 first → AreLacking words → IsNoMark first →
     AllByRecursion IsNoMark words → TellsRest line (first ++ spaced words) y → first ++ spaced words ≡ y
-told_same line first words y lacks lack own none (inl (inl same)) = same.0 ∙ sym same.1
-told_same line first words y lacks lack own none (inl (inr opened)) = absurd (unmarked first words opened.front opened.mark opened.left lacks lack none opened.left_is)
-told_same line first words y lacks lack own none (inr marked) = absurd (own marked.mark (marked_word first words marked.mark marked.left lacks marked.left_is))
+told_same line words y lacks lack own none (inl (inl same)) = same.0 ∙ sym same.1
+told_same line {first} words y lacks lack own none (inl (inr opened)) =
+    absurd (unmarked first words opened.front opened.mark opened.left lacks lack none opened.left_is)
+told_same line {first} words y lacks lack own none (inr marked) =
+    absurd (own marked.mark (marked_word first words marked.mark marked.left lacks marked.left_is))
 
 -- the words of one text are the same
 pub words_same : (u v : List ℕ) (us vs : List (List ℕ)) → Lacks 32 u → Lacks 32 v → AreLacking us → AreLacking vs →
     u ++ spaced us ≡ v ++ spaced vs → (u ≡ v) × (us ≡ vs)
 words_same u v [] [] nu nv lu lv e = (sym (append-nil u) ∙ e ∙ append-nil v, refl)
 words_same u v [] (w ∷ ws) nu nv lu lv e =
-    let is : u ≡ v ++ 32 ∷ (w ++ spaced ws) = sym (append-nil u) ∙ e in
-    absurd (lacks_not 32 v (w ++ spaced ws) (subst (Lacks 32) is nu))
+    let is : u ≡ v ++ 32 ∷ (w ++ spaced ws) = sym (append-nil u) ∙ e in absurd (lacks_not 32 v (w ++ spaced ws) (subst (Lacks 32) is nu))
 words_same u v (w ∷ ws) [] nu nv lu lv e =
-    let is : v ≡ u ++ 32 ∷ (w ++ spaced ws) = sym (append-nil v) ∙ sym e in
-    absurd (lacks_not 32 u (w ++ spaced ws) (subst (Lacks 32) is nv))
+    let is : v ≡ u ++ 32 ∷ (w ++ spaced ws) = sym (append-nil v) ∙ sym e in absurd (lacks_not 32 u (w ++ spaced ws) (subst (Lacks 32) is nv))
 words_same u v (w ∷ ws) (z ∷ zs) nu nv lu lv e =
-    let first = cut 32 u v (w ++ spaced ws) (z ++ spaced zs) nu nv e in
-    let rest = words_same w z ws zs lu.0 lv.0 lu.1 lv.1 first.1 in
+    let first = cut 32 u v (w ++ spaced ws) (z ++ spaced zs) nu nv e in let rest = words_same w z ws zs lu.0 lv.0 lu.1 lv.1 first.1 in
     (first.0, (λ i. rest.0 i ∷ rest.1 i))

@@ -1,8 +1,7 @@
 -- Histories that end alike, but for answers that lines leave open, have the same lines but for these.
 use Rattle.act_summaries.proofs.Common.{◌≡◌, ◌⊎◌, inl, inr, ℕ, ◌+◌, ◌<◌, ◌≤◌, ◌==◌, true, false, List, [], ◌∷◌, ◌++◌, length, map, find, Some, None, Option}
 use Rattle.act_summaries.proofs.Common.{is_some, option_map, refl, sym, ap, subst, ◌∙◌, arith, History, ActorSpec, calls_of, kept_of, opening_of, Answer}
-use Rattle.act_summaries.proofs.Common.{KindState, Submission, AllZip, flat_map, actor_text, answer_text, state_after, kept_at, one_to, stage_text, EndAlike}
-use Rattle.act_summaries.proofs.Common.{IsLeftOpen}
+use Rattle.act_summaries.proofs.Common.{Submission, AllZip, flat_map, actor_text, answer_text, state_after, kept_at, one_to, stage_text, EndAlike, IsLeftOpen}
 use Rattle.act_summaries.proofs.Bytes.{Lacks, word_lacks}
 use Rattle.act_summaries.proofs.Texts.{numbered, kept_word, future_as, actor_as, futures, actors, lines_of, future_name}
 use Rattle.act_summaries.proofs.Words.{answer_word}
@@ -41,8 +40,8 @@ pub record DifferOpen (bytes x y : List ℕ) : Type 0 where
 abbrev pub AreNear : List ℕ → List ℕ → List ℕ → Type 0
 AreNear bytes x y = (y ≡ x) ⊎ DifferOpen bytes x y
 
-zip-same : (bytes : List ℕ) (xs ys : List (List ℕ)) → ys ≡ xs → AllZip (AreNear bytes) xs ys
-zip-same bytes xs ys e = subst (λ (l : List (List ℕ)). AllZip (AreNear bytes) xs l) (sym e) (go xs)
+zip-same : (bytes : List ℕ) (xs : List (List ℕ)) {ys : List (List ℕ)} → ys ≡ xs → AllZip (AreNear bytes) xs ys
+zip-same bytes xs e = subst (λ l. AllZip (AreNear bytes) xs l) (sym e) (go xs)
   where
     go : (l : List (List ℕ)) → AllZip (AreNear bytes) l l
     go [] = tt
@@ -63,14 +62,11 @@ module _ (casts : List ActorSpec) (h g : History) (f : Facts casts h) (t : Facts
       text : ℕ → Option Answer → List ℕ
       text a o = future_name c k ++ 32 ∷ (actor_text a ++ 32 ∷ kept_word o)
 
-      go : IsLeftOpen bytes c k → (o p : Option Answer) → kept_at (kept_of c g) k ≡ o → kept_at (kept_of c h) k ≡ p →
-          is_some (kept_at (kept_of c h) k) ≡ is_some (kept_at (kept_of c g) k) →
-          AreNear bytes (future_as c (kept_of c g) k call) (future_as c (kept_of c h) k other)
+      go : IsLeftOpen bytes c k → (o p : Option Answer) → kept_at (kept_of c g) k ≡ o → kept_at (kept_of c h) k ≡ p → is_some
+          (kept_at (kept_of c h) k) ≡ is_some (kept_at (kept_of c g) k) → AreNear bytes (future_as c (kept_of c g) k call) (future_as c (kept_of c h) k other)
       go opened None None e d some = inl (λ i. future_name c k ++ 32 ∷ (actor_text (same i) ++ 32 ∷ kept_word ((d ∙ sym e) i)))
-      go opened None (Some answer) e d some =
-          absurd (let bad : true ≡ false = sym (ap (λ (o : Option Answer). is_some o) d) ∙ some ∙ ap (λ (o : Option Answer). is_some o) e in cc)
-      go opened (Some was) None e d some =
-          absurd (let bad : false ≡ true = sym (ap (λ (o : Option Answer). is_some o) d) ∙ some ∙ ap (λ (o : Option Answer). is_some o) e in cc)
+      go opened None (Some answer) e d some = absurd (let bad : true ≡ false = sym (ap (λ o. is_some o) d) ∙ some ∙ ap (λ o. is_some o) e in cc)
+      go opened (Some was) None e d some = absurd (let bad : false ≡ true = sym (ap (λ o. is_some o) d) ∙ some ∙ ap (λ o. is_some o) e in cc)
       go opened (Some was) (Some answer) e d some = inr (record {
         c = c;
         k = k;
@@ -100,18 +96,17 @@ module _ (casts : List ActorSpec) (h g : History) (f : Facts casts h) (t : Facts
     | inl number ↦ futures_near c 0 (calls_of c g) (calls_of c h) number (omega (arith, t.few c)) (alike.calls c)
     | inr none ↦ elim (valid_or_none casts h f c) [
       | inl number ↦ futures_near c 0 (calls_of c g) (calls_of c h) number (omega (arith, t.few c)) (alike.calls c)
-      | inr nothing ↦ subst (λ (l : List Submission). AllZip (AreNear bytes) (numbered (future_as c (kept_of c g)) 0 l) (futures h c)) (sym none)
-          (subst (λ (l : List Submission). AllZip (AreNear bytes) [] (numbered (future_as c (kept_of c h)) 0 l)) (sym nothing) tt)
+      | inr nothing ↦ subst (λ l. AllZip (AreNear bytes) (numbered (future_as c (kept_of c g)) 0 l) (futures h c)) (sym none)
+          (subst (λ l. AllZip (AreNear bytes) [] (numbered (future_as c (kept_of c h)) 0 l)) (sym nothing) tt)
     ]
   ]
 
   opening_same : (a : ℕ) → opening_of a h ≡ opening_of a g
-  opening_same a = ap (λ (all : List ActorSpec). option_map (λ (cast : ActorSpec). cast.opening) (find (λ (cast : ActorSpec). cast.actor == a) all))
-      (f.same ∙ sym t.same)
+  opening_same a = ap (λ all. option_map (λ (cast : ActorSpec). cast.opening) (find (λ (cast : ActorSpec). cast.actor == a) all)) (f.same ∙ sym t.same)
 
   actors_same : (a : ℕ) → actors h a ≡ actors g a
   actors_same a =
-      λ i. actor_as a (alike.runs a i) (option_map (λ (state : KindState). stage_text (alike.dead a i) (alike.retired a i)
+      λ i. actor_as a (alike.runs a i) (option_map (λ state. stage_text (alike.dead a i) (alike.retired a i)
       (state_after state (alike.runs a i))) (opening_same a i))
 
   pub lines_near : AllZip (AreNear bytes) (lines_of g) (lines_of h)
@@ -119,4 +114,4 @@ module _ (casts : List ActorSpec) (h g : History) (f : Facts casts h) (t : Facts
       zip-append (AreNear bytes) (flat_map (futures g) (one_to 16)) (flat_map (actors g) (one_to 8)) (flat_map (futures h) (one_to 16))
       (flat_map (actors h) (one_to 8))
       (zip-flat_map (AreNear bytes) (futures g) (futures h) caller_near (one_to 16))
-      (zip-flat_map (AreNear bytes) (actors g) (actors h) (λ a. zip-same bytes (actors g a) (actors h a) (actors_same a)) (one_to 8))
+      (zip-flat_map (AreNear bytes) (actors g) (actors h) (λ a. zip-same bytes (actors g a) (actors_same a)) (one_to 8))

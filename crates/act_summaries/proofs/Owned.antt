@@ -8,6 +8,7 @@ differs_so xs ys ne = false_from_ne_true (bytes_eq xs ys) (λ e. ne ((bytes_deci
 
 -- each member has a name
 module _ {A : Type 0} (owner_of : A → List ℕ) where
+  -- whether the name is that of an item's owner
   abbrev pub belongs : List ℕ → A → Bool
   belongs name x = bytes_eq (owner_of x) name
 
@@ -18,13 +19,13 @@ module _ {A : Type 0} (owner_of : A → List ℕ) where
   all_of : (name : List ℕ) (members : List A) → AreOwned name members → filter (belongs name) members ≡ members
   all_of name [] own = refl
   all_of name (x ∷ members) own =
-      ap (λ (b : Bool). cond b (x ∷ filter (belongs name) members) (filter (belongs name) members)) ((bytes_decides (owner_of x) name).1 own.0)
-      ∙ ap (λ (l : List A). x ∷ l) (all_of name members own.1)
+      ap (λ b. cond b (x ∷ filter (belongs name) members) (filter (belongs name) members)) ((bytes_decides (owner_of x) name).1 own.0)
+      ∙ ap (λ l. x ∷ l) (all_of name members own.1)
 
   none_of : (name other : List ℕ) (members : List A) → AreOwned other members → other ≢ name → filter (belongs name) members ≡ []
   none_of name other [] own ne = refl
   none_of name other (x ∷ members) own ne =
-      ap (λ (b : Bool). cond b (x ∷ filter (belongs name) members) (filter (belongs name) members))
+      ap (λ b. cond b (x ∷ filter (belongs name) members) (filter (belongs name) members))
       (differs_so (owner_of x) name (λ same. ne (sym own.0 ∙ same)))
       ∙ none_of name other members own.1 ne
 
@@ -45,17 +46,16 @@ module _ {A : Type 0} (owner_of : A → List ℕ) where
       one_of m (suc n) some few small =
           ap (filter (belongs (named m))) (flat_map-append members (one_to n) (suc n ∷ []))
           ∙ filter-append (belongs (named m)) (flat_map members (one_to n)) (members (suc n) ++ [])
-          ∙ ap (λ (l : List A). filter (belongs (named m)) (flat_map members (one_to n)) ++ filter (belongs (named m)) l) (append-nil (members (suc n)))
+          ∙ ap (λ l. filter (belongs (named m)) (flat_map members (one_to n)) ++ filter (belongs (named m)) l) (append-nil (members (suc n)))
           ∙ go (m == suc n) refl (λ below. one_of m n some below (omega (arith, small)))
         where
           go : (b : Bool) → (m == suc n) ≡ b → (m ≤ n → filter (belongs (named m)) (flat_map members (one_to n)) ≡ members m) →
               filter (belongs (named m)) (flat_map members (one_to n)) ++ filter (belongs (named m)) (members (suc n)) ≡ members m
           go true e rest =
               let same : m ≡ suc n = eqb-true m (suc n) e in
-              let mine : AreOwned (named m) (members (suc n)) = subst (λ (k : ℕ). AreOwned (named k) (members (suc n))) (sym same) (own (suc n)) in
-              (λ i. others (named m) n (λ k below is. let bad = differ k m (omega (arith, below, small)) (omega (arith, few, small)) is in absurd
-              (omega (arith, bad, same, below))) i
-              ++ all_of (named m) (members (suc n)) mine i)
+              let mine : AreOwned (named m) (members (suc n)) = subst (λ k. AreOwned (named k) (members (suc n))) (sym same) (own (suc n)) in
+              (λ i. others (named m) n (λ k below is. let bad = differ k m (omega (arith, below, small)) (omega (arith, few, small)) is in
+              absurd (omega (arith, bad, same, below))) i ++ all_of (named m) (members (suc n)) mine i)
               ∙ ap members (sym same)
           go false e rest =
               let ne : m ≢ suc n = λ same. let bad : true ≡ false = sym (eq-eqb m (suc n) same) ∙ e in cc in

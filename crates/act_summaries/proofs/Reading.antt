@@ -11,15 +11,13 @@ use Rattle.act_summaries.proofs.Marks.{Mark, Equals, Live, Retired, word_of, end
 pointwise_same : (xs ys : List ℕ) → pointwise (λ a b. a == b) xs ys ≡ true → xs ≡ ys
 pointwise_same [] [] e = refl
 pointwise_same (x ∷ xs) (y ∷ ys) e =
-    let parts = and_parts (x == y) (pointwise (λ a b. a == b) xs ys) e in
-    let rest = pointwise_same xs ys parts.1 in
-    (λ i. eqb-true x y parts.0 i ∷ rest i)
+    let parts = and_parts (x == y) (pointwise (λ a b. a == b) xs ys) e in let rest = pointwise_same xs ys parts.1 in (λ i. eqb-true x y parts.0 i ∷ rest i)
 pointwise_same xs ys e = cc
 
 ends_so : (end text : List ℕ) → ends_in end text ≡ true → text ≡ take (length text - length end) text ++ end
 ends_so end text e =
     sym (take-append-drop (length text - length end) text)
-    ∙ ap (λ (l : List ℕ). take (length text - length end) text ++ l) (sym (pointwise_same end (drop (length text - length end) text) e))
+    ∙ ap (λ l. take (length text - length end) text ++ l) (sym (pointwise_same end (drop (length text - length end) text) e))
 
 record IsOpenAt (text : List ℕ) : Type 0 where
   front : List ℕ
@@ -37,9 +35,7 @@ open_at text e = elim (or_cases (ends_in (codes " = *") text || ends_in (codes "
 
 -- all but the last byte
 take_front : (xs : List ℕ) (x : ℕ) → take (length (xs ++ x ∷ []) - 1) (xs ++ x ∷ []) ≡ xs
-take_front xs x =
-    let short : length (xs ++ x ∷ []) - 1 ≡ length xs = omega (arith, length-append xs (x ∷ [])) in
-    rw short (take-append_seam xs (x ∷ []))
+take_front xs x = let short : length (xs ++ x ∷ []) - 1 ≡ length xs = omega (arith, length-append xs (x ∷ [])) in rw short (take-append_seam xs (x ∷ []))
 
 -- the front of an open line, and what is filled in behind it
 pub filled_in : (text front : List ℕ) (mark : Mark) (what : List ℕ) → text ≡ front ++ 32 ∷ (word_of mark ++ 32 ∷ end_of mark ∷ []) →
@@ -47,11 +43,12 @@ pub filled_in : (text front : List ℕ) (mark : Mark) (what : List ℕ) → text
 filled_in text front mark what is =
     let kept : List ℕ = front ++ 32 ∷ (word_of mark ++ 32 ∷ []) in
     let whole : text ≡ kept ++ end_of mark ∷ [] =
-    is ∙ sym (append_assoc front (32 ∷ (word_of mark ++ 32 ∷ [])) (end_of mark ∷ []) ∙ ap (λ (l : List ℕ). front ++ 32 ∷ l) (append_assoc (word_of mark) (32 ∷ []) (end_of mark ∷ []))) in
-    let front_is : take (length text - 1) text ≡ kept = ap (λ (l : List ℕ). take (length l - 1) l) whole ∙ take_front kept (end_of mark) in
-    ap (λ (l : List ℕ). l ++ what) front_is
+    is ∙ sym (append_assoc front (32 ∷ (word_of mark ++ 32 ∷ [])) (end_of mark ∷ []) ∙
+    ap (λ l. front ++ 32 ∷ l) (append_assoc (word_of mark) (32 ∷ []) (end_of mark ∷ []))) in
+    let front_is : take (length text - 1) text ≡ kept = ap (λ l. take (length l - 1) l) whole ∙ take_front kept (end_of mark) in
+    ap (λ l. l ++ what) front_is
     ∙ append_assoc front (32 ∷ (word_of mark ++ 32 ∷ [])) what
-    ∙ ap (λ (l : List ℕ). front ++ 32 ∷ l) (append_assoc (word_of mark) (32 ∷ []) what)
+    ∙ ap (λ l. front ++ 32 ∷ l) (append_assoc (word_of mark) (32 ∷ []) what)
 
 -- what an open line tells has something in the place of the mark
 pub told_at : (text told front : List ℕ) (mark : Mark) → text ≡ front ++ 32 ∷ (word_of mark ++ 32 ∷ end_of mark ∷ []) → IsToldAs text told →
@@ -61,9 +58,7 @@ told_at text told front mark is (inr filled) = (filled.what, filled.filled ∙ f
 
 open_tells : (text x y : List ℕ) → is_open text ≡ true → IsToldAs text x → IsToldAs text y → TellsBoth text x y
 open_tells text x y e p q =
-    let o = open_at text e in
-    let left = told_at text x o.front o.mark o.is p in
-    let right = told_at text y o.front o.mark o.is q in
+    let o = open_at text e in let left = told_at text x o.front o.mark o.is p in let right = told_at text y o.front o.mark o.is q in
     inr (record { front = o.front; mark = o.mark; left = left.0; right = right.0; line_is = o.is; left_is = left.1; right_is = right.1 })
 
 -- a line that is told as one text, and as another, tells both
@@ -91,8 +86,8 @@ told_lacks : (text told : List ℕ) → Lacks 10 text → IsToldAs text told →
 told_lacks text told lack (inl same) = subst (Lacks 10) (sym same) lack
 told_lacks text told lack (inr filled) =
     subst (Lacks 10) (sym filled.filled)
-    (Each-append (λ (x : ℕ). x ≢ 10) (take (length text - 1) text) filled.what (Each-take (λ (x : ℕ). x ≢ 10) (length text - 1) text lack)
-    (recursion_from_All (λ (x : ℕ). x ≢ 10) filled.what filled.of_one_line))
+    (Each-append (λ x. x ≢ 10) (take (length text - 1) text) filled.what (Each-take (λ x. x ≢ 10) (length text - 1) text lack)
+    (recursion_from_All (λ x. x ≢ 10) filled.what filled.of_one_line))
 
 -- ---- the lines that are not skipped
 
@@ -107,7 +102,7 @@ shown_is (text ∷ texts) = go (is_skipped text) (shown_is texts)
     go : (b : Bool) → flat_map told_line texts ≡ flat_map line (shown texts) →
         cond b [] (line text) ++ flat_map told_line texts ≡ flat_map line (cond (not b) (text ∷ shown texts) (shown texts))
     go true e = e
-    go false e = ap (λ (l : List ℕ). line text ++ l) e
+    go false e = ap (λ l. line text ++ l) e
 
 shown_lack : (texts : List (List ℕ)) → AllByRecursion (Lacks 10) texts → AllByRecursion (Lacks 10) (shown texts)
 shown_lack [] h = tt
@@ -122,7 +117,8 @@ pub skipped_alike : (text x y : List ℕ) → TellsBoth text x y → is_skipped 
 skipped_alike text x y (inl same) = ap is_skipped (same.0 ∙ sym same.1)
 skipped_alike text x y (inr opened) = ap is_skipped opened.left_is ∙ go opened.front ∙ sym (ap is_skipped opened.right_is)
   where
-    go : (front : List ℕ) → is_skipped (front ++ 32 ∷ (word_of opened.mark ++ 32 ∷ opened.left)) ≡ is_skipped (front ++ 32 ∷ (word_of opened.mark ++ 32 ∷ opened.right))
+    go : (front : List ℕ) →
+        is_skipped (front ++ 32 ∷ (word_of opened.mark ++ 32 ∷ opened.left)) ≡ is_skipped (front ++ 32 ∷ (word_of opened.mark ++ 32 ∷ opened.right))
     go [] = refl
     go (b ∷ front) = refl
 
@@ -142,8 +138,7 @@ lines_same [] (y ∷ ys) p q e = absurd (not_empty y (flat_map line ys) (e ∙ l
 lines_same (x ∷ xs) [] p q e = absurd (not_empty x (flat_map line xs) (sym e ∙ line_more x xs))
 lines_same (x ∷ xs) (y ∷ ys) p q e =
     let both = cut 10 x y (flat_map line xs) (flat_map line ys) p.0 q.0 (sym (line_more x xs) ∙ e ∙ line_more y ys) in
-    let rest = lines_same xs ys p.1 q.1 both.1 in
-    (λ i. both.0 i ∷ rest i)
+    let rest = lines_same xs ys p.1 q.1 both.1 in (λ i. both.0 i ∷ rest i)
 
 -- ---- both texts
 
@@ -163,15 +158,14 @@ later_stands : (text other : List ℕ) (lines : List (List ℕ)) → Contains li
 later_stands text other lines has = (suc has.0, omega (arith, has.1), has.2)
 
 module _ (all : List (List ℕ)) where
-  zipped : (ps qs : List Pair) → map (λ (p : Pair). p.0) ps ≡ map (λ (q : Pair). q.0) qs →
-      AllByRecursion (λ (p : Pair). IsToldAs p.0 p.1) ps → AllByRecursion (λ (q : Pair). IsToldAs q.0 q.1) qs →
-      ((text : List ℕ) → Contains (map (λ (p : Pair). p.0) ps) text → Contains all text) →
+  zipped : (ps qs : List Pair) → map (λ (p : Pair). p.0) ps ≡ map (λ (q : Pair). q.0) qs → AllByRecursion (λ (p : Pair). IsToldAs p.0 p.1) ps →
+      AllByRecursion (λ (q : Pair). IsToldAs q.0 q.1) qs → ((text : List ℕ) → Contains (map (λ (p : Pair). p.0) ps) text → Contains all text) →
       AllZip (IsToldTwice all) (shown (map (λ (p : Pair). p.1) ps)) (shown (map (λ (q : Pair). q.1) qs))
   zipped [] [] e p q stands = tt
   zipped (x ∷ xs) (y ∷ ys) e p q stands =
       let head : x.0 ≡ y.0 = cc in
       let tail : map (λ (p : Pair). p.0) xs ≡ map (λ (q : Pair). q.0) ys = cc in
-      let both = tells_both x.0 x.1 y.1 p.0 (subst (λ (t : List ℕ). IsToldAs t y.1) (sym head) q.0) in
+      let both = tells_both x.0 x.1 y.1 p.0 (subst (λ t. IsToldAs t y.1) (sym head) q.0) in
       go (is_skipped x.1) (is_skipped y.1) (skipped_alike x.0 x.1 y.1 both)
       (record { text = x.0; stands = stands x.0 (first_stands x.0 (map (λ (p : Pair). p.0) xs)); tells = both })
       (zipped xs ys tail p.1 q.1 (λ text has. stands text (later_stands text x.0 (map (λ (p : Pair). p.0) xs) has)))
@@ -191,7 +185,7 @@ told_lack (p ∷ ps) h t = (told_lacks p.0 p.1 h.0 t.0, told_lack ps h.1 t.1)
 
 pub flat_map-pairs : (ps : List Pair) → flat_map (λ (p : Pair). told_line p.1) ps ≡ flat_map told_line (map (λ (p : Pair). p.1) ps)
 flat_map-pairs [] = refl
-flat_map-pairs (p ∷ ps) = ap (λ (l : List ℕ). told_line p.1 ++ l) (flat_map-pairs ps)
+flat_map-pairs (p ∷ ps) = ap (λ l. told_line p.1 ++ l) (flat_map-pairs ps)
 
 -- the texts that the lines tell are those of the pairs that are not skipped
 pub told_texts : (bytes : List ℕ) (xs : List (List ℕ)) → AllByRecursion (Lacks 10) xs → (make : AreTold bytes (flat_map line xs)) →
@@ -209,6 +203,6 @@ told_twice bytes xs ys p q one two =
     let lines = zipped (lines_in bytes) one.pairs two.pairs (one.given ∙ sym two.given)
     (recursion_from_All (λ (p : Pair). IsToldAs p.0 p.1) one.pairs one.told)
     (recursion_from_All (λ (p : Pair). IsToldAs p.0 p.1) two.pairs two.told)
-    (λ text has. subst (λ (l : List (List ℕ)). Contains l text) one.given has) in
-    subst (λ (l : List (List ℕ)). AllZip (IsToldTwice (lines_in bytes)) l ys) (told_texts bytes xs p one)
-    (subst (λ (l : List (List ℕ)). AllZip (IsToldTwice (lines_in bytes)) (shown (map (λ (p : Pair). p.1) one.pairs)) l) (told_texts bytes ys q two) lines)
+    (λ text has. subst (λ l. Contains l text) one.given has) in
+    subst (λ l. AllZip (IsToldTwice (lines_in bytes)) l ys) (told_texts bytes xs p one)
+    (subst (λ l. AllZip (IsToldTwice (lines_in bytes)) (shown (map (λ (p : Pair). p.1) one.pairs)) l) (told_texts bytes ys q two) lines)

@@ -43,8 +43,8 @@ look_up_good state fault (Some v) own good value = answered state v good (value 
 pub low_in_range : (n : ℕ) → n < 2 ^ 63 → is_in_range (pos n) ≡ true
 low_in_range n low = grind (arith, nat_tests)
 
-small_in_range : (n : ℕ) → n ≤ 4096 → is_in_range (pos n) ≡ true
-small_in_range n few = low_in_range n (omega (arith, few))
+small_in_range : {n : ℕ} → n ≤ 4096 → is_in_range (pos n) ≡ true
+small_in_range {n} few = low_in_range n (omega (arith, few))
 
 -- ---- lists
 
@@ -73,18 +73,19 @@ counter_good n method args h = failed NoMethod refl
 withdrawn : (n k : ℤ) → is_in_range n ≡ true → int_lt (pos 0) k ≡ true → int_le k n ≡ true → is_in_range (n -ℤ k) ≡ true
 withdrawn (pos a) (pos b) h some few =
     let least : b ≤ a = first_of (grind (arith, nat_tests), grind (arith, ints)) in
-    let small : a < 2 ^ 63 = grind (arith, nat_tests) in
-    let is : pos a -ℤ pos b ≡ pos (a - b) = omega (arith, ints, least) in
+    let small : a < 2 ^ 63 = grind (arith, nat_tests) in let is : pos a -ℤ pos b ≡ pos (a - b) = omega (arith, ints, least) in
     ap is_in_range is ∙ low_in_range (a - b) (omega (arith, least, small))
 withdrawn (pos a) (negsuc b) h some few = cc
 withdrawn (negsuc a) (pos b) h some few = cc
 withdrawn (negsuc a) (negsuc b) h some few = cc
 
 account_good : (n : ℤ) (method : Method) (args : List Value) → is_in_range n ≡ true → IsFine (account_reply n method args)
-account_good n Deposit (Int k ∷ []) h = need_good (int_lt (pos 0) k) BadAmount _ refl (λ some. need_good (is_in_range (n +ℤ k)) Overflow _ refl (λ e. answered (AccountAt (n +ℤ k)) (Int (n +ℤ k)) e e))
+account_good n Deposit (Int k ∷ []) h = need_good (int_lt (pos 0) k) BadAmount _ refl
+    (λ some. need_good (is_in_range (n +ℤ k)) Overflow _ refl (λ e. answered (AccountAt (n +ℤ k)) (Int (n +ℤ k)) e e))
 account_good n Deposit args h = failed BadArgs refl
 account_good n Withdraw (Int k ∷ []) h =
-    need_good (int_lt (pos 0) k) BadAmount _ refl (λ some. need_good (int_le k n) Insufficient _ refl (λ few. let e = withdrawn n k h some few in answered (AccountAt (n -ℤ k)) (Int (n -ℤ k)) e e))
+    need_good (int_lt (pos 0) k) BadAmount _ refl
+    (λ some. need_good (int_le k n) Insufficient _ refl (λ few. let e = withdrawn n k h some few in answered (AccountAt (n -ℤ k)) (Int (n -ℤ k)) e e))
 account_good n Withdraw args h = failed BadArgs refl
 account_good n Balance [] h = answered (AccountAt n) (Int n) h h
 account_good n Balance args h = failed BadArgs refl
@@ -106,7 +107,8 @@ with_good : (key : List ℕ) (value : Value) (pairs : List (List ℕ × Value)) 
 with_good key value [] k v h = ((k, v), tt)
 with_good key value (pair ∷ pairs) k v h = go (bytes_eq pair.0 key) (with_good key value pairs k v h.1)
   where
-    go : (b : Bool) → AllByRecursion IsGoodPair (with_pair key value pairs) → AllByRecursion IsGoodPair (cond b ((key, value) ∷ pairs) (pair ∷ with_pair key value pairs))
+    go : (b : Bool) → AllByRecursion IsGoodPair (with_pair key value pairs) →
+        AllByRecursion IsGoodPair (cond b ((key, value) ∷ pairs) (pair ∷ with_pair key value pairs))
     go true rest = ((k, v), h.1)
     go false rest = (h.0, rest)
 
@@ -116,25 +118,26 @@ with_few : (key : List ℕ) (value : Value) (pairs : List (List ℕ × Value)) �
 with_few key value [] = (omega arith, λ e. cc)
 with_few key value (pair ∷ pairs) = go (bytes_eq pair.0 key) (with_few key value pairs)
   where
-    go : (b : Bool) → (length (with_pair key value pairs) ≤ length pairs + 1) × (is_some (value_at key pairs) ≡ true → length (with_pair key value pairs) ≤ length pairs) →
-        (length (cond b ((key, value) ∷ pairs) (pair ∷ with_pair key value pairs)) ≤ suc (length pairs) + 1)
-        × (is_some (option_map (λ (p : List ℕ × Value). p.1) (cond b (Some pair) (find (λ (p : List ℕ × Value). bytes_eq p.0 key) pairs))) ≡ true →
+    go : (b : Bool) → (length (with_pair key value pairs) ≤ length pairs + 1) × (is_some (value_at key pairs) ≡ true → length
+        (with_pair key value pairs) ≤ length pairs) → (length (cond b ((key, value) ∷ pairs) (pair ∷ with_pair key value pairs)) ≤ suc (length pairs) + 1) ×
+        (is_some (option_map (λ (p : List ℕ × Value). p.1) (cond b (Some pair) (find (λ (p : List ℕ × Value). bytes_eq p.0 key) pairs))) ≡ true →
         length (cond b ((key, value) ∷ pairs) (pair ∷ with_pair key value pairs)) ≤ suc (length pairs))
     go true rest = (omega arith, λ e. omega arith)
     go false rest = (omega (arith, rest.0), λ e. omega (arith, rest.1 e))
 
-put_few : (has room : Bool) (count n : ℕ) → (has || room) ≡ true → (room ≡ true → n < 1024) → n ≤ 1024 → count ≤ n + 1 → (has ≡ true → count ≤ n) → count ≤ 1024
-put_few true room count n e small few one none = omega (arith, none refl, few)
-put_few false room count n e small few one none = omega (arith, small e, one)
+put_few : (has room : Bool) {count n : ℕ} → (has || room) ≡ true → (room ≡ true → n < 1024) → n ≤ 1024 → count ≤ n + 1 → (has ≡ true → count ≤ n) → count ≤ 1024
+put_few true room e small few one none = omega (arith, none refl, few)
+put_few false room e small few one none = omega (arith, small e, one)
 
-table_good : (pairs : List (List ℕ × Value)) (method : Method) (args : List Value) → IsGoodState (TableOf pairs) → AreSayable args → IsFine (table_reply pairs method args)
+table_good : (pairs : List (List ℕ × Value)) (method : Method) (args : List Value) → IsGoodState (TableOf pairs) → AreSayable args →
+    IsFine (table_reply pairs method args)
 table_good pairs Put (Text key ∷ v ∷ []) h s =
     need_good (is_good_text key && is_storable v) BadArgs _ refl (λ fits.
     need_good (is_some (value_at key pairs) || nat_lt (length pairs) 1024) KindFull _ refl (λ room.
     let few = with_few key v pairs in
     answered (TableOf (with_pair key v pairs)) Nothing (
       with_good key v pairs (and_parts (is_good_text key) (is_storable v) fits).0 s.1.0 h.0,
-      put_few (is_some (value_at key pairs)) (nat_lt (length pairs) 1024) (length (with_pair key v pairs)) (length pairs) room (ltb-true (length pairs) 1024) h.1 few.0 few.1,
+      put_few (is_some (value_at key pairs)) (nat_lt (length pairs) 1024) room (ltb-true (length pairs) 1024) h.1 few.0 few.1,
     ) refl))
 table_good pairs Put args h s = failed BadArgs refl
 table_good pairs Get (Text key ∷ []) h s =
@@ -146,7 +149,7 @@ table_good pairs Del (Text key ∷ []) h s =
     (filter_good IsGoodPair (λ (pair : List ℕ × Value). not (bytes_eq pair.0 key)) pairs h.0, omega (arith, least, h.1))
     (λ v e. value_good key pairs v h.0 e))
 table_good pairs Del args h s = failed BadArgs refl
-table_good pairs Size [] h s = answered (TableOf pairs) (count_value pairs) h (small_in_range (length pairs) (omega (arith, h.1)))
+table_good pairs Size [] h s = answered (TableOf pairs) (count_value pairs) h (small_in_range {n = length pairs} (omega (arith, h.1)))
 table_good pairs Size args h s = failed BadArgs refl
 table_good pairs method args h s = failed NoMethod refl
 
@@ -154,25 +157,22 @@ table_good pairs method args h s = failed NoMethod refl
 
 list_good : (items : List Value) (method : Method) (args : List Value) → IsGoodState (ItemsOf items) → AreSayable args → IsFine (list_reply items method args)
 list_good items Push (v ∷ []) h s =
-    need_good (is_storable v) BadArgs _ refl (λ fits.
-    need_good (nat_lt (length items) 4096) KindFull _ refl (λ room.
-    let less = ltb-true (length items) 4096 room in
-    let long : length (items ++ v ∷ []) ≤ 4096 = omega (arith, less, length-append items (v ∷ [])) in
-    answered (ItemsOf (items ++ v ∷ [])) (count_value (items ++ v ∷ [])) (Each-append (λ (w : Value). is_sayable w ≡ true) items (v ∷ []) h.0 (s.0, tt), long)
-    (small_in_range (length (items ++ v ∷ [])) long)))
+    need_good (is_storable v) BadArgs _ refl (λ fits. need_good (nat_lt (length items) 4096) KindFull _ refl (λ room. let less =
+    ltb-true (length items) 4096 room in let long : length (items ++ v ∷ []) ≤ 4096 = omega (arith, less, length-append items (v ∷ [])) in answered (ItemsOf
+    (items ++ v ∷ [])) (count_value (items ++ v ∷ [])) (Each-append (λ w. is_sayable w ≡ true) items (v ∷ []) h.0 (s.0, tt), long) (small_in_range long)))
 list_good items Push args h s = failed BadArgs refl
 list_good items Pop [] h s =
     look_up_good (ItemsOf (take (length items - 1) items)) NoItems (slice_get items (length items - 1)) refl
-    (Each-take (λ (w : Value). is_sayable w ≡ true) (length items - 1) items h.0, omega (arith, take_few (length items - 1) items, h.1))
-    (λ v e. All_at (λ (w : Value). is_sayable w ≡ true) items (length items - 1) v h.0 e)
+    (Each-take (λ w. is_sayable w ≡ true) (length items - 1) items h.0, omega (arith, take_few (length items - 1) items, h.1))
+    (λ v e. All_at (λ w. is_sayable w ≡ true) items (length items - 1) h.0 e)
 list_good items Pop args h s = failed BadArgs refl
 list_good items At (Int i ∷ []) h s = look_up_good (ItemsOf items) NoItem (item_at i items) refl h (λ v e. go i v e)
   where
     go : (i : ℤ) (v : Value) → item_at i items ≡ Some v → is_sayable v ≡ true
-    go (pos n) v e = All_at (λ (w : Value). is_sayable w ≡ true) items n v h.0 e
+    go (pos n) v e = All_at (λ w. is_sayable w ≡ true) items n h.0 e
     go (negsuc n) v e = cc
 list_good items At args h s = failed BadArgs refl
-list_good items Len [] h s = answered (ItemsOf items) (count_value items) h (small_in_range (length items) h.1)
+list_good items Len [] h s = answered (ItemsOf items) (count_value items) h (small_in_range h.1)
 list_good items Len args h s = failed BadArgs refl
 list_good items method args h s = failed NoMethod refl
 
@@ -226,6 +226,4 @@ pub runs_good : (state : KindState) (items : List RunItem) → IsGoodState state
     IsGoodState (state_after state items) × AllByRecursion IsGoodAnswer (answers_from state items)
 runs_good state [] h good = (h, tt)
 runs_good state (item ∷ items) h good =
-    let step = item_good state item h good.0 in
-    let rest = runs_good (after_item state item).0 items step.0 good.1 in
-    (rest.0, (step.1, rest.1))
+    let step = item_good state item h good.0 in let rest = runs_good (after_item state item).0 items step.0 good.1 in (rest.0, (step.1, rest.1))

@@ -30,9 +30,9 @@ refused true r y h = cc
 refused false r y h = (refl, h)
 
 -- two ways, of which one was taken
-either_way : {A F : Type 0} (P : A → Type 0) (b : Bool) (r s : Result A F) (y : A) → cond b r s ≡ Ok y → (r ≡ Ok y → P y) → (s ≡ Ok y → P y) → P y
-either_way P true r s y h p q = p h
-either_way P false r s y h p q = q h
+either_way : {A F : Type 0} (P : A → Type 0) (b : Bool) (r s : Result A F) {y : A} → cond b r s ≡ Ok y → (r ≡ Ok y → P y) → (s ≡ Ok y → P y) → P y
+either_way P true r s h p q = p h
+either_way P false r s h p q = q h
 
 -- what is given is this
 given : {A F : Type 0} (P : A → Type 0) (x y : A) (r : Result A F) → r ≡ Ok x → r ≡ Ok y → P x → P y
@@ -44,8 +44,7 @@ number_good : (word : Word) (n : ℕ) → number_at word ≡ Ok n → is_number 
 unfolding number_at
 number_good word n h =
     let p = chosen (is_numeral word && nat_lt (digits_value 10 word) (2 ^ 32)) (digits_value 10 word) n h in
-    let q = and_parts (is_numeral word) (nat_lt (digits_value 10 word) (2 ^ 32)) p.0 in
-    subst (λ (m : ℕ). is_number m ≡ true) p.1 q.1
+    let q = and_parts (is_numeral word) (nat_lt (digits_value 10 word) (2 ^ 32)) p.0 in subst (λ m. is_number m ≡ true) p.1 q.1
 
 ranged : (n most : ℕ) → nat_lt n 1 ≡ false → nat_lt most n ≡ false → (nat_le 1 n && nat_le n most) ≡ true
 ranged n most some few = grind (arith, nat_tests)
@@ -53,20 +52,16 @@ ranged n most some few = grind (arith, nat_tests)
 caller_good : (word : Word) (c : ℕ) → caller_at word ≡ Ok c → is_caller_number c ≡ true
 unfolding caller_at
 caller_good word c h =
-    let marked = parts (marked_at word 99) _ c h in
-    let number = parts (number_at marked.0) _ c marked.2 in
-    let some = refused (nat_lt number.0 1) _ c number.2 in
-    let few = refused (nat_lt 16 number.0) _ c some.1 in
-    given (λ (n : ℕ). is_caller_number n ≡ true) number.0 c _ refl few.1 (ranged number.0 16 some.0 few.0)
+    let marked = parts (marked_at word 99) _ c h in let number = parts (number_at marked.0) _ c marked.2 in
+    let some = refused (nat_lt number.0 1) _ c number.2 in let few = refused (nat_lt 16 number.0) _ c some.1 in
+    given (λ n. is_caller_number n ≡ true) number.0 c _ refl few.1 (ranged number.0 16 some.0 few.0)
 
 actor_good : (word : Word) (a : ℕ) → actor_at word ≡ Ok a → is_actor_number a ≡ true
 unfolding actor_at
 actor_good word a h =
-    let marked = parts (marked_at word 97) _ a h in
-    let number = parts (number_at marked.0) _ a marked.2 in
-    let some = refused (nat_lt number.0 1) _ a number.2 in
-    let few = refused (nat_lt 8 number.0) _ a some.1 in
-    given (λ (n : ℕ). is_actor_number n ≡ true) number.0 a _ refl few.1 (ranged number.0 8 some.0 few.0)
+    let marked = parts (marked_at word 97) _ a h in let number = parts (number_at marked.0) _ a marked.2 in
+    let some = refused (nat_lt number.0 1) _ a number.2 in let few = refused (nat_lt 8 number.0) _ a some.1 in
+    given (λ n. is_actor_number n ≡ true) number.0 a _ refl few.1 (ranged number.0 8 some.0 few.0)
 
 below_in_range : (n : ℕ) → n ≤ 2 ^ 63 → is_in_range (neg_ℤ (pos n)) ≡ true
 below_in_range zero few = refl
@@ -81,40 +76,36 @@ unfolding int_at
 int_good word n h =
     let p = chosen (is_integer word && fits_int word) (int_value word) n h in
     let q = and_parts (is_integer word) (fits_int word) p.0 in
-    subst (λ (m : ℤ). is_in_range m ≡ true) p.1 (signed_in_range (slice_index word 0 == 45) (digits_value 10 (drop 1 word)) (digits_value 10 word) q.1)
+    subst (λ m. is_in_range m ≡ true) p.1 (signed_in_range (slice_index word 0 == 45) (digits_value 10 (drop 1 word)) (digits_value 10 word) q.1)
 
 -- ---- values and methods
 
 text_good : (word text : Word) → text_at word ≡ Ok text → is_good_text text ≡ true
 unfolding text_at
 text_good word text h =
-    let marked = parts (marked_at word 34) _ text h in
-    let closed = parts (closed_at marked.0 34) _ text marked.2 in
-    let p = chosen (is_good_text closed.0) closed.0 text closed.2 in
-    subst (λ (t : Word). is_good_text t ≡ true) p.1 p.0
+    let marked = parts (marked_at word 34) _ text h in let closed = parts (closed_at marked.0 34) _ text marked.2 in
+    let p = chosen (is_good_text closed.0) closed.0 text closed.2 in subst (λ t. is_good_text t ≡ true) p.1 p.0
 
 value_good : (word : Word) (v : Value) → value_at word ≡ Ok v → is_sayable v ≡ true
 unfolding value_at
 value_good word v h =
-    either_way (λ (w : Value). is_sayable w ≡ true) (bytes_eq word (codes "unit")) _ _ v h
-    (λ e. given (λ (w : Value). is_sayable w ≡ true) value.Unit v _ refl e refl)
-    (λ more. either_way (λ (w : Value). is_sayable w ≡ true) (slice_index word 0 == 34) _ _ v more
-    (λ e. let text = parts (text_at word) _ v e in given (λ (w : Value). is_sayable w ≡ true) (value.Text text.0) v _ refl text.2 (text_good word text.0 text.1))
-    (λ e. let int = parts (int_at word) _ v e in given (λ (w : Value). is_sayable w ≡ true) (value.Int int.0) v _ refl int.2 (int_good word int.0 int.1)))
+    either_way (λ w. is_sayable w ≡ true) (bytes_eq word (codes "unit")) _ _ h
+    (λ e. given (λ w. is_sayable w ≡ true) value.Unit v _ refl e refl)
+    (λ more. either_way (λ w. is_sayable w ≡ true) (slice_index word 0 == 34) _ _ more
+    (λ e. let text = parts (text_at word) _ v e in given (λ w. is_sayable w ≡ true) (value.Text text.0) v _ refl text.2 (text_good word text.0 text.1))
+    (λ e. let int = parts (int_at word) _ v e in given (λ w. is_sayable w ≡ true) (value.Int int.0) v _ refl int.2 (int_good word int.0 int.1)))
 
 arg_good : (word : Word) (x : Arg) → arg_at word ≡ Ok x → is_sayable_arg x ≡ true
 unfolding arg_at
 arg_good word x h =
-    either_way (λ (y : Arg). is_sayable_arg y ≡ true) (slice_index word 0 == 64) _ _ x h
-    (λ e.
-    let marked = parts (marked_at word 64) _ x e in
-    let number = parts (number_at marked.0) _ x marked.2 in
-    given (λ (y : Arg). is_sayable_arg y ≡ true) (Fut number.0) x _ refl number.2 (number_good marked.0 number.0 number.1))
-    (λ e. let v = parts (value_at word) _ x e in given (λ (y : Arg). is_sayable_arg y ≡ true) (Plain v.0) x _ refl v.2 (value_good word v.0 v.1))
+    either_way (λ y. is_sayable_arg y ≡ true) (slice_index word 0 == 64) _ _ h
+    (λ e. let marked = parts (marked_at word 64) _ x e in let number = parts (number_at marked.0) _ x marked.2 in
+    given (λ y. is_sayable_arg y ≡ true) (Fut number.0) x _ refl number.2 (number_good marked.0 number.0 number.1))
+    (λ e. let v = parts (value_at word) _ x e in given (λ y. is_sayable_arg y ≡ true) (Plain v.0) x _ refl v.2 (value_good word v.0 v.1))
 
 some_of : {A : Type 0} (o : Option A) (x : A) → or_bad_line o ≡ Ok x → o ≡ Some x
 some_of None x e = cc
-some_of (Some y) x e = let same : y ≡ x = cc in ap (λ (z : _). Some z) same
+some_of (Some y) x e = let same : y ≡ x = cc in ap (λ z. Some z) same
 
 each_of : {A : Type 0} (p : A → Bool) (xs : List A) → list_all p xs ≡ true → AllByRecursion (λ x. p x ≡ true) xs
 each_of p [] e = tt
@@ -123,16 +114,15 @@ each_of p (x ∷ xs) e = let both = and_parts (p x) (list_all p xs) e in (both.0
 method_good : (word : Word) (m : Method) → method_at word ≡ Ok m → is_sayable_method m ≡ true
 unfolding method_at
 method_good word m h =
-    (found (λ (n : Method). is_sayable_method n ≡ true) (λ (n : Method). bytes_eq word (method_text n)) all_methods m (each_of is_sayable_method all_methods refl)
-    (some_of (find (λ (n : Method). bytes_eq word (method_text n)) all_methods) m h)).0
+    (found (λ n. is_sayable_method n ≡ true) (λ n. bytes_eq word (method_text n)) all_methods m (each_of is_sayable_method all_methods refl)
+    (some_of (find (λ n. bytes_eq word (method_text n)) all_methods) m h)).0
 
 each_good : {A : Type 0} (word_at : Word → Result A Wrong) (p : A → Bool) → ((word : Word) (x : A) → word_at word ≡ Ok x → p x ≡ true) →
     (words : List Word) (xs : List A) → each_at word_at words ≡ Ok xs → list_all p xs ≡ true
-each_good word_at p one [] xs h = given (λ (l : List _). list_all p l ≡ true) [] xs _ refl h refl
+each_good word_at p one [] xs h = given (λ l. list_all p l ≡ true) [] xs _ refl h refl
 each_good word_at p one (word ∷ words) xs h =
-    let first = parts (word_at word) _ xs h in
-    let rest = parts (each_at word_at words) _ xs first.2 in
-    given (λ (l : List _). list_all p l ≡ true) (first.0 ∷ rest.0) xs _ refl rest.2
+    let first = parts (word_at word) _ xs h in let rest = parts (each_at word_at words) _ xs first.2 in
+    given (λ l. list_all p l ≡ true) (first.0 ∷ rest.0) xs _ refl rest.2
     (and_from (p first.0) (list_all p rest.0) (one word first.0 first.1) (each_good word_at p one words rest.0 rest.1))
 
 -- ---- lines
@@ -142,24 +132,21 @@ IsGoodLine (RoleLine role) = is_sayable_role role ≡ true
 IsGoodLine (EventLine said) = is_sayable_event said ≡ true
 IsGoodLine (StepLine c said) = Unit {0}
 
-one_good : {A : Type 0} (f : A → Line) (first : Word → Result A Wrong) → ((x : A) → IsGoodLine (f x)) → (words : List Word) (line : Line) → one_at f first words ≡ Ok line → IsGoodLine line
+one_good : {A : Type 0} (f : A → Line) (first : Word → Result A Wrong) → ((x : A) → IsGoodLine (f x)) → (words : List Word) (line : Line) →
+    one_at f first words ≡ Ok line → IsGoodLine line
 one_good f first good (u ∷ []) line h = let x = parts (first u) _ line h in given IsGoodLine (f x.0) line _ refl x.2 (good x.0)
 one_good f first good more line h = absurd (cc)
 
 two_good : {A B : Type 0} (f : A → B → Line) (first : Word → Result A Wrong) (second : Word → Result B Wrong) → ((x : A) (y : B) → IsGoodLine (f x y)) →
     (words : List Word) (line : Line) → two_at f first second words ≡ Ok line → IsGoodLine line
 two_good f first second good (u ∷ v ∷ []) line h =
-    let x = parts (first u) _ line h in
-    let y = parts (second v) _ line x.2 in
-    given IsGoodLine (f x.0 y.0) line _ refl y.2 (good x.0 y.0)
+    let x = parts (first u) _ line h in let y = parts (second v) _ line x.2 in given IsGoodLine (f x.0 y.0) line _ refl y.2 (good x.0 y.0)
 two_good f first second good more line h = absurd (cc)
 
 submit_good : (words : List Word) (line : Line) → submit_at (λ c a m args. EventLine (event.Submit c a m args)) words ≡ Ok line → IsGoodLine line
 unfolding submit_at
 submit_good (u ∷ v ∷ w ∷ words) line h =
-    let c = parts (caller_at u) _ line h in
-    let a = parts (actor_at v) _ line c.2 in
-    let m = parts (method_at w) _ line a.2 in
+    let c = parts (caller_at u) _ line h in let a = parts (actor_at v) _ line c.2 in let m = parts (method_at w) _ line a.2 in
     let xs = parts (args_at words) _ line m.2 in
     given IsGoodLine (EventLine (event.Submit c.0 a.0 m.0 xs.0)) line _ refl xs.2
     (and_from (is_sayable_method m.0) (list_all is_sayable_arg xs.0) (method_good w m.0 m.1) (each_good arg_at is_sayable_arg arg_good words xs.0 xs.1))
@@ -169,51 +156,45 @@ submit_good more line h = absurd (cc)
 step_good : (words : List Word) (line : Line) → submit_at (λ c a m args. StepLine c (step.Submit a m args)) words ≡ Ok line → IsGoodLine line
 unfolding submit_at
 step_good (u ∷ v ∷ w ∷ words) line h =
-    let c = parts (caller_at u) _ line h in
-    let a = parts (actor_at v) _ line c.2 in
-    let m = parts (method_at w) _ line a.2 in
-    let xs = parts (args_at words) _ line m.2 in
-    given IsGoodLine (StepLine c.0 (step.Submit a.0 m.0 xs.0)) line _ refl xs.2 tt
+    let c = parts (caller_at u) _ line h in let a = parts (actor_at v) _ line c.2 in let m = parts (method_at w) _ line a.2 in
+    let xs = parts (args_at words) _ line m.2 in given IsGoodLine (StepLine c.0 (step.Submit a.0 m.0 xs.0)) line _ refl xs.2 tt
 step_good more line h = absurd (cc)
 
 abbrev AreCallers : List ℕ → Type 0
 AreCallers callers = list_all is_caller_number callers ≡ true
 
-callers_good : (words : List Word) (callers : List ℕ) → some_callers_at words ≡ Ok callers → AreCallers callers
-callers_good [] callers h = absurd (cc)
-callers_good (word ∷ words) callers h = each_good caller_at is_caller_number caller_good (word ∷ words) callers h
+callers_good : (words : List Word) {callers : List ℕ} → some_callers_at words ≡ Ok callers → AreCallers callers
+callers_good [] h = absurd (cc)
+callers_good (word ∷ words) {callers} h = each_good caller_at is_caller_number caller_good (word ∷ words) callers h
 
 limited_good : (words : List Word) (named : Option ℕ × List ℕ) → limited_at words ≡ Ok named → AreCallers named.1
 limited_good [] named h = absurd (cc)
 limited_good (number ∷ words) named h =
-    let limit = parts (limit_at number) _ named h in
-    let callers = parts (some_callers_at words) _ named limit.2 in
-    given (λ (n : Option ℕ × List ℕ). AreCallers n.1) (Some limit.0, callers.0) named _ refl callers.2 (callers_good words callers.0 callers.1)
+    let limit = parts (limit_at number) _ named h in let callers = parts (some_callers_at words) _ named limit.2 in
+    given (λ (n : Option ℕ × List ℕ). AreCallers n.1) (Some limit.0, callers.0) named _ refl callers.2 (callers_good words callers.1)
 
-naming_good : (words : List Word) (named : Option ℕ × List ℕ) → naming_at words ≡ Ok named → AreCallers named.1
+naming_good : (words : List Word) {named : Option ℕ × List ℕ} → naming_at words ≡ Ok named → AreCallers named.1
 unfolding naming_at
-naming_good [] named h = absurd (cc)
-naming_good (word ∷ words) named h =
-    either_way (λ (n : Option ℕ × List ℕ). AreCallers n.1) (bytes_eq word (codes "max")) _ _ named h (limited_good words named)
-    (λ e.
-    let callers = parts (some_callers_at (word ∷ words)) _ named e in
-    given (λ (n : Option ℕ × List ℕ). AreCallers n.1) (None, callers.0) named _ refl callers.2 (callers_good (word ∷ words) callers.0 callers.1))
+naming_good [] h = absurd (cc)
+naming_good (word ∷ words) {named} h =
+    either_way (λ (n : Option ℕ × List ℕ). AreCallers n.1) (bytes_eq word (codes "max")) _ _ h (limited_good words named)
+    (λ e. let callers = parts (some_callers_at (word ∷ words)) _ named e in
+    given (λ (n : Option ℕ × List ℕ). AreCallers n.1) (None, callers.0) named _ refl callers.2 (callers_good (word ∷ words) callers.1))
 
 role_good : (words : List Word) (role : Role) → role_at all_kinds words ≡ Ok role → is_sayable_role role ≡ true
 unfolding role_at
 role_good (u ∷ v ∷ words) role h =
-    let a = parts (actor_at u) _ role h in
-    let k = parts (named_by kind_text all_kinds v) _ role a.2 in
-    let named = parts (naming_at words) _ role k.2 in
-    given (λ (r : Role). is_sayable_role r ≡ true) (record { actor = a.0; callers = named.0.1; kind = k.0; pending = named.0.0 }) role _ refl named.2
-    (and_from (is_actor_number a.0) (list_all is_caller_number named.0.1) (actor_good u a.0 a.1) (naming_good words named.0 named.1))
+    let a = parts (actor_at u) _ role h in let k = parts (named_by kind_text all_kinds v) _ role a.2 in let named = parts (naming_at words) _ role k.2 in
+    given (λ r. is_sayable_role r ≡ true) (record { actor = a.0; callers = named.0.1; kind = k.0; pending = named.0.0 }) role _ refl named.2
+    (and_from (is_actor_number a.0) (list_all is_caller_number named.0.1) (actor_good u a.0 a.1) (naming_good words named.1))
 role_good more role h = absurd (cc)
 
 abbrev IsGoodForm : Form → Type 0
 IsGoodForm form = (words : List Word) (line : Line) → form.1 words ≡ Ok line → IsGoodLine line
 
 role_form_good : (words : List Word) (line : Line) → (role_at all_kinds words >>= λ role. Ok (RoleLine role)) ≡ Ok line → IsGoodLine line
-role_form_good words line h = let role = parts (role_at all_kinds words) _ line h in given IsGoodLine (RoleLine role.0) line _ refl role.2 (role_good words role.0 role.1)
+role_form_good words line h = let role = parts (role_at all_kinds words) _ line h in
+    given IsGoodLine (RoleLine role.0) line _ refl role.2 (role_good words role.0 role.1)
 
 forms_good : AllByRecursion IsGoodForm play_forms
 unfolding play_forms
@@ -297,9 +278,10 @@ line_good : (mode : Mode) (text : List ℕ) (said : Option Line) → line_at (fo
 unfolding line_at
 line_good mode text said h =
     let plain = parts (plain_at text) _ said h in
-    either_way IsGoodSaid (is_skipped plain.0) _ _ said plain.2
+    either_way IsGoodSaid (is_skipped plain.0) _ _ plain.2
     (λ e. given IsGoodSaid None said _ refl e tt)
-    (λ e. let line = parts (form_at (forms_of mode) (words_in plain.0)) _ said e in given IsGoodSaid (Some line.0) said _ refl line.2 (form_good mode (words_in plain.0) line.0 line.1))
+    (λ e. let line = parts (form_at (forms_of mode) (words_in plain.0)) _ said e in
+    given IsGoodSaid (Some line.0) said _ refl line.2 (form_good mode (words_in plain.0) line.0 line.1))
 
 -- ---- scripts
 
@@ -314,24 +296,28 @@ unless_is : {A : Type 0} (o : Option Wrong) (x y : A) → unless o x ≡ Ok y �
 unless_is None x y e = cc
 unless_is (Some wrong) x y e = cc
 
-added_good : (script : Script) (n : ℕ) (line : Line) (next : Script) → IsGoodScript script → IsGoodLine line → add_line script n line ≡ Ok next → IsGoodScript next
+added_good : (script : Script) (n : ℕ) (line : Line) (next : Script) → IsGoodScript script → IsGoodLine line → add_line script n line ≡ Ok next →
+    IsGoodScript next
 added_good script n (RoleLine role) next s good h =
     let same = unless_is (role_fault script role) (record script { roles = script.roles ++ role ∷ [] }) next h in
     subst IsGoodScript same (record { roles = pushed is_sayable_role script.roles role s.roles good; events = s.events })
 added_good script n (EventLine said) next s good h =
-    given IsGoodScript (record script { events = script.events ++ said ∷ [] }) next _ refl h (record { roles = s.roles; events = pushed is_sayable_event script.events said s.events good })
+    given IsGoodScript (record script { events = script.events ++ said ∷ [] }) next _ refl h
+    (record { roles = s.roles; events = pushed is_sayable_event script.events said s.events good })
 added_good script n (StepLine c said) next s good h =
     given IsGoodScript (record script { steps = script.steps ++ (c, said, n) ∷ [] }) next _ refl h (record { roles = s.roles; events = s.events })
 
-said_good : (script : Script) (n : ℕ) (said : Option Line) (next : Script) → IsGoodScript script → IsGoodSaid said → added_unless_skipped script n said ≡ Ok next → IsGoodScript next
+said_good : (script : Script) (n : ℕ) (said : Option Line) (next : Script) → IsGoodScript script → IsGoodSaid said →
+    added_unless_skipped script n said ≡ Ok next → IsGoodScript next
 said_good script n None next s good h = given IsGoodScript script next _ refl h s
 said_good script n (Some line) next s good h = added_good script n line next s good h
 
 in_line_is : {A : Type 0} (n : ℕ) (r : Result A Wrong) (x : A) → in_line n r ≡ Ok x → r ≡ Ok x
-in_line_is n (Ok y) x e = let same : y ≡ x = cc in ap (λ (z : _). Ok z) same
+in_line_is n (Ok y) x e = let same : y ≡ x = cc in ap (λ z. Ok z) same
 in_line_is n (Err wrong) x e = cc
 
-lines_good : (mode : Mode) (lines : List (List ℕ)) (n : ℕ) (script last : Script) → IsGoodScript script → spelled_from (forms_of mode) n script lines ≡ Ok last → IsGoodScript last
+lines_good : (mode : Mode) (lines : List (List ℕ)) (n : ℕ) (script last : Script) → IsGoodScript script →
+    spelled_from (forms_of mode) n script lines ≡ Ok last → IsGoodScript last
 lines_good mode [] n script last s h = given IsGoodScript script last _ refl h s
 lines_good mode (text ∷ lines) n script last s h =
     let next = parts (in_line n (line_added (forms_of mode) script n text)) _ last h in
@@ -340,9 +326,9 @@ lines_good mode (text ∷ lines) n script last s h =
     lines_good mode lines (n + 1) next.0 last (said_good script n said.0 next.0 s (line_good mode text said.0 said.1) said.2) next.2
 
 -- what bytes spell is sayable
-pub spelled_good : (mode : Mode) (bytes : List ℕ) (script : Script) → spelled mode bytes ≡ Ok script → IsGoodScript script
+pub spelled_good : (mode : Mode) (bytes : List ℕ) {script : Script} → spelled mode bytes ≡ Ok script → IsGoodScript script
 unfolding spelled_by
-spelled_good mode bytes script h =
-    either_way IsGoodScript (nat_lt 1048576 (length bytes)) _ _ script h
+spelled_good mode bytes {script} h =
+    either_way IsGoodScript (nat_lt 1048576 (length bytes)) _ _ h
     (λ e. absurd (cc))
     (λ e. lines_good mode (lines_in bytes) 1 no_lines script (record { roles = refl; events = refl }) e)

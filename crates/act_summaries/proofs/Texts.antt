@@ -61,9 +61,11 @@ abbrev pub actor_as : ℕ → List RunItem → Option (List ℕ) → List (List 
 actor_as a items None = []
 actor_as a items (Some stage) = (actor_text a ++ 32 ∷ stage) ∷ numbered (item_as a) 0 items
 
+-- the lines of a caller's futures
 abbrev pub futures : History → ℕ → List (List ℕ)
 futures h c = numbered (future_as c (kept_of c h)) 0 (calls_of c h)
 
+-- the lines of an actor
 abbrev pub actors : History → ℕ → List (List ℕ)
 actors h a = actor_as a (runs_of a h) (stage_of a h)
 
@@ -74,27 +76,21 @@ lines_of h = flat_map (futures h) (one_to 16) ++ flat_map (actors h) (one_to 8)
 future_line_is : (c : ℕ) (kept : List (Option Answer)) (k : ℕ) (call : Submission) → future_line c kept k call ≡ line (future_as c kept k call)
 future_line_is c kept k call =
     ap line
-    (append_assoc (future_text c k ++ space) (actor_text call.actor) (kept_text (kept_at kept k))
-    ∙ append_assoc (future_text c k) space (actor_text call.actor ++ kept_text (kept_at kept k))
-    ∙ (λ i. name_is c k i ++ 32 ∷ (actor_text call.actor ++ kept_is (kept_at kept k) i)))
+    (append_assoc (future_text c k ++ space) (actor_text call.actor) (kept_text (kept_at kept k)) ∙ append_assoc (future_text c k) space
+    (actor_text call.actor ++ kept_text (kept_at kept k)) ∙ (λ i. name_is c k i ++ 32 ∷ (actor_text call.actor ++ kept_is (kept_at kept k) i)))
 
 item_line_is : (a place : ℕ) (item : RunItem) → item_line a place item ≡ line (item_as a place item)
 item_line_is a place item =
-    let at : List ℕ = actor_text a ++ codes "." ++ decimal place in
-    let call : List ℕ = future_text item.caller item.future in
-    let word : List ℕ = method_text item.method in
-    let args : List ℕ = with_spaces (map settled_text item.args) in
+    let at : List ℕ = actor_text a ++ codes "." ++ decimal place in let call : List ℕ = future_text item.caller item.future in
+    let word : List ℕ = method_text item.method in let args : List ℕ = with_spaces (map settled_text item.args) in
     ap line
-    (append_assoc (at ++ space ++ call ++ space) word args
-    ∙ append_assoc (at ++ space ++ call) space (word ++ args)
-    ∙ append_assoc (at ++ space) call (32 ∷ (word ++ args))
-    ∙ append_assoc at space (call ++ 32 ∷ (word ++ args))
-    ∙ (λ i. place_is a place i ++ 32 ∷ (name_is item.caller item.future i ++ 32 ∷ (word ++ spaced_is (map settled_text item.args) i))))
+    (append_assoc (at ++ space ++ call ++ space) word args ∙ append_assoc (at ++ space ++ call) space (word ++ args) ∙
+    append_assoc (at ++ space) call (32 ∷ (word ++ args)) ∙ append_assoc at space (call ++ 32 ∷ (word ++ args)) ∙
+    (λ i. place_is a place i ++ 32 ∷ (name_is item.caller item.future i ++ 32 ∷ (word ++ spaced_is (map settled_text item.args) i))))
 
 actor_is : (a : ℕ) (items : List RunItem) (stage : Option (List ℕ)) → actor_lines a items stage ≡ flat_map line (actor_as a items stage)
 actor_is a items None = refl
-actor_is a items (Some stage) =
-    (λ i. line (append_assoc (actor_text a) space stage i) ++ numbered_is (item_line a) (item_as a) 0 items (item_line_is a) i)
+actor_is a items (Some stage) = (λ i. line (append_assoc (actor_text a) space stage i) ++ numbered_is (item_line a) (item_as a) 0 items (item_line_is a) i)
 
 each_is : (f : ℕ → List ℕ) (g : ℕ → List (List ℕ)) → ((n : ℕ) → f n ≡ flat_map line (g n)) → (ns : List ℕ) → flat_map f ns ≡ flat_map line (flat_map g ns)
 each_is f g same [] = refl
@@ -103,8 +99,9 @@ each_is f g same (n ∷ ns) = (λ i. same n i ++ each_is f g same ns i) ∙ sym 
 -- a summary is the lines of its history, each with its end
 pub summary_is : (h : History) → summary h ≡ flat_map line (lines_of h)
 summary_is h =
-    (λ i. each_is (λ c. future_lines c (calls_of c h) (kept_of c h)) (futures h) (λ c. numbered_is (future_line c (kept_of c h)) (future_as c (kept_of c h)) 0 (calls_of c h) (future_line_is c (kept_of c h))) (one_to 16) i
-    ++ each_is (λ a. actor_lines a (runs_of a h) (stage_of a h)) (actors h) (λ a. actor_is a (runs_of a h) (stage_of a h)) (one_to 8) i)
+    (λ i. each_is (λ c. future_lines c (calls_of c h) (kept_of c h)) (futures h)
+    (λ c. numbered_is (future_line c (kept_of c h)) (future_as c (kept_of c h)) 0 (calls_of c h) (future_line_is c (kept_of c h))) (one_to 16) i ++ each_is
+    (λ a. actor_lines a (runs_of a h) (stage_of a h)) (actors h) (λ a. actor_is a (runs_of a h) (stage_of a h)) (one_to 8) i)
     ∙ sym (flat_map-append line (flat_map (futures h) (one_to 16)) (flat_map (actors h) (one_to 8)))
 
 pub caller_word : (c : ℕ) → IsWord (caller_text c)
@@ -114,6 +111,7 @@ caller_word c = (omega arith, decimal_word c)
 pub actor_word : (a : ℕ) → IsWord (actor_text a)
 actor_word a = (omega arith, decimal_word a)
 
+-- a caller's name has no dot
 pub caller_dots : (c : ℕ) → Lacks 46 (caller_text c)
 caller_dots c = (differ 99 46 refl, decimal_lacks c 46 (omega arith))
 
@@ -122,11 +120,11 @@ actor_dots a = (differ 97 46 refl, decimal_lacks a 46 (omega arith))
 
 -- a future's name is a word
 pub future_word : (c k : ℕ) → IsWord (future_name c k)
-future_word c k = Each-append (λ (x : ℕ). 32 < x) (caller_text c) (46 ∷ decimal k) (caller_word c) (omega arith, decimal_word k)
+future_word c k = Each-append (λ x. 32 < x) (caller_text c) (46 ∷ decimal k) (caller_word c) (omega arith, decimal_word k)
 
 -- the name of an item's place is a word
 pub place_word : (a place : ℕ) → IsWord (place_text a place)
-place_word a place = Each-append (λ (x : ℕ). 32 < x) (actor_text a) (46 ∷ decimal place) (actor_word a) (omega arith, decimal_word place)
+place_word a place = Each-append (λ x. 32 < x) (actor_text a) (46 ∷ decimal place) (actor_word a) (omega arith, decimal_word place)
 
 -- ---- whose a line is
 
@@ -136,13 +134,14 @@ owner text = before 46 (before 32 text)
 
 future_owner : (c : ℕ) (kept : List (Option Answer)) (k : ℕ) (call : Submission) → owner (future_as c kept k call) ≡ caller_text c
 future_owner c kept k call =
-    ap (before 46) (before_cut 32 (future_name c k) (actor_text call.actor ++ 32 ∷ kept_word (kept_at kept k)) (word_lacks 32 (future_name c k) (omega arith) (future_word c k)))
+    ap (before 46) (before_cut 32 (future_name c k) (actor_text call.actor ++ 32 ∷ kept_word (kept_at kept k))
+    (word_lacks 32 (future_name c k) (omega arith) (future_word c k)))
     ∙ before_cut 46 (caller_text c) (decimal k) (caller_dots c)
 
 item_owner : (a place : ℕ) (item : RunItem) → owner (item_as a place item) ≡ actor_text a
 item_owner a place item =
-    ap (before 46) (before_cut 32 (place_text a place) (future_name item.caller item.future ++ 32 ∷ (method_text item.method ++ spaced (map settled_text item.args)))
-    (word_lacks 32 (place_text a place) (omega arith) (place_word a place)))
+    ap (before 46) (before_cut 32 (place_text a place) (future_name item.caller item.future ++ 32 ∷
+    (method_text item.method ++ spaced (map settled_text item.args))) (word_lacks 32 (place_text a place) (omega arith) (place_word a place)))
     ∙ before_cut 46 (actor_text a) (decimal place) (actor_dots a)
 
 stage_owner : (a : ℕ) (stage : List ℕ) → owner (actor_text a ++ 32 ∷ stage) ≡ actor_text a
@@ -154,7 +153,8 @@ stage_owner a stage =
 abbrev pub AreOf : List ℕ → List (List ℕ) → Type 0
 AreOf name texts = AllByRecursion (λ text. owner text ≡ name) texts
 
-numbered_of : {X : Type 0} (name : List ℕ) (text_of : ℕ → X → List ℕ) (place : ℕ) (xs : List X) → ((k : ℕ) (x : X) → owner (text_of k x) ≡ name) → AreOf name (numbered text_of place xs)
+numbered_of : {X : Type 0} (name : List ℕ) (text_of : ℕ → X → List ℕ) (place : ℕ) (xs : List X) → ((k : ℕ) (x : X) → owner (text_of k x) ≡ name) →
+    AreOf name (numbered text_of place xs)
 numbered_of name text_of place [] own = tt
 numbered_of name text_of place (x ∷ xs) own = (own place x, numbered_of name text_of (place + 1) xs own)
 
@@ -175,10 +175,10 @@ abbrev pub is_of : List ℕ → List ℕ → Bool
 is_of name text = belongs owner name text
 
 pub callers_differ : (m n : ℕ) → m ≤ 16 → n ≤ 16 → caller_text m ≡ caller_text n → m ≡ n
-callers_differ m n p q e = let digits : decimal m ≡ decimal n = tails 99 99 (decimal m) (decimal n) e in decimal_injective m n (omega (arith, p)) (omega (arith, q)) digits
+callers_differ m n p q e = let digits : decimal m ≡ decimal n = tails e in decimal_injective m n (omega (arith, p)) (omega (arith, q)) digits
 
 pub actors_differ : (m n : ℕ) → m ≤ 16 → n ≤ 16 → actor_text m ≡ actor_text n → m ≡ n
-actors_differ m n p q e = let digits : decimal m ≡ decimal n = tails 97 97 (decimal m) (decimal n) e in decimal_injective m n (omega (arith, p)) (omega (arith, q)) digits
+actors_differ m n p q e = let digits : decimal m ≡ decimal n = tails e in decimal_injective m n (omega (arith, p)) (omega (arith, q)) digits
 
 pub kinds_differ : (c a : ℕ) → caller_text c ≢ actor_text a
 kinds_differ c a e = apart 99 97 (decimal c) (decimal a) refl e
@@ -209,7 +209,7 @@ pub filtered : (lines : List (List ℕ)) (name : List ℕ) (xs ys : List (List �
     AllZip (IsToldTwice lines) (filter (is_of name) xs) (filter (is_of name) ys)
 filtered lines name [] [] all = tt
 filtered lines name (x ∷ xs) (y ∷ ys) all =
-    go (is_of name x) (is_of name y) (ap (λ (o : List ℕ). bytes_eq o name) (owner_same all.0.text x y all.0.tells)) (filtered lines name xs ys all.1)
+    go (is_of name x) (is_of name y) (ap (λ o. bytes_eq o name) (owner_same all.0.text x y all.0.tells)) (filtered lines name xs ys all.1)
   where
     go : (a b : Bool) → a ≡ b → AllZip (IsToldTwice lines) (filter (is_of name) xs) (filter (is_of name) ys) →
         AllZip (IsToldTwice lines) (cond a (x ∷ filter (is_of name) xs) (filter (is_of name) xs)) (cond b (y ∷ filter (is_of name) ys) (filter (is_of name) ys))

@@ -1,7 +1,7 @@
 -- What fits a history fits it at every number, where nothing is said of others than it can have.
-use Rattle.act_summaries.proofs.Common.{◌≡◌, ◌⊎◌, inl, inr, ℕ, ◌≤◌, Bool, false, List, [], map, slice_get, Some, None, Option, is_some, option_map, refl, sym}
-use Rattle.act_summaries.proofs.Common.{ap, subst, ◌∙◌, slice_get-map, History, ActorSpec, cast_of, calls_of, runs_of, is_dead, is_retired, AllZip, RunItem}
-use Rattle.act_summaries.proofs.Common.{Submission, option_map-none, kept_by, kept_at_is, kept_for, Call, Ran, End, IsKeptSo, IsRanSo, IsActorSo, FitHistory}
+use Rattle.act_summaries.proofs.Common.{◌≡◌, ◌⊎◌, inl, inr, ℕ, ◌≤◌, Bool, false, List, [], map, slice_get, Some, None, Option, is_some, refl, sym, ap, subst}
+use Rattle.act_summaries.proofs.Common.{◌∙◌, History, ActorSpec, cast_of, calls_of, runs_of, is_dead, is_retired, AllZip, Submission, kept_for, Call, Ran, End}
+use Rattle.act_summaries.proofs.Common.{IsKeptSo, IsRanSo, IsActorSo, FitHistory}
 use Rattle.act_summaries.proofs.Facts.{Facts, IsCallerNumber, cast_good}
 use Rattle.act_summaries.proofs.Alike.{valid_or_none, nothing_ran, not_ended}
 
@@ -32,18 +32,8 @@ module _ (casts : List ActorSpec) (h : History) (f : Facts casts h) (calls : ℕ
   pub kept : (c k : ℕ) (call : Call) → slice_get (calls c) k ≡ Some call → IsKeptSo call.kept (kept_for c k h)
   kept c k call at = elim (callers c) [
     | inr number ↦ fit.kept c k call number.0 number.1 at
-    | inl none ↦ absurd (let bad : None ≡ Some call = ap (λ (l : List Call). slice_get l k) (sym none) ∙ at in cc)
+    | inl none ↦ absurd (let bad : None ≡ Some call = ap (λ l. slice_get l k) (sym none) ∙ at in cc)
   ]
-
-  -- nothing is kept for a call that there isn't
-  pub kept_none : (c k : ℕ) → slice_get (calls c) k ≡ None → kept_for c k h ≡ None
-  kept_none c k none =
-      let other : option_map (λ (sub : Submission). sub.actor) (slice_get (calls_of c h) k) ≡ None =
-      sym (slice_get-map (λ (sub : Submission). sub.actor) (calls_of c h) k)
-      ∙ ap (λ (l : List ℕ). slice_get l k) (called c)
-      ∙ slice_get-map (λ (call : Call). call.actor) (calls c) k
-      ∙ ap (option_map (λ (call : Call). call.actor)) none in
-      kept_at_is h c k ∙ ap (kept_by h c k) (option_map-none (λ (sub : Submission). sub.actor) (slice_get (calls_of c h) k) other)
 
   pub ended : (a : ℕ) → IsActorSo a h (ends a)
   ended a = elim (actors a) [
@@ -56,13 +46,13 @@ module _ (casts : List ActorSpec) (h : History) (f : Facts casts h) (calls : ℕ
         | inr number ↦ fit.ended a number.0 number.1
         | inl none ↦ subst (IsActorSo a h) (sym none) e
       ]
-      go (Some cast) e = let number = cast_good h a f.good (ap (λ (o : Option ActorSpec). is_some o) e) in fit.ended a number.0 number.1
+      go (Some cast) e = let number = cast_good h a f.good (ap (λ o. is_some o) e) in fit.ended a number.0 number.1
 
   pub ran : (a : ℕ) → AllZip IsRanSo (runs_said (ends a)) (runs_of a h)
   ran a = go (ends a) (ended a)
     where
       go : (o : Option End) → IsActorSo a h o → AllZip IsRanSo (runs_said o) (runs_of a h)
-      go None none = subst (λ (l : List RunItem). AllZip IsRanSo [] l) (sym (nothing_ran casts h f a none)) tt
+      go None none = subst (λ l. AllZip IsRanSo [] l) (sym (nothing_ran casts h f a none)) tt
       go (Some end) is = is.runs
 
   pub dead : (a : ℕ) → is_dead a h ≡ dead_said (ends a)

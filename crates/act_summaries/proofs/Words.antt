@@ -30,9 +30,9 @@ no_mark text e other is = let bad : true ≡ false = ap is_mark (sym is) ∙ e i
 
 -- a word that begins otherwise than each mark's
 begins : (b : ℕ) (text : List ℕ) → b ≢ 61 → b ≢ 108 → b ≢ 114 → IsNoMark (b ∷ text)
-begins b text e l r Equals is = e (heads b 61 text [] is)
-begins b text e l r Live is = l (heads b 108 text (codes "ive") is)
-begins b text e l r Retired is = r (heads b 114 text (codes "etired") is)
+begins b text e l r Equals is = e (heads is)
+begins b text e l r Live is = l (heads is)
+begins b text e l r Retired is = r (heads is)
 
 -- ---- methods
 
@@ -51,15 +51,14 @@ method_no_mark m h = no_mark (method_text m) refl
 good_word : (text : List ℕ) → list_all is_good_byte text ≡ true → IsWord text
 good_word [] e = tt
 good_word (b ∷ text) e =
-    let parts = and_parts (is_good_byte b) (list_all is_good_byte text) e in
-    let low = (and_parts (nat_le 33 b) (nat_le b 126) parts.0).0 in
+    let parts = and_parts (is_good_byte b) (list_all is_good_byte text) e in let low = (and_parts (nat_le 33 b) (nat_le b 126) parts.0).0 in
     (omega (arith, leb-true 33 b low), good_word text parts.1)
 
 pub text_word : (text : List ℕ) → is_good_text text ≡ true → IsWord text
 text_word text e = good_word text (and_parts (nat_le 1 (length text) && nat_le (length text) 64) (list_all is_good_byte text) e).1
 
 quoted_word : (text : List ℕ) → is_good_text text ≡ true → IsWord (34 ∷ (text ++ 34 ∷ []))
-quoted_word text e = (omega arith, Each-append (λ (x : ℕ). 32 < x) text (34 ∷ []) (text_word text e) (omega arith, tt))
+quoted_word text e = (omega arith, Each-append (λ x. 32 < x) text (34 ∷ []) (text_word text e) (omega arith, tt))
 
 pub value_word : (v : Value) → is_sayable v ≡ true → IsWord (value_text v)
 value_word value.Unit h = word_from (codes "unit") refl
@@ -118,8 +117,8 @@ IsGoodAnswer (Err f) = is_known_fault f ≡ true
 
 fault_word : (f : Fault) → is_known_fault f ≡ true → IsWord (fault_text f)
 fault_word (fault.Dependency k) h =
-    Each-append (λ (x : ℕ). 32 < x) (codes "Dependency(") (decimal k ++ codes ")") (word_from (codes "Dependency(") refl)
-    (Each-append (λ (x : ℕ). 32 < x) (decimal k) (codes ")") (decimal_word k) (omega arith, tt))
+    Each-append (λ x. 32 < x) (codes "Dependency(") (decimal k ++ codes ")") (word_from (codes "Dependency(") refl)
+    (Each-append (λ x. 32 < x) (decimal k) (codes ")") (decimal_word k) (omega arith, tt))
 fault_word (fault.Own name) h = cc
 fault_word f h = word_from (fault_text f) refl
 
@@ -164,12 +163,12 @@ pair_is pair = append_assoc (value_text (value.Text pair.0)) space (value_text p
 pair_plain : (pair : List ℕ × Value) → IsGoodPair pair → IsPlain (pair_text pair)
 pair_plain pair h =
     subst IsPlain (sym (pair_is pair))
-    (Each-append (λ (x : ℕ). 32 ≤ x) (value_text (value.Text pair.0)) (32 ∷ value_text pair.1) (word_plain (value_text (value.Text pair.0)) (quoted_word pair.0 h.0))
+    (Each-append (λ x. 32 ≤ x) (value_text (value.Text pair.0)) (32 ∷ value_text pair.1) (word_plain (value_text (value.Text pair.0)) (quoted_word pair.0 h.0))
     (omega arith, word_plain (value_text pair.1) (value_word pair.1 h.1)))
 
 pub spaced_plain : (parts : List (List ℕ)) → AllByRecursion IsPlain parts → IsPlain (spaced parts)
 spaced_plain [] h = tt
-spaced_plain (part ∷ parts) h = (omega arith, Each-append (λ (x : ℕ). 32 ≤ x) part (spaced parts) h.0 (spaced_plain parts h.1))
+spaced_plain (part ∷ parts) h = (omega arith, Each-append (λ x. 32 ≤ x) part (spaced parts) h.0 (spaced_plain parts h.1))
 
 pub with_spaces_plain : (parts : List (List ℕ)) → AllByRecursion IsPlain parts → IsPlain (with_spaces parts)
 with_spaces_plain parts h = subst IsPlain (sym (spaced_is parts)) (spaced_plain parts h)
@@ -191,8 +190,12 @@ IsGoodState (ItemsOf items) = AllByRecursion (λ v. is_sayable v ≡ true) items
 IsGoodState (OwnAt behaviour) = ⊥
 
 pub state_plain : (state : KindState) → IsGoodState state → IsPlain (state_text state)
-state_plain (CounterAt n) h = Each-append (λ (x : ℕ). 32 ≤ x) (codes "counter ") (signed_decimal n) (plain_from (codes "counter ") refl) (word_plain (signed_decimal n) (signed_word n))
-state_plain (TableOf pairs) h = Each-append (λ (x : ℕ). 32 ≤ x) (codes "table") (with_spaces (map pair_text pairs)) (plain_from (codes "table") refl) (with_spaces_plain (map pair_text pairs) (pairs_plain pairs h.0))
-state_plain (AccountAt n) h = Each-append (λ (x : ℕ). 32 ≤ x) (codes "account ") (signed_decimal n) (plain_from (codes "account ") refl) (word_plain (signed_decimal n) (signed_word n))
-state_plain (ItemsOf items) h = Each-append (λ (x : ℕ). 32 ≤ x) (codes "list") (with_spaces (map value_text items)) (plain_from (codes "list") refl) (with_spaces_plain (map value_text items) (values_plain items h.0))
+state_plain (CounterAt n) h =
+    Each-append (λ x. 32 ≤ x) (codes "counter ") (signed_decimal n) (plain_from (codes "counter ") refl) (word_plain (signed_decimal n) (signed_word n))
+state_plain (TableOf pairs) h = Each-append (λ x. 32 ≤ x) (codes "table") (with_spaces (map pair_text pairs)) (plain_from (codes "table") refl)
+    (with_spaces_plain (map pair_text pairs) (pairs_plain pairs h.0))
+state_plain (AccountAt n) h =
+    Each-append (λ x. 32 ≤ x) (codes "account ") (signed_decimal n) (plain_from (codes "account ") refl) (word_plain (signed_decimal n) (signed_word n))
+state_plain (ItemsOf items) h = Each-append (λ x. 32 ≤ x) (codes "list") (with_spaces (map value_text items)) (plain_from (codes "list") refl)
+    (with_spaces_plain (map value_text items) (values_plain items h.0))
 state_plain (OwnAt behaviour) h = absurd h

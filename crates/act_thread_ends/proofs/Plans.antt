@@ -50,17 +50,14 @@ steps_by casts c (step ∷ plan) before events (first, done, later, split, meanw
 -- ---- whom no cast names does nothing, and has no plan
 
 same_caller : (c d : ℕ) (h : History) → (d == c) ≡ true → is_caller d h ≡ true → is_caller c h ≡ true
-same_caller c d h is caller = subst (λ (x : ℕ). is_caller x h ≡ true) (eqb-true d c is) caller
+same_caller c d h is caller = subst (λ x. is_caller x h ≡ true) (eqb-true d c is) caller
 
 step_caller : (c : ℕ) (h : History) (other : Event) → refusal_of h other ≡ None → is_step_by c other ≡ true → is_caller c h ≡ true
 step_caller c h (event.Submit d a method args) e is =
     same_caller c d h is (needs-none (is_caller d h) NoCaller (option_map SubmitRefused (submission_refusal d a args h)) e).0
-step_caller c h (event.Copy d a) e is =
-    same_caller c d h is (needs-none (is_caller d h) NoCaller (option_map Handle (copy_refusal (copies_of d a h))) e).0
-step_caller c h (event.Release d a) e is =
-    same_caller c d h is (needs-none (is_caller d h) NoCaller (option_map Handle (handle_refusal (copies_of d a h))) e).0
-step_caller c h (event.AskKill d a) e is =
-    same_caller c d h is (needs-none (is_caller d h) NoCaller (option_map Handle (handle_refusal (copies_of d a h))) e).0
+step_caller c h (event.Copy d a) e is = same_caller c d h is (needs-none (is_caller d h) NoCaller (option_map Handle (copy_refusal (copies_of d a h))) e).0
+step_caller c h (event.Release d a) e is = same_caller c d h is (needs-none (is_caller d h) NoCaller (option_map Handle (handle_refusal (copies_of d a h))) e).0
+step_caller c h (event.AskKill d a) e is = same_caller c d h is (needs-none (is_caller d h) NoCaller (option_map Handle (handle_refusal (copies_of d a h))) e).0
 step_caller c h other e is = cc
 
 -- whether some cast names the caller
@@ -74,13 +71,13 @@ strangers casts c h (other ∷ events) same none ok =
     let first : IsOk (outcome_of h other) = ok 0 (outcome_of h other) (omega arith) in
     let rest : All IsOk (outcomes (after h other) events) = λ i d within. ok (suc i) d (omega arith) in
     let stay = after_keeps (λ (g : History). g.casts ≡ casts) h other same (λ _. (added_grows h other).casts ∙ same) in
-    All-cons (λ (x : Event). is_step_by c x ≡ false) other events (go (is_step_by c other) refl (accepted_none h other first))
+    All-cons (λ x. is_step_by c x ≡ false) other events (go (is_step_by c other) refl (accepted_none h other first))
     (strangers casts c (after h other) events stay none rest)
   where
     go : (b : Bool) → is_step_by c other ≡ b → refusal_of h other ≡ None → is_step_by c other ≡ false
     go false is e = is
     go true is e =
-        let caller : is_named casts c ≡ true = subst (λ (l : List ActorSpec). is_named l c ≡ true) same (step_caller c h other e is) in
+        let caller : is_named casts c ≡ true = subst (λ l. is_named l c ≡ true) same (step_caller c h other e is) in
         let bad : true ≡ false = sym caller ∙ none in cc
 
 -- a caller that no cast names has an empty plan, where each plan is of one that some cast names
@@ -91,7 +88,7 @@ no_plan casts c plans all none = go (find (λ (plan : ℕ × List Step). plan.0 
     go : (o : Option (ℕ × List Step)) → find (λ (plan : ℕ × List Step). plan.0 == c) plans ≡ o → steps_of_plan o ≡ []
     go None e = refl
     go (Some plan) e =
-        let found = found_is (λ (p : ℕ × List Step). p.0 == c) plans plan e in
-        let named = all_in (λ (p : ℕ × List Step). is_named casts p.0 ≡ true) plans plan all found.inside in
-        let here : is_named casts c ≡ true = subst (λ (n : ℕ). is_named casts n ≡ true) (eqb-true plan.0 c found.passes) named in
+        let found = found_is (λ (p : ℕ × List Step). p.0 == c) plans e in
+        let named = all_in (λ (p : ℕ × List Step). is_named casts p.0 ≡ true) all found.inside in
+        let here : is_named casts c ≡ true = subst (λ n. is_named casts n ≡ true) (eqb-true plan.0 c found.passes) named in
         let bad : true ≡ false = sym here ∙ none in cc

@@ -23,7 +23,7 @@ pub use Rattle.act_rules.specs.Submissions.{calls_to, kept_at}
 pub use Rattle.act_rules.specs.declared.history.RunItem.{RunItem}
 pub use Rattle.act_rules.specs.declared.history.Submission.{Submission}
 pub use Rattle.act_rules.specs.declared.script.Step.{Step}
-pub use Rattle.act_serve.specs.Served.{EndView, IfRetired, Killed, Retired, Starved, end_id, end_log, end_view}
+pub use Rattle.act_serve.specs.Served.{EndView, IfRetired, Killed, Retired, end_id, end_log, end_view}
 pub use Rattle.act_serve.specs.declared.turn.Finished.{Finished}
 pub use Rattle.act_told.specs.InOrder.{StandsAsItsActor}
 pub use Rattle.act_told.specs.Starts.{AreSmall, run_by, runs_by, start_in, starts_from}

@@ -2,7 +2,7 @@
 use Rattle.act_told_ends.proofs.Common.{◌≡◌, ℕ, Bool, true, false, cond, List, [], ◌∷◌, ◌++◌, map, Option, Some, None, inl, refl, ap, sym, ◌∙◌, subst}
 use Rattle.act_told_ends.proofs.Common.{append_assoc, ◌==◌, eqb-true, append-nil, filter_map, cons_option, All-cons, Event, Step, Submit, Copy, Release, Kill}
 use Rattle.act_told_ends.proofs.Common.{ActorSpec, history, outcomes, At, next_step, IsPlay, is_step_by, DoesStepBy, DoesStepsBy, All, IsOk, opening}
-use Rattle.act_told_ends.proofs.Common.{KeepsToPlans, is_retired, History, list_play, none_others, Told, Leaves, EndsAsTold, told_of}
+use Rattle.act_told_ends.proofs.Common.{KeepsToPlans, is_retired, list_play, none_others, Told, Leaves, EndsAsTold, told_of}
 use Rattle.act_rules.specs.declared.event.Event.TheVariants as event
 
 -- which step of the caller's the event is
@@ -27,13 +27,13 @@ of_whom c d P s others mine = go (d == c) refl
 
 does_one : (casts : List ActorSpec) (c : ℕ) (other : Event) (before : List Event) → Does casts c other before (step_in c other)
 does_one casts c (event.Submit d a method args) before = of_whom c d (Does casts c (event.Submit d a method args) before)
-    (Submit a method args) (λ none. none) (λ same. ap (λ (x : ℕ). event.Submit x a method args ∷ []) same)
+    (Submit a method args) (λ none. none) (λ same. ap (λ x. event.Submit x a method args ∷ []) same)
 does_one casts c (event.Copy d a) before = of_whom c d (Does casts c (event.Copy d a) before) (Copy a) (λ none. none)
-    (λ same. ap (λ (x : ℕ). event.Copy x a ∷ []) same)
+    (λ same. ap (λ x. event.Copy x a ∷ []) same)
 does_one casts c (event.Release d a) before = of_whom c d (Does casts c (event.Release d a) before) (Release a) (λ none. none)
-    (λ same. ap (λ (x : ℕ). event.Release x a ∷ []) same)
+    (λ same. ap (λ x. event.Release x a ∷ []) same)
 does_one casts c (event.AskKill d a) before = of_whom c d (Does casts c (event.AskKill d a) before) (Kill a) (λ none. none)
-    (λ same. inl (ap (λ (x : ℕ). event.AskKill x a ∷ []) same))
+    (λ same. inl (ap (λ x. event.AskKill x a ∷ []) same))
 does_one casts c other before = refl
 
 -- an event that is none of the caller's steps comes first
@@ -45,10 +45,10 @@ comes_first casts c (step ∷ steps) before other events none (first, done, late
       other ∷ first,
       done,
       later,
-      ap (λ (l : List Event). other ∷ l) split,
+      ap (λ l. other ∷ l) split,
       All-cons (λ o. is_step_by c o ≡ false) other first none others,
-      subst (λ (l : List Event). DoesStepBy casts c step l done) joined does,
-      subst (λ (l : List Event). DoesStepsBy casts c steps (l ++ done) later) joined rest,
+      subst (λ l. DoesStepBy casts c step l done) joined does,
+      subst (λ l. DoesStepsBy casts c steps (l ++ done) later) joined rest,
     )
 
 does_own : (casts : List ActorSpec) (c : ℕ) (before events : List Event) → DoesStepsBy casts c (filter_map (step_in c) events) before events
@@ -65,7 +65,7 @@ does_own casts c before (other ∷ events) = go (step_in c other) (does_one cast
       refl,
       none_others c,
       does,
-      subst (λ (l : List Event). DoesStepsBy casts c (filter_map (step_in c) events) (l ++ other ∷ []) events) (sym (append-nil before)) rest,
+      subst (λ l. DoesStepsBy casts c (filter_map (step_in c) events) (l ++ other ∷ []) events) (sym (append-nil before)) rest,
     )
 
 -- ---- the play
@@ -92,31 +92,30 @@ keeps casts bound told events ends c = go (bound c) refl
     own_steps : List Step
     own_steps = filter_map (step_in c) events
 
-    go : (o : Option (List Step)) → bound c ≡ o
-        → (closing : List ℕ) × DoesStepsBy casts c (plan_or o own_steps ++ map (λ a. Release a) closing) [] events
-    go None e = ([], subst (λ (l : List Step). DoesStepsBy casts c l [] events) (sym (append-nil own_steps)) (does_own casts c [] events))
+    go : (o : Option (List Step)) → bound c ≡ o → (closing : List ℕ) × DoesStepsBy casts c (plan_or o own_steps ++ map (λ a. Release a) closing) [] events
+    go None e = ([], subst (λ l. DoesStepsBy casts c l [] events) (sym (append-nil own_steps)) (does_own casts c [] events))
     go (Some steps) e = ends.does c steps e
 
-pub late_found : (casts : List ActorSpec) (bound : ℕ → Option (List Step)) (told : Told) (events : List Event) → EndsAsTold casts bound told events
+pub late_found : (casts : List ActorSpec) (bound : ℕ → Option (List Step)) (told : Told) {events : List Event} → EndsAsTold casts bound told events
     → (plans : ℕ → List Step) × (late : At) × IsLate casts bound told plans late × (late.history ≡ history casts events)
-late_found casts bound told events ends =
+late_found casts bound told {events} ends =
     let played = list_play casts (plans_of bound events) events ends.accepted (keeps casts bound told events ends) in (
       plans_of bound events,
       played.0,
       record {
         play = played.1;
-        leaves = subst (λ (h : History). Leaves told h) (sym played.2) ends.leaves;
+        leaves = subst (λ h. Leaves told h) (sym played.2) ends.leaves;
         retired = λ a. ap (is_retired a) played.2 ∙ ends.retired a;
-        own = λ c steps e. ap (λ (o : Option (List Step)). plan_or o (filter_map (step_in c) events)) e;
+        own = λ c steps e. ap (λ o. plan_or o (filter_map (step_in c) events)) e;
         done = played.3;
       },
       played.2,
     )
 
 -- where some events end as is told, so does a play of plans, each plan done; a bound caller's plan is its steps
-pub late_play : (casts : List ActorSpec) (bound : ℕ → Option (List Step)) (told : Told) (events : List Event) → EndsAsTold casts bound told events
+pub late_play : {casts : List ActorSpec} {bound : ℕ → Option (List Step)} {told : Told} {events : List Event} → EndsAsTold casts bound told events
     → (plans : ℕ → List Step) × (late : At) × IsLate casts bound told plans late
-late_play casts bound told events ends = let found = late_found casts bound told events ends in (found.0, found.1, found.2)
+late_play {casts} {bound} {told} {events} ends = let found = late_found casts bound told ends in (found.0, found.1, found.2)
 
 -- any accepted events are a play of what each caller did
 pub free_play : (casts : List ActorSpec) (events : List Event) → All IsOk (outcomes (opening casts) events)
@@ -124,7 +123,7 @@ pub free_play : (casts : List ActorSpec) (events : List Event) → All IsOk (out
 free_play casts events accepted =
     let plans : ℕ → List Step = λ c. filter_map (step_in c) events in
     let played = list_play casts plans events accepted
-    (λ c. ([], subst (λ (l : List Step). DoesStepsBy casts c l [] events) (sym (append-nil (filter_map (step_in c) events))) (does_own casts c [] events))) in
+    (λ c. ([], subst (λ l. DoesStepsBy casts c l [] events) (sym (append-nil (filter_map (step_in c) events))) (does_own casts c [] events))) in
     (plans, played.0, played.1, played.2)
 
 -- what events leave is told of them

@@ -15,13 +15,8 @@ stuck_through casts bound told done h walked stuck events ends = go (goes_on cas
 pub stuck_ends : (casts : List ActorSpec) (told : Told) (walk : List Event) → All IsOk (outcomes (opening casts) walk)
     → IsResting casts (λ c. None) told (history casts walk) → (MayRetire told (history casts walk) → ⊥)
     → (events : List Event) → EndsAsTold casts (λ c. None) told events → EndsAsTold casts (λ c. None) told walk
-stuck_ends casts told walk accepted rests stuck events ends = go (at_the_end casts (λ c. None) told events (history casts walk) ends rests)
+stuck_ends casts told walk accepted rests stuck events ends = go (at_the_end ends rests)
   where
     go : IsEndTold told (history casts walk) ⊎ MayRetire told (history casts walk) → EndsAsTold casts (λ c. None) told walk
-    go (inl end) = record {
-      accepted = accepted;
-      leaves = end.0;
-      retired = end.1;
-      does = λ c steps is. cc;
-    }
+    go (inl end) = record { accepted = accepted; leaves = end.0; retired = end.1; does = λ c steps is. cc }
     go (inr thing) = absurd (stuck thing)

@@ -1,10 +1,9 @@
 -- Where some events end as is told, a walk is through or may go on.
-use Rattle.act_told_ends.proofs.Common.{◌≡◌, ℕ, ◌≤◌, true, List, [], length, Option, Some, None, inl, inr, ◌⊎◌, refl, ap, sym, ◌∙◌, subst, arith, Event}
-use Rattle.act_told_ends.proofs.Common.{RunItem, Submission, Step, Answer, kept_at, has_terminated, ActorSpec, History, opening, contains, calls_of, runs_of}
-use Rattle.act_told_ends.proofs.Common.{kept_of, is_dead, refusal_of, add_event, history, after_all_keeps, At, steps_of, after_step, with_event, is_free}
-use Rattle.act_told_ends.proofs.Common.{IsPlay, Opens, Takes, Skips, Closes, Happens, world_sound, world_retires, both_ways, past_none, same_kept, kept_long}
-use Rattle.act_told_ends.proofs.Common.{front_short, IsWorld, world, either_of, world_step, or_second, Told, EndsAsTold, IsWalk, MayGoOn, IsThrough}
-use Rattle.act_told_ends.proofs.Common.{front_whole}
+use Rattle.act_told_ends.proofs.Common.{◌≡◌, ℕ, ◌≤◌, true, List, [], length, Option, Some, None, inl, inr, ◌⊎◌, refl, ap, sym, ◌∙◌, subst, arith, Event, Step}
+use Rattle.act_told_ends.proofs.Common.{Answer, kept_at, has_terminated, ActorSpec, History, opening, contains, calls_of, runs_of, kept_of, is_dead, refusal_of}
+use Rattle.act_told_ends.proofs.Common.{add_event, history, after_all_keeps, At, steps_of, with_event, is_free, IsPlay, Opens, Takes, Skips, Closes, Happens}
+use Rattle.act_told_ends.proofs.Common.{world_sound, world_retires, both_ways, past_none, same_kept, kept_long, front_short, IsWorld, world, either_of}
+use Rattle.act_told_ends.proofs.Common.{world_step, or_second, Told, EndsAsTold, IsWalk, MayGoOn, IsThrough, front_whole}
 use Rattle.act_rules.specs.declared.event.Event.TheVariants as event
 use Rattle.act_told_ends.proofs.Bridge.{IsLate, late_play}
 use Rattle.act_told_ends.proofs.Later.{IsLater, later_same, later_trans, later_event, later_step}
@@ -48,16 +47,16 @@ Setting x = IsSetting x.casts x.bound x.told x.done x.plans x.late x.g
 comes_near : (x : Case) → Setting x → (q : At) → IsPlay x.casts x.plans q → IsLater q.history x.late.history → Near x q
 comes_near x s q Opens later = inl (opened_near x)
 comes_near x s q (Takes p c step play next may) later =
-    let was = later_trans p.history (after_step c step p.history) x.late.history (later_step c step p.history (world x.casts x.plans p play).sound may) later in
+    let was = later_trans (later_step c step p.history (world x.casts x.plans p play).sound may) later in
     then_near x p q (comes_near x s p play was) (λ cov. step_near x p c step (record { setting = s; play = play; later = was; covered = cov }) next may later)
 comes_near x s q (Skips p c a play next named dead) later =
     then_near x p q (comes_near x s p play later) (λ cov. skip_near x p c a (record { setting = s; play = play; later = later; covered = cov }) next dead)
 comes_near x s q (Closes p c a play none may) later =
-    let was = later_trans p.history (add_event p.history (event.Release c a)) x.late.history
-    (later_event p.history (event.Release c a) (world x.casts x.plans p play).sound may) later in
+    let was = later_trans
+    (later_event (event.Release c a) (world x.casts x.plans p play).sound may) later in
     then_near x p q (comes_near x s p play was) (λ cov. inl (idle x p (add_event p.history (event.Release c a)) cov refl refl refl refl refl))
 comes_near x s q (Happens p other play free may) later =
-    let was = later_trans p.history (add_event p.history other) x.late.history (later_event p.history other (world x.casts x.plans p play).sound may) later in
+    let was = later_trans (later_event other (world x.casts x.plans p play).sound may) later in
     then_near x p q (comes_near x s p play was) (λ cov. event_near x p other (record { setting = s; play = play; later = was; covered = cov }) free may later)
 
 -- ---- at the end
@@ -68,8 +67,7 @@ through x at = record {
   steps = λ c steps is.
       let past = past_none (x.plans c) (steps_of c x.late) (at.setting.end.done c) in
       let le = at.covered.steps c steps is in
-      let own : length (x.plans c) ≡ length steps = ap (λ (l : List Step). length l) (at.setting.end.own c steps is) in
-      omega (arith, past, le, own);
+      let own : length (x.plans c) ≡ length steps = ap (λ l. length l) (at.setting.end.own c steps is) in omega (arith, past, le, own);
 }
   where
     g : History
@@ -79,14 +77,12 @@ through x at = record {
     late = x.late.history
 
     calls : (c : ℕ) → calls_of c g ≡ x.told.calls c
-    calls c = front_whole (calls_of c g) (x.told.calls c) (at.setting.walk.calls c)
-        (subst (λ (calls : List Submission). length calls ≤ length (calls_of c g)) (at.setting.end.leaves.calls c)
-        (front_short (calls_of c late) (calls_of c g) (calls_covered x.casts x.bound x.told x.done x.plans x.late g x.late c at)))
+    calls c = front_whole (calls_of c g) (x.told.calls c) (at.setting.walk.calls c) (subst (λ calls. length calls ≤ length (calls_of c g))
+        (at.setting.end.leaves.calls c) (front_short (calls_of c late) (calls_of c g) (calls_covered g x.late c at)))
 
     runs : (a : ℕ) → runs_of a g ≡ x.told.runs a
     runs a = front_whole (runs_of a g) (x.told.runs a) (at.setting.walk.runs a)
-        (subst (λ (items : List RunItem). length items ≤ length (runs_of a g)) (at.setting.end.leaves.runs a)
-        (front_short (runs_of a late) (runs_of a g) (runs_covered x.casts x.bound x.told x.done x.plans x.late g x.late a at)))
+        (subst (λ items. length items ≤ length (runs_of a g)) (at.setting.end.leaves.runs a) (front_short (runs_of a late) (runs_of a g) (runs_covered a at)))
 
     kept : (c : ℕ) → kept_of c g ≡ x.told.kept c
     kept c = same_kept (kept_of c g) (kept_of c late) (kept_long c g late (calls c ∙ sym (at.setting.end.leaves.calls c))) same ∙ at.setting.end.leaves.kept c
@@ -95,23 +91,20 @@ through x at = record {
         same k = go (kept_at (kept_of c g) k) (kept_at (kept_of c late) k) refl refl
           where
             go : (o r : Option Answer) → kept_at (kept_of c g) k ≡ o → kept_at (kept_of c late) k ≡ r → kept_at (kept_of c g) k ≡ kept_at (kept_of c late) k
-            go o (Some answer) e f = kept_covered x.casts x.bound x.told x.done x.plans x.late g x.late c at k answer f ∙ sym f
+            go o (Some answer) e f = kept_covered x.late c at k answer f ∙ sym f
             go None None e f = e ∙ sym f
             go (Some answer) None e f =
                 let there : kept_at (kept_of c late) k ≡ Some answer =
-                ap (λ (l : List (Option Answer)). kept_at l k) (at.setting.end.leaves.kept c) ∙ at.setting.walk.kept c k answer e in
-                let bad : Some answer ≡ None = sym there ∙ f in
-                cc
+                ap (λ l. kept_at l k) (at.setting.end.leaves.kept c) ∙ at.setting.walk.kept c k answer e in
+                let bad : Some answer ≡ None = sym there ∙ f in cc
 
     dead : (a : ℕ) → is_dead a g ≡ x.told.dead a
-    dead a = both_ways (is_dead a g) (x.told.dead a)
-        (λ e. either_of (contains a g.killed) (has_terminated (runs_of a g)) (x.told.dead a ≡ true) e (at.setting.walk.dead a)
-        (λ ended. sym (at.setting.end.leaves.dead a) ∙ ended_late a ended))
-        (λ e. dead_covered x.casts x.bound x.told x.done x.plans x.late g x.late a at (at.setting.end.leaves.dead a ∙ e))
+    dead a = both_ways (is_dead a g) (x.told.dead a) (λ e. either_of (contains a g.killed) (has_terminated (runs_of a g)) (x.told.dead a ≡ true) e
+        (at.setting.walk.dead a) (λ ended. sym (at.setting.end.leaves.dead a) ∙ ended_late a ended))
+        (λ e. dead_covered g x.late a at (at.setting.end.leaves.dead a ∙ e))
       where
         ended_late : (a : ℕ) → has_terminated (runs_of a g) ≡ true → is_dead a late ≡ true
-        ended_late a ended = or_second (contains a late.killed) (has_terminated (runs_of a late))
-            (ap has_terminated (at.setting.end.leaves.runs a ∙ sym (runs a)) ∙ ended)
+        ended_late a ended = or_second (contains a late.killed) (ap has_terminated (at.setting.end.leaves.runs a ∙ sym (runs a)) ∙ ended)
 
 -- ---- all of it
 
@@ -127,9 +120,9 @@ world_of casts events = after_all_keeps (IsWorld casts) (world_step casts) (open
 })
 
 -- a walk is through or may go on
-pub stuck_in : (casts : List ActorSpec) (bound : ℕ → Option (List Step)) (told : Told) (done : ℕ → ℕ) (plans : ℕ → List Step) (late : At) (g : History)
+pub stuck_in : (casts : List ActorSpec) (bound : ℕ → Option (List Step)) (told : Told) (done : ℕ → ℕ) {plans : ℕ → List Step} {late : At} {g : History}
     → IsLate casts bound told plans late → IsWalk bound told done g → IsWorld casts g → RunsPosted g → IsThrough bound told done g ⊎ MayGoOn bound told done g
-stuck_in casts bound told done plans late g l walk w posted = go (comes_near x s x.late s.end.play (later_same x.late.history))
+stuck_in casts bound told done {plans} {late} {g} l walk w posted = go (comes_near x s x.late s.end.play (later_same x.late.history))
   where
     x : Case
     x = record { casts = casts; bound = bound; told = told; done = done; plans = plans; late = late; g = g }
@@ -141,9 +134,7 @@ stuck_in casts bound told done plans late g l walk w posted = go (comes_near x s
     go (inr goal) = inr goal
     go (inl cov) = inl (through x (record { setting = s; play = s.end.play; later = later_same x.late.history; covered = cov }))
 
-pub never_stuck : (casts : List ActorSpec) (bound : ℕ → Option (List Step)) (told : Told) (done : ℕ → ℕ) (events walk : List Event)
-    → EndsAsTold casts bound told events → IsWalk bound told done (history casts walk)
-    → IsThrough bound told done (history casts walk) ⊎ MayGoOn bound told done (history casts walk)
+pub never_stuck : (casts : List ActorSpec) (bound : ℕ → Option (List Step)) (told : Told) (done : ℕ → ℕ) (events walk : List Event) → EndsAsTold casts bound
+    told events → IsWalk bound told done (history casts walk) → IsThrough bound told done (history casts walk) ⊎ MayGoOn bound told done (history casts walk)
 never_stuck casts bound told done events walk ends is =
-    let found = late_play casts bound told events ends in
-    stuck_in casts bound told done found.0 found.1 (history casts walk) found.2 is (world_of casts walk) (all_posted casts walk)
+    let found = late_play ends in stuck_in casts bound told done found.2 is (world_of casts walk) (all_posted casts walk)

@@ -26,101 +26,96 @@ pub record IsGoing (casts : List ActorSpec) (bound : ℕ → Option (List Step))
 -- ---- answers
 
 -- what is kept is still told, where each new answer is
-pub new_kept : (casts : List ActorSpec) (bound : ℕ → Option (List Step)) (told : Told) (done : ℕ → ℕ) (h g : History) → IsGoing casts bound told done h
+pub new_kept : {casts : List ActorSpec} {bound : ℕ → Option (List Step)} (told : Told) {done : ℕ → ℕ} (h g : History) → IsGoing casts bound told done h
     → Grows h g → ((c k : ℕ) (answer : Answer) → kept_at (kept_of c h) k ≡ None → kept_at (kept_of c g) k ≡ Some answer → kept_at (told.kept c) k ≡ Some answer)
     → (c k : ℕ) (answer : Answer) → kept_at (kept_of c g) k ≡ Some answer → kept_at (told.kept c) k ≡ Some answer
-new_kept casts bound told done h g w grows new c k answer e = go (kept_at (kept_of c h) k) refl
+new_kept told h g w grows new c k answer e = go (kept_at (kept_of c h) k) refl
   where
     go : (o : Option Answer) → kept_at (kept_of c h) k ≡ o → kept_at (told.kept c) k ≡ Some answer
     go None none = new c k answer none e
-    go (Some old) is = w.walk.kept c k old is ∙ sym (kept_extends c h g grows w.world.sound.posts k old is) ∙ e
+    go (Some old) is = w.walk.kept c k old is ∙ sym (kept_extends c grows w.world.sound.posts k old is) ∙ e
 
 -- no answer is new where nothing is collected and no call made
-pub quiet_kept : (h g : History) (c k : ℕ) → Grows h g → IsSound h → g.submitted ≡ h.submitted → g.collected ≡ h.collected
+pub quiet_kept : (h : History) {g : History} (c k : ℕ) → Grows h g → IsSound h → g.submitted ≡ h.submitted → g.collected ≡ h.collected
     → kept_at (kept_of c g) k ≡ kept_at (kept_of c h) k
-quiet_kept h g c k grows sound calls collected = go (slice_get (calls_of c h) k) refl
+quiet_kept h {g} c k grows sound calls collected = go (slice_get (calls_of c h) k) refl
   where
     there : slice_get (calls_of c g) k ≡ slice_get (calls_of c h) k
-    there = ap (λ (l : List (ℕ × Submission)). slice_get (under c l) k) calls
+    there = ap (λ l. slice_get (under c l) k) calls
 
     go : (o : Option Submission) → slice_get (calls_of c h) k ≡ o → kept_at (kept_of c g) k ≡ kept_at (kept_of c h) k
     go None at = kept_at_is g c k ∙ ap (kept_by g c k) (there ∙ at) ∙ sym (kept_at_is h c k ∙ ap (kept_by h c k) at)
-    go (Some call) at = kept_first g c k call (there ∙ at) ∙ first_answer-same h g c (k, call) grows sound.posts collected ∙ sym (kept_first h c k call at)
+    go (Some call) at = kept_first g c k (there ∙ at) ∙ first_answer-same h g c (k, call) grows sound.posts collected ∙ sym (kept_first h c k at)
 
 -- a reply that is collected already was an answer
-pub old_reply : (casts : List ActorSpec) (bound : ℕ → Option (List Step)) (told : Told) (done : ℕ → ℕ) (h : History) (i c a place k : ℕ) (item : RunItem)
+pub old_reply : {casts : List ActorSpec} {bound : ℕ → Option (List Step)} {told : Told} {done : ℕ → ℕ} (h : History) (i c a place k : ℕ) (item : RunItem)
     → IsGoing casts bound told done h → slice_get h.collected i ≡ Some (ReplyPost c a place) → slice_get (runs_of a h) place ≡ Some item → item.caller ≡ c
     → item.future ≡ k → kept_at (kept_of c h) k ≡ None → ⊥
-old_reply casts bound told done h i c a place k item w has at caller future none =
-    let kept = reply_answers h c a place item i w.world.sound w.world.retires.named has at caller in
-    let bad : None ≡ Some kept.0 = sym none ∙ ap (kept_at (kept_of c h)) (sym future) ∙ kept.1 in
-    cc
+old_reply h i c a place k item w has at caller future none =
+    let kept = reply_answers h c a place i w.world.sound w.world.retires.named has at caller in
+    let bad : None ≡ Some kept.0 = sym none ∙ ap (kept_at (kept_of c h)) (sym future) ∙ kept.1 in cc
 
 -- a death that may be heard is told of a call that has no answer
-pub told_death : (told : Told) (c a k : ℕ) (h : History) (call : Submission) → MayHear told c a h → slice_get (told.calls c) k ≡ Some call → call.actor ≡ a
-    → kept_at (kept_of c h) k ≡ None → kept_at (told.kept c) k ≡ Some (Err ActorDied)
-told_death told c a k h call hear at to none = go (kept_at (told.kept c) k) refl (hear.answered k call at to)
+pub told_death : (told : Told) (c : ℕ) {a : ℕ} (k : ℕ) (h : History) (call : Submission) → MayHear told c a h → slice_get (told.calls c) k ≡ Some call →
+    call.actor ≡ a → kept_at (kept_of c h) k ≡ None → kept_at (told.kept c) k ≡ Some (Err ActorDied)
+told_death told c {a} k h call hear at to none = go (kept_at (told.kept c) k) refl (hear.answered k call at to)
   where
-    died : (answer : Answer) → kept_at (told.kept c) k ≡ Some answer → (x : Bool) → is_reply (Some answer) ≡ x → kept_at (told.kept c) k ≡ Some (Err ActorDied)
-    died answer e false never = e ∙ ap (λ (a : Answer). Some a) (reply_died answer never)
-    died answer e true indeed =
-        let some = hear.heard k call at to (ap is_reply e ∙ indeed) in
-        let bad : true ≡ false = sym some ∙ ap (λ (o : Option Answer). is_some o) none in
-        cc
+    died : {answer : Answer} → kept_at (told.kept c) k ≡ Some answer → (x : Bool) → is_reply (Some answer) ≡ x → kept_at (told.kept c) k ≡ Some (Err ActorDied)
+    died {answer} e false never = e ∙ ap (λ a. Some a) (reply_died answer never)
+    died e true indeed = let some = hear.heard k call at to (ap is_reply e ∙ indeed) in let bad : true ≡ false = sym some ∙ ap (λ o. is_some o) none in cc
 
     go : (o : Option Answer) → kept_at (told.kept c) k ≡ o → is_some o ≡ true → kept_at (told.kept c) k ≡ Some (Err ActorDied)
     go None e some = cc
-    go (Some answer) e some = died answer e (is_reply (Some answer)) refl
+    go (Some answer) e some = died e (is_reply (Some answer)) refl
 
 -- a reply that a walk keeps is the one that is told, where one is
 told_reply : (casts : List ActorSpec) (bound : ℕ → Option (List Step)) (told : Told) (plans : ℕ → List Step) (late : At) (g : History) (c k : ℕ)
-    (answer : Answer) → IsLate casts bound told plans late → IsWorld casts g → ((a : ℕ) → IsPrefix (runs_of a g) (told.runs a))
-    → is_reply (kept_at (told.kept c) k) ≡ true → kept_at (kept_of c g) k ≡ Some answer → is_reply (Some answer) ≡ true
-    → kept_at (told.kept c) k ≡ Some answer
+    (answer : Answer) → IsLate casts bound told plans late → IsWorld casts g → ((a : ℕ) → IsPrefix (runs_of a g) (told.runs a)) →
+    is_reply (kept_at (told.kept c) k) ≡ true → kept_at (kept_of c g) k ≡ Some answer → is_reply (Some answer) ≡ true → kept_at (told.kept c) k ≡ Some answer
 told_reply casts bound told plans late g c k answer l v runs reply e alive =
     let w : IsWorld casts late.history = world casts plans late l.play in
     let some : (other : Answer) × (kept_at (told.kept c) k ≡ Some other) = reply_some (kept_at (told.kept c) k) reply in
-    let kept : kept_at (kept_of c late.history) k ≡ Some some.0 = ap (λ (kept : List (Option Answer)). kept_at kept k) (l.leaves.kept c) ∙ some.1 in
+    let kept : kept_at (kept_of c late.history) k ≡ Some some.0 = ap (λ kept. kept_at kept k) (l.leaves.kept c) ∙ some.1 in
     let his : IsAnswerOfRun (λ x. opening_of x late.history) (λ x. runs_of x late.history) c k some.0 =
-    answers_are late.history c k some.0 w.sound kept (reply_alive some.0 (ap is_reply (sym some.1) ∙ reply)) in
+    answers_are c k w.sound kept (reply_alive some.0 (ap is_reply (sym some.1) ∙ reply)) in
     let same : (mine.actor ≡ his.actor) × (mine.place ≡ his.place) =
     his.only mine.actor mine.place mine.item
-    (slice_get_front (runs_of mine.actor g) (runs_of mine.actor late.history) mine.place mine.item front mine.at) mine.caller mine.future in
+    (slice_get_front (runs_of mine.actor g) (runs_of mine.actor late.history) mine.place front mine.at) mine.caller mine.future in
     let late_answer : answered (runs_of mine.actor late.history) (opening_of mine.actor late.history) ≡ Some some.0 =
-    subst (λ (a : ℕ). answered (runs_of a late.history) (opening_of a late.history) ≡ Some some.0) (sym same.0)
-    (subst (λ (n : ℕ). option_and_then (λ (state : KindState). answer_at state (runs_of his.actor late.history) n) (opening_of his.actor late.history)
+    subst (λ a. answered (runs_of a late.history) (opening_of a late.history) ≡ Some some.0) (sym same.0)
+    (subst (λ n. option_and_then (λ state. answer_at state (runs_of his.actor late.history) n) (opening_of his.actor late.history)
     ≡ Some some.0) (sym same.1) his.answered) in
     let openings : opening_of mine.actor late.history ≡ opening_of mine.actor g =
-    ap (λ (o : Option ActorSpec). option_map (λ (cast : ActorSpec). cast.opening) o) (cast_same casts mine.actor g late.history v w) in
+    ap (λ o. option_map (λ (cast : ActorSpec). cast.opening) o) (cast_same mine.actor v w) in
     let join : Some some.0 ≡ Some answer =
     sym late_answer ∙ ap (answered (runs_of mine.actor late.history)) openings ∙ go (opening_of mine.actor g) ∙ mine.answered in
     some.1 ∙ join
   where
     mine : IsAnswerOfRun (λ x. opening_of x g) (λ x. runs_of x g) c k answer
-    mine = answers_are g c k answer v.sound e (reply_alive answer alive)
+    mine = answers_are c k v.sound e (reply_alive answer alive)
 
     front : IsPrefix (runs_of mine.actor g) (runs_of mine.actor late.history)
-    front = subst (λ (items : List RunItem). IsPrefix (runs_of mine.actor g) items) (sym (l.leaves.runs mine.actor)) (runs mine.actor)
+    front = subst (λ items. IsPrefix (runs_of mine.actor g) items) (sym (l.leaves.runs mine.actor)) (runs mine.actor)
 
     answered : (items : List RunItem) → Option KindState → Option Answer
-    answered items o = option_and_then (λ (state : KindState). answer_at state items mine.place) o
+    answered items o = option_and_then (λ state. answer_at state items mine.place) o
 
     go : (o : Option KindState) → answered (runs_of mine.actor late.history) o ≡ answered (runs_of mine.actor g) o
     go None = refl
-    go (Some state) = answer_at-front state (runs_of mine.actor g) (runs_of mine.actor late.history) mine.place mine.item front mine.at
+    go (Some state) = answer_at-front state (runs_of mine.actor g) (runs_of mine.actor late.history) mine.place front mine.at
 
 -- ---- deaths that may be heard
 
 -- a death that may reach a caller may still reach it once the sound history grew
-pub hear_more : (told : Told) (c a : ℕ) (h g : History) → Grows h g → IsSound h → MayHear told c a h → MayHear told c a g
-hear_more told c a h g grows sound hear = record {
+pub hear_more : {told : Told} (c : ℕ) {a : ℕ} (h : History) {g : History} → Grows h g → IsSound h → MayHear told c a h → MayHear told c a g
+hear_more c h {g} grows sound hear = record {
   answered = hear.answered;
   heard = λ k call at to reply. stays k (kept_at (kept_of c h) k) refl (hear.heard k call at to reply);
 }
   where
     stays : (k : ℕ) (o : Option Answer) → kept_at (kept_of c h) k ≡ o → is_some o ≡ true → is_some (kept_at (kept_of c g) k) ≡ true
     stays k None e some = cc
-    stays k (Some answer) e some = ap (λ (o : Option Answer). is_some o) (kept_extends c h g grows sound.posts k answer e)
+    stays k (Some answer) e some = ap (λ o. is_some o) (kept_extends c grows sound.posts k answer e)
 
 -- ---- an event that is no caller's step
 
@@ -129,28 +124,26 @@ copies_by c a casts made gone = cond (names c (find (λ (cast : ActorSpec). cast
     (Some ((1 + count_pairs c a made) - count_pairs c a gone)) None
 
 copies_same : (c a : ℕ) (h g : History) → g.casts ≡ h.casts → g.copied ≡ h.copied → g.released ≡ h.released → copies_of c a h ≡ copies_of c a g
-copies_same c a h g casts copied released = sym (ap (λ (l : List ActorSpec). copies_by c a l g.copied g.released) casts
-    ∙ ap (λ (l : List (ℕ × ℕ)). copies_by c a h.casts l g.released) copied ∙ ap (copies_by c a h.casts h.copied) released)
+copies_same c a h g casts copied released = sym (ap (λ l. copies_by c a l g.copied g.released) casts
+    ∙ ap (λ l. copies_by c a h.casts l g.released) copied ∙ ap (copies_by c a h.casts h.copied) released)
 
-free_going : (casts : List ActorSpec) (bound : ℕ → Option (List Step)) (told : Told) (done : ℕ → ℕ) (h : History) (other : Event)
-    → IsGoing casts bound told done h → is_free other ≡ true → refusal_of h other ≡ None → (add_event h other).retired ≡ h.retired
-    → ((a : ℕ) → IsPrefix (runs_of a (add_event h other)) (told.runs a))
-    → ((c k : ℕ) (answer : Answer) → kept_at (kept_of c h) k ≡ None → kept_at (kept_of c (add_event h other)) k ≡ Some answer
-    → kept_at (told.kept c) k ≡ Some answer)
-    → ((a : ℕ) → contains a (add_event h other).killed ≡ true → (told.dead a ≡ true) × (runs_of a (add_event h other) ≡ told.runs a))
-    → ((i c a : ℕ) → slice_get (add_event h other).collected i ≡ Some (DeathPost c a) → MayHear told c a (add_event h other))
-    → IsGoing casts bound told done (add_event h other)
-free_going casts bound told done h other w free may retired runs kept killed heard =
+free_going : {casts : List ActorSpec} {bound : ℕ → Option (List Step)} {told : Told} {done : ℕ → ℕ} (h : History) (other : Event) →
+    IsGoing casts bound told done h → is_free other ≡ true → refusal_of h other ≡ None → (add_event h other).retired ≡ h.retired →
+    ((a : ℕ) → IsPrefix (runs_of a (add_event h other)) (told.runs a)) → ((c k : ℕ) (answer : Answer) → kept_at (kept_of c h) k ≡ None →
+    kept_at (kept_of c (add_event h other)) k ≡ Some answer → kept_at (told.kept c) k ≡ Some answer) →
+    ((a : ℕ) → contains a (add_event h other).killed ≡ true → (told.dead a ≡ true) × (runs_of a (add_event h other) ≡ told.runs a)) → ((i c a : ℕ) →
+    slice_get (add_event h other).collected i ≡ Some (DeathPost c a) → MayHear told c a (add_event h other)) → IsGoing casts bound told done (add_event h other)
+free_going {casts} {bound} {told} {done} h other w free may retired runs kept killed heard =
     let copies_are : (c a : ℕ) → copies_of c a h ≡ copies_of c a g = λ c a. copies_same c a h g (added_grows h other).casts idle.copied idle.released in
     record {
       walk = record {
-        calls = λ c. subst (λ (l : List (ℕ × Submission)). IsPrefix (under c l) (told.calls c)) (sym idle.submitted) (w.walk.calls c);
+        calls = λ c. subst (λ l. IsPrefix (under c l) (told.calls c)) (sym idle.submitted) (w.walk.calls c);
         runs = runs;
-        kept = new_kept casts bound told done h g w (added_grows h other) kept;
+        kept = new_kept told h g w (added_grows h other) kept;
         dead = λ a e. (killed a e).0;
         last = λ a e. (killed a e).1;
-        steps = λ c steps is. did c (done c) steps (w.walk.steps c steps is);
-        holds = λ c a none gone. ap (λ (l : List (ℕ × Submission)). under c l) idle.submitted ∙ w.walk.holds c a none (copies_are c a ∙ gone);
+        steps = λ c steps is. did c (done c) (w.walk.steps c steps is);
+        holds = λ c a none gone. ap (λ l. under c l) idle.submitted ∙ w.walk.holds c a none (copies_are c a ∙ gone);
         asks = λ c a none gone dead. ap (contains a) idle.asked ∙ w.walk.asks c a none (copies_are c a ∙ gone) dead;
         live = retired ∙ w.walk.live;
       };
@@ -165,11 +158,11 @@ free_going casts bound told done h other w free may retired runs kept killed hea
     idle : IsIdle h g
     idle = free_idle h other free
 
-    did : (c n : ℕ) (steps : List Step) → DidFirst c n steps h → DidFirst c n steps g
-    did c n steps first = record {
-      calls = ap (λ (l : List (ℕ × Submission)). under c l) idle.submitted ∙ first.calls;
-      copied = λ a. ap (λ (l : List (ℕ × ℕ)). count_pairs c a l) idle.copied ∙ first.copied a;
-      released = λ a lt. ap (λ (l : List (ℕ × ℕ)). count_pairs c a l) idle.released ∙ first.released a lt;
+    did : (c n : ℕ) {steps : List Step} → DidFirst c n steps h → DidFirst c n steps g
+    did c n first = record {
+      calls = ap (λ l. under c l) idle.submitted ∙ first.calls;
+      copied = λ a. ap (λ l. count_pairs c a l) idle.copied ∙ first.copied a;
+      released = λ a lt. ap (λ l. count_pairs c a l) idle.released ∙ first.released a lt;
       asked = λ a e. either a (first.asked a e);
     }
       where
@@ -178,31 +171,27 @@ free_going casts bound told done h other w free may retired runs kept killed hea
         either a (inr dead) = inr (dead_stays a h other may dead)
 
 -- one that runs and collects nothing, and kills none
-pub quiet_going : (casts : List ActorSpec) (bound : ℕ → Option (List Step)) (told : Told) (done : ℕ → ℕ) (h : History) (other : Event)
-    → IsGoing casts bound told done h → is_free other ≡ true → refusal_of h other ≡ None → (add_event h other).retired ≡ h.retired
-    → (add_event h other).ran ≡ h.ran → (add_event h other).collected ≡ h.collected
-    → ((a : ℕ) → contains a (add_event h other).killed ≡ true → (told.dead a ≡ true) × (runs_of a h ≡ told.runs a))
-    → IsGoing casts bound told done (add_event h other)
-quiet_going casts bound told done h other w free may retired ran collected killed =
-    free_going casts bound told done h other w free may retired
-    (λ a. subst (λ (l : List (ℕ × RunItem)). IsPrefix (under a l) (told.runs a)) (sym ran) (w.walk.runs a))
+pub quiet_going : {casts : List ActorSpec} {bound : ℕ → Option (List Step)} {told : Told} {done : ℕ → ℕ} (h : History) (other : Event) →
+    IsGoing casts bound told done h → is_free other ≡ true → refusal_of h other ≡ None → (add_event h other).retired ≡ h.retired →
+    (add_event h other).ran ≡ h.ran → (add_event h other).collected ≡ h.collected → ((a : ℕ) → contains a (add_event h other).killed ≡ true →
+    (told.dead a ≡ true) × (runs_of a h ≡ told.runs a)) → IsGoing casts bound told done (add_event h other)
+quiet_going {casts} {bound} {told} {done} h other w free may retired ran collected killed =
+    free_going h other w free may retired
+    (λ a. subst (λ l. IsPrefix (under a l) (told.runs a)) (sym ran) (w.walk.runs a))
     (λ c k answer none e. let bad : None ≡ Some answer = sym none
-    ∙ sym (quiet_kept h (add_event h other) c k (added_grows h other) w.world.sound (free_idle h other free).submitted collected) ∙ e in cc)
-    (λ a e. ((killed a e).0, ap (λ (l : List (ℕ × RunItem)). under a l) ran ∙ (killed a e).1))
-    (λ i c a at. hear_more told c a h (add_event h other) (added_grows h other) w.world.sound
-    (w.heard i c a (ap (λ (l : List Post). slice_get l i) (sym collected) ∙ at)))
+    ∙ sym (quiet_kept h c k (added_grows h other) w.world.sound (free_idle h other free).submitted collected) ∙ e in cc)
+    (λ a e. ((killed a e).0, ap (λ l. under a l) ran ∙ (killed a e).1))
+    (λ i c a at. hear_more c h (added_grows h other) w.world.sound (w.heard i c a (ap (λ l. slice_get l i) (sym collected) ∙ at)))
 
-pub still_killed : (casts : List ActorSpec) (bound : ℕ → Option (List Step)) (told : Told) (done : ℕ → ℕ) (h : History) → IsGoing casts bound told done h
+pub still_killed : {casts : List ActorSpec} {bound : ℕ → Option (List Step)} {told : Told} {done : ℕ → ℕ} {h : History} → IsGoing casts bound told done h
     → (a : ℕ) → contains a h.killed ≡ true → (told.dead a ≡ true) × (runs_of a h ≡ told.runs a)
-still_killed casts bound told done h w a e = (w.walk.dead a e, w.walk.last a e)
+still_killed w a e = (w.walk.dead a e, w.walk.last a e)
 
-pub kill_going : (casts : List ActorSpec) (bound : ℕ → Option (List Step)) (told : Told) (done : ℕ → ℕ) (h : History) (a : ℕ) → IsGoing casts bound told done h
-    → told.dead a ≡ true → runs_of a h ≡ told.runs a → refusal_of h (event.TakeKill a) ≡ None
-    → IsGoing casts bound told done (add_event h (event.TakeKill a))
-kill_going casts bound told done h a w dead last may = quiet_going casts bound told done h (event.TakeKill a) w refl may refl refl refl
+pub kill_going : (casts : List ActorSpec) (bound : ℕ → Option (List Step)) (told : Told) (done : ℕ → ℕ) (h : History) (a : ℕ) → IsGoing casts bound told done
+    h → told.dead a ≡ true → runs_of a h ≡ told.runs a → refusal_of h (event.TakeKill a) ≡ None → IsGoing casts bound told done (add_event h (event.TakeKill a))
+kill_going casts bound told done h a w dead last may = quiet_going h (event.TakeKill a) w refl may refl refl refl
     (λ b e. either_of (contains b h.killed) (a == b) ((told.dead b ≡ true) × (runs_of b h ≡ told.runs b)) (sym (contains_push b a h.killed) ∙ e)
-    (still_killed casts bound told done h w b)
-    (λ same. subst (λ (n : ℕ). (told.dead n ≡ true) × (runs_of n h ≡ told.runs n)) (eqb-true a b same) (dead, last)))
+    (still_killed w b) (λ same. subst (λ n. (told.dead n ≡ true) × (runs_of n h ≡ told.runs n)) (eqb-true a b same) (dead, last)))
 
 -- ---- a run
 
@@ -210,13 +199,12 @@ pub run_going : (casts : List ActorSpec) (bound : ℕ → Option (List Step)) (t
     → IsGoing casts bound told done h → slice_get (told.runs a) (length (runs_of a h)) ≡ Some item → next_item a c h ≡ Some item
     → refusal_of h (event.Run a c) ≡ None → IsGoing casts bound told done (add_event h (event.Run a c))
 run_going casts bound told done h a c item w next is may =
-    free_going casts bound told done h (event.Run a c) w refl may (retired (next_item a c h))
+    free_going h (event.Run a c) w refl may (retired (next_item a c h))
     runs
     (λ d k answer none e. let bad : None ≡ Some answer = sym none
-    ∙ sym (quiet_kept h g d k (added_grows h (event.Run a c)) w.world.sound (free_idle h (event.Run a c) refl).submitted (collected (next_item a c h))) ∙ e in cc)
+    ∙ sym (quiet_kept h d k (added_grows h (event.Run a c)) w.world.sound (free_idle h (event.Run a c) refl).submitted (collected (next_item a c h))) ∙ e in cc)
     (λ b e. (w.walk.dead b (ap (contains b) (sym (killed (next_item a c h))) ∙ e), last b (ap (contains b) (sym (killed (next_item a c h))) ∙ e)))
-    (λ i d b at. hear_more told d b h g (added_grows h (event.Run a c)) w.world.sound
-    (w.heard i d b (ap (λ (l : List Post). slice_get l i) (sym (collected (next_item a c h))) ∙ at)))
+    (λ i d b at. hear_more d h (added_grows h (event.Run a c)) w.world.sound (w.heard i d b (ap (λ l. slice_get l i) (sym (collected (next_item a c h))) ∙ at)))
   where
     g : History
     g = add_event h (event.Run a c)
@@ -234,15 +222,15 @@ run_going casts bound told done h a c item w next is may =
     killed (Some item) = refl
 
     after : (b : ℕ) → runs_of b g ≡ runs_of b h ++ cond (a == b) (item ∷ []) []
-    after b = ap (λ (o : Option RunItem). runs_of b (after_run a c h o)) is ∙ under-push b a h.ran item
+    after b = ap (λ o. runs_of b (after_run a c h o)) is ∙ under-push b a h.ran item
 
     runs : (b : ℕ) → IsPrefix (runs_of b g) (told.runs b)
-    runs b = subst (λ (items : List RunItem). IsPrefix items (told.runs b)) (sym (after b)) (go (a == b) refl)
+    runs b = subst (λ items. IsPrefix items (told.runs b)) (sym (after b)) (go (a == b) refl)
       where
         go : (y : Bool) → (a == b) ≡ y → IsPrefix (runs_of b h ++ cond y (item ∷ []) []) (told.runs b)
-        go false e = subst (λ (items : List RunItem). IsPrefix items (told.runs b)) (sym (append-nil (runs_of b h))) (w.walk.runs b)
-        go true e = subst (λ (n : ℕ). IsPrefix (runs_of n h ++ item ∷ []) (told.runs n)) (eqb-true a b e)
-            (front_next (runs_of a h) (told.runs a) item (w.walk.runs a) next)
+        go false e = subst (λ items. IsPrefix items (told.runs b)) (sym (append-nil (runs_of b h))) (w.walk.runs b)
+        go true e = subst (λ n. IsPrefix (runs_of n h ++ item ∷ []) (told.runs n)) (eqb-true a b e)
+            (front_next (runs_of a h) (told.runs a) (w.walk.runs a) next)
 
     last : (b : ℕ) → contains b h.killed ≡ true → runs_of b g ≡ told.runs b
     last b e = after b ∙ go (a == b) refl
@@ -252,51 +240,44 @@ run_going casts bound told done h a c item w next is may =
         go true same =
             let whole = w.walk.last b e in
             let there : slice_get (told.runs b) (length (runs_of b h)) ≡ Some item =
-            subst (λ (n : ℕ). slice_get (told.runs n) (length (runs_of n h)) ≡ Some item) (eqb-true a b same) next in
+            subst (λ n. slice_get (told.runs n) (length (runs_of n h)) ≡ Some item) (eqb-true a b same) next in
             let within : length (runs_of b h) < length (runs_of b h) = slice_get_within (runs_of b h) (length (runs_of b h)) item
-            (ap (λ (items : List RunItem). slice_get items (length (runs_of b h))) whole ∙ there) in
+            (ap (λ items. slice_get items (length (runs_of b h))) whole ∙ there) in
             absurd (omega (arith, within))
 
 -- ---- a post
 
-collect_going : (casts : List ActorSpec) (bound : ℕ → Option (List Step)) (told : Told) (done : ℕ → ℕ) (h : History) (j : ℕ) (post : Post)
-    → IsGoing casts bound told done h → slice_get h.posts j ≡ Some post
-    → ((c k : ℕ) (answer : Answer) → kept_at (kept_of c h) k ≡ None → kept_at (kept_of c (add_event h (event.Collect j))) k ≡ Some answer
-    → kept_at (told.kept c) k ≡ Some answer)
-    → ((c a : ℕ) → DeathPost c a ≡ post → MayHear told c a h)
-    → IsGoing casts bound told done (add_event h (event.Collect j))
-collect_going casts bound told done h j post w at kept hears =
+collect_going : (casts : List ActorSpec) (bound : ℕ → Option (List Step)) (told : Told) (done : ℕ → ℕ) (h : History) (j : ℕ) {post : Post} →
+    IsGoing casts bound told done h → slice_get h.posts j ≡ Some post → ((c k : ℕ) (answer : Answer) → kept_at (kept_of c h) k ≡ None →
+    kept_at (kept_of c (add_event h (event.Collect j))) k ≡ Some answer → kept_at (told.kept c) k ≡ Some answer) →
+    ((c a : ℕ) → DeathPost c a ≡ post → MayHear told c a h) → IsGoing casts bound told done (add_event h (event.Collect j))
+collect_going casts bound told done h j {post} w at kept hears =
     let may : refusal_of h (event.Collect j) ≡ None =
-    let some : is_some (slice_get h.posts j) ≡ true = ap (λ (o : Option Post). is_some o) at in rw some refl in
-    free_going casts bound told done h (event.Collect j) w refl may refl w.walk.runs kept (still_killed casts bound told done h w)
-    (λ i c a there. hear_more told c a h (add_event h (event.Collect j)) (added_grows h (event.Collect j)) w.world.sound
-    (either i c a (push_at h.collected post (DeathPost c a) i (ap (λ (o : Option Post). slice_get (and_also h.collected o) i) (sym at) ∙ there))))
+    let some : is_some (slice_get h.posts j) ≡ true = ap (λ o. is_some o) at in rw some refl in
+    free_going h (event.Collect j) w refl may refl w.walk.runs kept (still_killed w)
+    (λ i c a there. hear_more c h (added_grows h (event.Collect j)) w.world.sound
+    (either i c a (push_at h.collected post i (ap (λ o. slice_get (and_also h.collected o) i) (sym at) ∙ there))))
   where
     either : (i c a : ℕ) → (slice_get h.collected i ≡ Some (DeathPost c a)) ⊎ ((i ≡ length h.collected) × (DeathPost c a ≡ post)) → MayHear told c a h
     either i c a (inl old) = w.heard i c a old
     either i c a (inr new) = hears c a new.1
 
 -- how an answer came that is new once a post is collected
-new_by : (casts : List ActorSpec) (bound : ℕ → Option (List Step)) (told : Told) (done : ℕ → ℕ) (h : History) (j : ℕ) (post : Post) (P : Type 0)
-    → IsGoing casts bound told done h → slice_get h.posts j ≡ Some post → (c k : ℕ) (answer : Answer) → kept_at (kept_of c h) k ≡ None
-    → ((a place : ℕ) (item : RunItem) → ReplyPost c a place ≡ post → slice_get (runs_of a h) place ≡ Some item → item.future ≡ k
-    → is_reply (Some answer) ≡ true → P)
-    → ((call : Submission) → DeathPost c call.actor ≡ post → slice_get (calls_of c h) k ≡ Some call → answer ≡ Err ActorDied → P)
-    → CameBy (add_event h (event.Collect j)) c k answer → P
-new_by casts bound told done h j post P w at c k answer none replied died (Replied i a place item has there caller future reply) =
-    either (push_at h.collected post (ReplyPost c a place) i (ap (λ (o : Option Post). slice_get (and_also h.collected o) i) (sym at) ∙ has))
+new_by : {casts : List ActorSpec} {bound : ℕ → Option (List Step)} {told : Told} {done : ℕ → ℕ} (h : History) (j : ℕ) {post : Post} (P : Type 0) → IsGoing casts
+    bound told done h → slice_get h.posts j ≡ Some post → (c k : ℕ) {answer : Answer} → kept_at (kept_of c h) k ≡ None → ((a place : ℕ) (item : RunItem) →
+    ReplyPost c a place ≡ post → slice_get (runs_of a h) place ≡ Some item → item.future ≡ k → is_reply (Some answer) ≡ true → P) → ((call : Submission) →
+    DeathPost c call.actor ≡ post → slice_get (calls_of c h) k ≡ Some call → answer ≡ Err ActorDied → P) → CameBy (add_event h (event.Collect j)) c k answer → P
+new_by {casts} {bound} {told} {done} h j {post} P w at c k none replied died (Replied i a place item has there caller future reply) =
+    either (push_at h.collected post i (ap (λ o. slice_get (and_also h.collected o) i) (sym at) ∙ has))
   where
     either : (slice_get h.collected i ≡ Some (ReplyPost c a place)) ⊎ ((i ≡ length h.collected) × (ReplyPost c a place ≡ post)) → P
-    either (inl old) = absurd (old_reply casts bound told done h i c a place k item w old there caller future none)
+    either (inl old) = absurd (old_reply h i c a place k item w old there caller future none)
     either (inr new) = replied a place item new.1 there future reply
-new_by casts bound told done h j post P w at c k answer none replied died (Died i call has there is) =
-    either (push_at h.collected post (DeathPost c call.actor) i (ap (λ (o : Option Post). slice_get (and_also h.collected o) i) (sym at) ∙ has))
+new_by h j {post} P w at c k none replied died (Died i call has there is) =
+    either (push_at h.collected post i (ap (λ o. slice_get (and_also h.collected o) i) (sym at) ∙ has))
   where
     either : (slice_get h.collected i ≡ Some (DeathPost c call.actor)) ⊎ ((i ≡ length h.collected) × (DeathPost c call.actor ≡ post)) → P
-    either (inl old) =
-        let answers = death_answers h c k call there (stands_in h.collected i (DeathPost c call.actor) old) in
-        let bad : None ≡ Some answers.0 = sym none ∙ answers.1 in
-        cc
+    either (inl old) = let answers = death_answers h c k there (stands_in h.collected i old) in let bad : None ≡ Some answers.0 = sym none ∙ answers.1 in cc
     either (inr new) = died call new.1 there is
 
 pub reply_going : (casts : List ActorSpec) (bound : ℕ → Option (List Step)) (told : Told) (plans : ℕ → List Step) (late : At) (done : ℕ → ℕ) (h : History)
@@ -306,46 +287,39 @@ pub reply_going : (casts : List ActorSpec) (bound : ℕ → Option (List Step)) 
 reply_going casts bound told plans late done h j c a place item l w at there reply =
     let g = add_event h (event.Collect j) in
     let may : refusal_of h (event.Collect j) ≡ None =
-    let some : is_some (slice_get h.posts j) ≡ true = ap (λ (o : Option Post). is_some o) at in rw some refl in
+    let some : is_some (slice_get h.posts j) ≡ true = ap (λ o. is_some o) at in rw some refl in
     let v : IsWorld casts g = world_step casts h (event.Collect j) w.world may in
     let told_here : (d b q k : ℕ) (other : RunItem) → ReplyPost d b q ≡ ReplyPost c a place → slice_get (runs_of b h) q ≡ Some other → other.future ≡ k
     → is_reply (kept_at (told.kept d) k) ≡ true =
     λ d b q k other is stands future. let caller : d ≡ c = cc in
-    let actor : b ≡ a = cc in
-    let here : q ≡ place = cc in
+    let actor : b ≡ a = cc in let here : q ≡ place = cc in
     let first : slice_get (runs_of a h) place ≡ Some other =
-    subst (λ (n : ℕ). slice_get (runs_of n h) place ≡ Some other) actor (subst (λ (n : ℕ). slice_get (runs_of b h) n ≡ Some other) here stands) in
-    let both : Some item ≡ Some other = sym there ∙ first in
-    let one : item ≡ other = cc in
-    subst (λ (n : ℕ). is_reply (kept_at (told.kept n) k) ≡ true) (sym caller)
-    (subst (λ (n : ℕ). is_reply (kept_at (told.kept c) n) ≡ true) (ap (λ (i : RunItem). i.future) one ∙ future) reply) in
-    collect_going casts bound told done h j (ReplyPost c a place) w at
-    (λ d k answer none e. new_by casts bound told done h j (ReplyPost c a place) (kept_at (told.kept d) k ≡ Some answer) w at d k answer none
-    (λ b q other is stands future alive. told_reply casts bound told plans late g d k answer l v w.walk.runs
-    (told_here d b q k other is stands future) e alive)
-    (λ call is _ _. let bad : DeathPost d call.actor ≡ ReplyPost c a place = is in cc)
-    (came_by g d k answer v.sound e))
+    subst (λ n. slice_get (runs_of n h) place ≡ Some other) actor (subst (λ n. slice_get (runs_of b h) n ≡ Some other) here stands) in
+    let both : Some item ≡ Some other = sym there ∙ first in let one : item ≡ other = cc in
+    subst (λ n. is_reply (kept_at (told.kept n) k) ≡ true) (sym caller)
+    (subst (λ n. is_reply (kept_at (told.kept c) n) ≡ true) (ap (λ (i : RunItem). i.future) one ∙ future) reply) in
+    collect_going casts bound told done h j w at
+    (λ d k answer none e. new_by h j (kept_at (told.kept d) k ≡ Some answer) w at d k none (λ b q other is stands future alive. told_reply casts bound told
+    plans late g d k answer l v w.walk.runs (told_here d b q k other is stands future) e alive)
+    (λ call is _ _. let bad : DeathPost d call.actor ≡ ReplyPost c a place = is in cc) (came_by d k v.sound e))
     (λ d b is. let bad : DeathPost d b ≡ ReplyPost c a place = is in cc)
 
-pub death_going : (casts : List ActorSpec) (bound : ℕ → Option (List Step)) (told : Told) (done : ℕ → ℕ) (h : History) (j c a : ℕ)
-    → IsGoing casts bound told done h → slice_get h.posts j ≡ Some (DeathPost c a) → MayHear told c a h
-    → IsGoing casts bound told done (add_event h (event.Collect j))
+pub death_going : (casts : List ActorSpec) (bound : ℕ → Option (List Step)) (told : Told) (done : ℕ → ℕ) (h : History) (j c a : ℕ) → IsGoing casts bound told
+    done h → slice_get h.posts j ≡ Some (DeathPost c a) → MayHear told c a h → IsGoing casts bound told done (add_event h (event.Collect j))
 death_going casts bound told done h j c a w at hear =
     let g = add_event h (event.Collect j) in
     let may : refusal_of h (event.Collect j) ≡ None =
-    let some : is_some (slice_get h.posts j) ≡ true = ap (λ (o : Option Post). is_some o) at in rw some refl in
+    let some : is_some (slice_get h.posts j) ≡ true = ap (λ o. is_some o) at in rw some refl in
     let v : IsWorld casts g = world_step casts h (event.Collect j) w.world may in
     let hears : (d b : ℕ) → DeathPost d b ≡ DeathPost c a → MayHear told d b h =
     λ d b is. let caller : d ≡ c = cc in
     let actor : b ≡ a = cc in
-    subst (λ (n : ℕ). MayHear told n b h) (sym caller) (subst (λ (n : ℕ). MayHear told c n h) (sym actor) hear) in
+    subst (λ n. MayHear told n b h) (sym caller) (subst (λ n. MayHear told c n h) (sym actor) hear) in
     let told_here : (d : ℕ) (call : Submission) → DeathPost d call.actor ≡ DeathPost c a → (k : ℕ) → slice_get (calls_of d h) k ≡ Some call
     → kept_at (kept_of d h) k ≡ None → kept_at (told.kept d) k ≡ Some (Err ActorDied) =
-    λ d call is k stands none. told_death told d call.actor k h call (hears d call.actor is)
-    (slice_get_front (calls_of d h) (told.calls d) k call (w.walk.calls d) stands) refl none in
-    collect_going casts bound told done h j (DeathPost c a) w at
-    (λ d k answer none e. new_by casts bound told done h j (DeathPost c a) (kept_at (told.kept d) k ≡ Some answer) w at d k answer none
-    (λ b q other is _ _ _. let bad : ReplyPost d b q ≡ DeathPost c a = is in cc)
-    (λ call is stands died. told_here d call is k stands none ∙ ap (λ (x : Answer). Some x) (sym died))
-    (came_by g d k answer v.sound e))
+    λ d call is k stands none. told_death told d k h call (hears d call.actor is)
+    (slice_get_front (calls_of d h) (told.calls d) k (w.walk.calls d) stands) refl none in
+    collect_going casts bound told done h j w at
+    (λ d k answer none e. new_by h j (kept_at (told.kept d) k ≡ Some answer) w at d k none (λ b q other is _ _ _. let bad : ReplyPost d b q ≡ DeathPost c a =
+    is in cc) (λ call is stands died. told_here d call is k stands none ∙ ap (λ x. Some x) (sym died)) (came_by d k v.sound e))
     (λ d b is. hears d b is)

@@ -1,8 +1,8 @@
 -- Actors retire once a walk is through, until all did that are told retired.
 use Rattle.act_walks.proofs.Common.{◌≡◌, ℕ, true, false, List, Option, Some, None, inl, inr, ◌⊎◌, refl, sym, ◌∙◌, subst, All, IsOk, ◌==◌, eqb-true, Event, Step}
 use Rattle.act_walks.proofs.Common.{WorldRefusal, ActorSpec, History, opening, history, contains, is_retired, refusal_of, add_event, after, after_by, outcomes}
-use Rattle.act_walks.proofs.Common.{Did, did, contains_push, either_of, Told, Leaves, MayRetire, LetsGo, Notes, IsToRetire, RetiredAsTold, last_note}
-use Rattle.act_walks.proofs.Common.{after_mail, after_post, brought_kept, brought_release, SomeEnd, IsAtRest}
+use Rattle.act_walks.proofs.Common.{Did, did, contains_push, either_of, Told, Leaves, MayRetire, LetsGo, Notes, IsToRetire, RetiredAsTold, after_mail}
+use Rattle.act_walks.proofs.Common.{after_post, brought_kept, brought_release, SomeEnd, IsAtRest}
 use Rattle.act_rules.specs.declared.event.Event.TheVariants as event
 use Rattle.act_rules.specs.declared.outcome.Did.TheVariants as did_so
 use Rattle.act_told_ends.specs.Retiring.{Retires}
@@ -43,22 +43,21 @@ retired told h rest a is may = record {
   leaves = record { calls = rest.leaves.calls; kept = rest.leaves.kept; runs = rest.leaves.runs; dead = rest.leaves.dead };
   brought = brought_kept h (event.Retire a) may refl rest.brought;
   only = λ b gone. either_of (contains b h.retired) (a == b) (told.retired b ≡ true) (sym (contains_push b a h.retired) ∙ gone) (rest.only b)
-      (λ same. subst (λ (n : ℕ). told.retired n ≡ true) (eqb-true a b same) is);
+      (λ same. subst (λ n. told.retired n ≡ true) (eqb-true a b same) is);
 }
 
-pub settled : (casts : List ActorSpec) (bound : ℕ → Option (List Step)) (told : Told) → SomeEnd casts bound told → (walk : List Event)
-    → All IsOk (outcomes (opening casts) walk) → IsAtRest told (history casts walk)
-    → ((c a : ℕ) → IsToRetire told a (history casts walk) → refusal_of (history casts walk) (event.Release c a) ≡ None → ⊥)
-    → ((a : ℕ) → IsToRetire told a (history casts walk) → refusal_of (history casts walk) (event.Retire a) ≡ None → ⊥)
-    → RetiredAsTold told (history casts walk)
-settled casts bound told s walk accepted rest goes retires = go (retire_on casts bound told s.0 walk s.1 accepted rest.leaves rest.only)
+pub settled : (casts : List ActorSpec) (bound : ℕ → Option (List Step)) (told : Told) → SomeEnd casts bound told → (walk : List Event) →
+    All IsOk (outcomes (opening casts) walk) → IsAtRest told (history casts walk) →
+    ((c a : ℕ) → IsToRetire told a (history casts walk) → refusal_of (history casts walk) (event.Release c a) ≡ None → ⊥) →
+    ((a : ℕ) → IsToRetire told a (history casts walk) → refusal_of (history casts walk) (event.Retire a) ≡ None → ⊥) → RetiredAsTold told (history casts walk)
+settled casts bound told s walk accepted rest goes retires = go (retire_on walk s.1 accepted rest.leaves rest.only)
   where
     h : History
     h = history casts walk
 
     none : MayRetire told h → ⊥
     none (LetsGo c a is may) = goes c a is may
-    none (Notes c a i is yet at may) = let bad : true ≡ false = sym (has_arrived h i (last_note c a h) rest.brought at may) ∙ yet in cc
+    none (Notes c a i is yet at may) = let bad : true ≡ false = sym (has_arrived h i rest.brought at may) ∙ yet in cc
     none (Retires a is may) = retires a is may
 
     go : RetiredAsTold told h ⊎ MayRetire told h → RetiredAsTold told h

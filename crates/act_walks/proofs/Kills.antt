@@ -1,7 +1,7 @@
 -- The kills that were asked stay asked.
 use Rattle.act_walks.proofs.Common.{◌≡◌, ℕ, true, List, Option, Some, None, refl, ap, ◌∙◌, ◌||◌, contains, Event, RunItem, Step, Submit, Copy, Release, Kill}
 use Rattle.act_walks.proofs.Common.{Await, WorldRefusal, ActorSpec, History, names, refusal_of, next_item, add_event, after, after_by, after_run, sym, ◌==◌}
-use Rattle.act_walks.proofs.Common.{find, Bool, Did, did, contains_push, Told, after_mail, after_post, after_move, KillsAreAsked}
+use Rattle.act_walks.proofs.Common.{find, Did, did, contains_push, Told, after_mail, after_post, after_move, KillsAreAsked}
 use Rattle.act_rules.specs.declared.event.Event.TheVariants as event
 use Rattle.act_rules.specs.declared.outcome.Did.TheVariants as did_so
 
@@ -12,7 +12,7 @@ record IsNoLess (h g : History) : Type 0 where
 
 kept : (bound : ℕ → Option (List Step)) (told : Told) (h g : History) → IsNoLess h g → KillsAreAsked bound told h → KillsAreAsked bound told g
 kept bound told h g more asked c a free dead named = more.asked a (asked c a free dead
-    (ap (λ (l : List ActorSpec). names c (find (λ (cast : ActorSpec). cast.actor == a) l)) (sym more.casts) ∙ named))
+    (ap (λ l. names c (find (λ (cast : ActorSpec). cast.actor == a) l)) (sym more.casts) ∙ named))
 
 no_less : (h : History) (other : Event) → IsNoLess h (add_event h other)
 no_less h (event.Run a c) = go (next_item a c h)
@@ -20,7 +20,7 @@ no_less h (event.Run a c) = go (next_item a c h)
     go : (o : Option RunItem) → IsNoLess h (after_run a c h o)
     go None = record { casts = refl; asked = λ b has. has }
     go (Some item) = record { casts = refl; asked = λ b has. has }
-no_less h (event.AskKill c a) = record { casts = refl; asked = λ b has. contains_push b a h.asked ∙ ap (λ (y : Bool). y || (a == b)) has }
+no_less h (event.AskKill c a) = record { casts = refl; asked = λ b has. contains_push b a h.asked ∙ ap (λ y. y || (a == b)) has }
 no_less h other = record { casts = refl; asked = λ b has. has }
 
 -- where the kills of those told dead are asked, they still are after any event

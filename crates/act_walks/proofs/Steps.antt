@@ -26,8 +26,7 @@ tries_step c step one old new true may needs after is does = record {
   events = does.events ∙ sym (append-nil (old.events ++ one ∷ []));
   done = does.done;
   behind = λ casts h behind.
-      let so = does.behind casts h behind in
-      (may h so.0, subst (λ (g : History). IsBehind casts g new.world new.events) (after h) so.1);
+      let so = does.behind casts h behind in (may h so.0, subst (λ g. IsBehind casts g new.world new.events) (after h) so.1);
   does = λ casts behind. is casts old.events;
 }
 tries_step c step one old new false may needs after is not =
@@ -44,9 +43,8 @@ tries_release c a old new true does = record {
 }
 tries_release c a old new false not = record { same = not.same; needs = not.refused }
 
-pub tries_await : (c k : ℕ) (walk : Parts) (b : Bool)
-    → ((casts : List ActorSpec) (h : History) (before : List Event) → IsBehind casts h walk.world before → b ≡ is_some (kept_at (kept_of c h) k))
-    → TriesStep c (Await k) walk walk b
+pub tries_await : (c k : ℕ) (walk : Parts) (b : Bool) → ((casts : List ActorSpec) (h : History) (before : List Event) → IsBehind casts h walk.world before →
+    b ≡ is_some (kept_at (kept_of c h) k)) → TriesStep c (Await k) walk walk b
 tries_await c k walk true has = record {
   own = [];
   letter = None;
@@ -62,10 +60,9 @@ tries_await c k walk false has = record {
 
 -- ---- a caller's next step
 
-pub steps_are : (end : ToldEnd) (c : ℕ) (caller : ToldCaller) (steps : Vec Step) → caller_in end c ≡ Some caller → caller.steps ≡ Some steps
+pub steps_are : (end : ToldEnd) (c : ℕ) {caller : ToldCaller} {steps : Vec Step} → caller_in end c ≡ Some caller → caller.steps ≡ Some steps
     → bound_of end c ≡ Some steps.items
-steps_are end c caller steps there is =
-    bound_is end c caller there ∙ ap (λ (o : Option (Vec Step)). steps_in (record caller { steps = o })) is
+steps_are end c {caller} {steps} there is = bound_is end c there ∙ ap (λ o. steps_in (record caller { steps = o })) is
 
 pub no_steps : (end : ToldEnd) (c : ℕ) (walk : Parts) → bound_of end c ≡ None → Moves end (NoStep end c) walk walk false
 no_steps end c walk free = moves_none end (NoStep end c) walk (λ casts told e s w steps step bound at may. let bad : Some steps ≡ None = sym bound ∙ free in cc)
@@ -74,44 +71,36 @@ count_is : (done : List ℕ) (c n : ℕ) → slice_get done c ≡ Some n → don
 count_is done c n at = rw at refl
 
 -- what is told of its next step
-one_step : (end : ToldEnd) (c n : ℕ) (steps : List Step) (done : List ℕ) (o : Option Step) → bound_of end c ≡ Some steps → slice_get done c ≡ Some n
-    → slice_get steps n ≡ o
-    → (other : List Step) → bound_of end c ≡ Some other → slice_get other (done_in done c) ≡ o
-one_step end c n steps done o bound count at other is =
-    let both : Some steps ≡ Some other = sym bound ∙ is in
-    let same : steps ≡ other = cc in
-    ap (slice_get other) (count_is done c n count) ∙ ap (λ (l : List Step). slice_get l n) (sym same) ∙ at
+one_step : (end : ToldEnd) (c n : ℕ) {steps : List Step} (done : List ℕ) {o : Option Step} → bound_of end c ≡ Some steps → slice_get done c ≡ Some n →
+    slice_get steps n ≡ o → {other : List Step} → bound_of end c ≡ Some other → slice_get other (done_in done c) ≡ o
+one_step end c n {steps} done bound count at {other} is =
+    let both : Some steps ≡ Some other = sym bound ∙ is in let same : steps ≡ other = cc in
+    ap (slice_get other) (count_is done c n count) ∙ ap (λ l. slice_get l n) (sym same) ∙ at
 
-pub last_step : (end : ToldEnd) (c n : ℕ) (steps : List Step) (walk : Parts) → bound_of end c ≡ Some steps → slice_get walk.done c ≡ Some n
-    → slice_get steps n ≡ None
-    → Moves end (NoStep end c) walk walk false
-last_step end c n steps walk bound count none = moves_none end (NoStep end c) walk (λ casts told e s w other step is at may.
-    let bad : Some step ≡ None = sym at ∙ one_step end c n steps walk.done None bound count none other is in
-    cc)
+pub last_step : (end : ToldEnd) (c n : ℕ) {steps : List Step} (walk : Parts) → bound_of end c ≡ Some steps → slice_get walk.done c ≡ Some n →
+    slice_get steps n ≡ None → Moves end (NoStep end c) walk walk false
+last_step end c n {steps} walk bound count none = moves_none end (NoStep end c) walk
+    (λ casts told e s w other step is at may. let bad : Some step ≡ None = sym at ∙ one_step end c n walk.done bound count none is in cc)
 
-pub step_waits : (end : ToldEnd) (c n : ℕ) (steps : List Step) (step : Step) (old new : Parts) → bound_of end c ≡ Some steps → slice_get old.done c ≡ Some n
-    → slice_get steps n ≡ Some step
-    → NeedsMore c step old new → Moves end (NoStep end c) old new false
-step_waits end c n steps step old new bound count at waits = moves_refused end (NoStep end c) old new waits.same (λ casts told e s w other next is there may.
-    let both : Some next ≡ Some step = sym there ∙ one_step end c n steps old.done (Some step) bound count at other is in
-    let same : next ≡ step = cc in
-    waits.needs casts (history casts old.events) s.behind (subst (λ (one : Step). MayTake c one (history casts old.events)) same may))
+pub step_waits : (end : ToldEnd) (c n : ℕ) {steps : List Step} {step : Step} (old new : Parts) → bound_of end c ≡ Some steps → slice_get old.done c ≡ Some n →
+    slice_get steps n ≡ Some step → NeedsMore c step old new → Moves end (NoStep end c) old new false
+step_waits end c n {steps} {step} old new bound count at waits = moves_refused end (NoStep end c) waits.same
+    (λ casts told e s w other next is there may. let both : Some next ≡ Some step = sym there ∙ one_step end c n old.done bound count at is in
+    let same : next ≡ step = cc in waits.needs casts (history casts old.events) s.behind (subst (λ one. MayTake c one (history casts old.events)) same may))
 
-pub step_taken : (end : ToldEnd) (c slot n : ℕ) (steps : List Step) (step : Step) (old new : Parts) → slot ≡ c → bound_of end c ≡ Some steps
+pub step_taken : (end : ToldEnd) (c : ℕ) {slot : ℕ} (n : ℕ) {steps : List Step} {step : Step} (old new : Parts) → slot ≡ c → bound_of end c ≡ Some steps
     → slice_get old.done c ≡ Some n
     → slice_get steps n ≡ Some step → DoesStep c step old new → Moves end (NoStep end c) old (record new { done = slice_set new.done slot (n + 1) }) true
-step_taken end c slot n steps step old new is bound count at does = moves_yes end (NoStep end c) old next (record {
+step_taken end c {slot} n {steps} {step} old new is bound count at does = moves_yes end (NoStep end c) old next (record {
   stands = λ casts s. record {
-    behind = behind_here casts (after_move c step (history casts old.events)) new.world new.events (does.behind casts (history casts old.events) s.behind).1;
-    paced = subst (λ (l : List Event). IsPaced casts (bound_of end) (done_in next.done) l) (sym does.events)
-        (subst (λ (d : ℕ → ℕ). IsPaced casts (bound_of end) d ((old.events ++ does.own) ++ bring does.letter)) more
-        (paced_letter casts (bound_of end) (one_step_more c (done_in old.done)) (old.events ++ does.own) does.letter
-        (Steps (done_in old.done) old.events does.own c steps step bound there (does.does casts s.behind) s.paced)));
+    behind = behind_here (does.behind casts (history casts old.events) s.behind).1;
+    paced = subst (λ l. IsPaced casts (bound_of end) (done_in next.done) l) (sym does.events)
+        (subst (λ d. IsPaced casts (bound_of end) d ((old.events ++ does.own) ++ bring does.letter)) more
+        (paced_letter does.letter (Steps (done_in old.done) old.events does.own c steps step bound there (does.does casts s.behind) s.paced)));
   };
   walks = λ casts told e s w.
-      let h = history casts old.events in
-      let so = does.behind casts h s.behind in
-      walking_to end casts told (one_step_more c (done_in old.done)) next (after_move c step h) more so.1.is
+      let h = history casts old.events in let so = does.behind casts h s.behind in
+      walking_to end next more so.1.is
       (stepped casts (bound_of end) told e.some (done_in old.done) h w.eager c steps step bound there so.0) (kills_move (bound_of end) told h c step w.asked);
 })
   where
@@ -119,7 +108,7 @@ step_taken end c slot n steps step old new is bound count at does = moves_yes en
     next = record new { done = slice_set new.done slot (n + 1) }
 
     there : slice_get steps (done_in old.done c) ≡ Some step
-    there = one_step end c n steps old.done (Some step) bound count at steps bound
+    there = one_step end c n old.done bound count at bound
 
     more : one_step_more c (done_in old.done) ≡ done_in next.done
-    more = done_more c slot n old.done is count ∙ ap (λ (l : List ℕ). done_in (slice_set l slot (n + 1))) (sym does.done)
+    more = done_more c slot n old.done is count ∙ ap (λ l. done_in (slice_set l slot (n + 1))) (sym does.done)

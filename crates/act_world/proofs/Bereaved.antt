@@ -23,43 +23,47 @@ one_death h c a j x (Some answer) = go (x.actor == a)
     go : (b : Bool) → cond (b && false) (Some (Err ActorDied)) (Some answer) ≡ Some answer
     go true = refl
     go false = refl
-one_death h c a j x None =
-    let mine : (c == c) ≡ true = eq-eqb c c refl in
-    rw (mine, eq_turned a x.actor) (go (x.actor == a))
+one_death h c a j x None = let mine : (c == c) ≡ true = eq-eqb c c refl in rw (mine, eq_turned a x.actor) (go (x.actor == a))
   where
     go : (b : Bool) → cond (b && true) (Some (Err ActorDied)) None ≡ or_else None (cond b (Some (Err ActorDied)) None)
     go true = refl
     go false = refl
 
-death_table : (h : History) (c a : ℕ) (owner : OwnerView) → IsOwnerOf h c owner → map (answer_after_death a) (zip owner.calls owner.kept) ≡ kept_of c (heard h (DeathPost c a))
-death_table h c a owner is = rw (is.calls, is.kept) (table ∙ sym (kept_of-collected h c (DeathPost c a)))
+death_table : (h : History) (c a : ℕ) {owner : OwnerView} → IsOwnerOf h c owner →
+    map (answer_after_death a) (zip owner.calls owner.kept) ≡ kept_of c (heard h (DeathPost c a))
+death_table h c a is = rw (is.calls, is.kept) (table ∙ sym (kept_of-collected h c (DeathPost c a)))
   where
     after : ℕ × Submission → Option Answer
     after call = or_else (first_answer h c call) (answer_in h c call.0 call.1.actor (DeathPost c a))
 
-    table : map (answer_after_death a) (zip (calls_of c h) (kept_of c h)) ≡ map (λ (call : ℕ × Submission). or_else (first_answer h c call) (answer_in h c call.0 call.1.actor (DeathPost c a))) (enumerate_from 0 (calls_of c h))
-    table = table_is (map (answer_after_death a) (zip (calls_of c h) (kept_of c h))) (calls_of c h) (λ (call : ℕ × Submission). or_else (first_answer h c call) (answer_in h c call.0 call.1.actor (DeathPost c a)))
+    table : map (answer_after_death a) (zip (calls_of c h) (kept_of c h)) ≡ map
+        (λ (call : ℕ × Submission). or_else (first_answer h c call) (answer_in h c call.0 call.1.actor (DeathPost c a))) (enumerate_from 0 (calls_of c h))
+    table = table_is (map (answer_after_death a) (zip (calls_of c h) (kept_of c h))) (calls_of c h)
+        (λ (call : ℕ × Submission). or_else (first_answer h c call) (answer_in h c call.0 call.1.actor (DeathPost c a)))
         (length-map (zip (calls_of c h) (kept_of c h)) (answer_after_death a) ∙ length-zip_same (calls_of c h) (kept_of c h) (kept_long h c))
-        (λ j x e. slice_get-map (answer_after_death a) (zip (calls_of c h) (kept_of c h)) j ∙ ap (λ (o : Option (Submission × Option Answer)). option_map (answer_after_death a) o) (zip_at (calls_of c h) (kept_of c h) j x (first_answer h c (j, x)) e (kept_there h c j x e))
-        ∙ ap (λ (o : Option Answer). Some o) (one_death h c a j x (first_answer h c (j, x))))
+        (λ j x e. slice_get-map (answer_after_death a) (zip (calls_of c h) (kept_of c h)) j ∙ ap (λ o. option_map (answer_after_death a) o)
+        (zip_at (calls_of c h) (kept_of c h) j x e (kept_there h c j x e)) ∙ ap (λ o. Some o) (one_death h c a j x (first_answer h c (j, x))))
 
 -- who knows of which death
-death_known : (h : History) (c a b : ℕ) (owner : OwnerView) → IsOwnerOf h c owner → knows_dead (with_death owner a) a ≡ true → knows_dead (with_death owner a) b ≡ list_any (is_death_to c b) (h.collected ++ DeathPost c a ∷ [])
+death_known : (h : History) (c a b : ℕ) (owner : OwnerView) → IsOwnerOf h c owner → knows_dead (with_death owner a) a ≡ true →
+    knows_dead (with_death owner a) b ≡ list_any (is_death_to c b) (h.collected ++ DeathPost c a ∷ [])
 death_known h c a b owner is known = elim (eqb_tells a b) [
-  | inl t ↦ subst (λ (x : ℕ). knows_dead (with_death owner a) x ≡ list_any (is_death_to c x) (h.collected ++ DeathPost c a ∷ [])) t.1 (known ∙ sym itself)
-  | inr f ↦ ap (λ (o : Option Bool). unwrap_or o false) (get_set-other owner.dead a b true f.1) ∙ is.deaths b ∙ sym (other f.0)
+  | inl t ↦ subst (λ x. knows_dead (with_death owner a) x ≡ list_any (is_death_to c x) (h.collected ++ DeathPost c a ∷ [])) t.1 (known ∙ sym itself)
+  | inr f ↦ ap (λ o. unwrap_or o false) (get_set-other owner.dead a b true f.1) ∙ is.deaths b ∙ sym (other f.0)
 ]
   where
     mine : (c == c) ≡ true
     mine = eq-eqb c c refl
 
     itself : list_any (is_death_to c a) (h.collected ++ DeathPost c a ∷ []) ≡ true
-    itself = let same : (a == a) ≡ true = eq-eqb a a refl in list_any-append (is_death_to c a) h.collected (DeathPost c a ∷ []) ∙ rw (mine, same) (or-true (list_any (is_death_to c a) h.collected))
+    itself = let same : (a == a) ≡ true = eq-eqb a a refl in
+        list_any-append (is_death_to c a) h.collected (DeathPost c a ∷ []) ∙ rw (mine, same) (or-true (list_any (is_death_to c a) h.collected))
 
     other : (a == b) ≡ false → list_any (is_death_to c b) (h.collected ++ DeathPost c a ∷ []) ≡ list_any (is_death_to c b) h.collected
     other apart = list_any-append (is_death_to c b) h.collected (DeathPost c a ∷ []) ∙ rw (mine, apart) (or-false (list_any (is_death_to c b) h.collected))
 
-bereaved : (h : History) (c a : ℕ) (owner : OwnerView) → IsOwnerOf h c owner → knows_dead (with_death owner a) a ≡ true → IsOwnerOf (heard h (DeathPost c a)) c (with_death owner a)
+bereaved : (h : History) (c a : ℕ) (owner : OwnerView) → IsOwnerOf h c owner → knows_dead (with_death owner a) a ≡ true →
+    IsOwnerOf (heard h (DeathPost c a)) c (with_death owner a)
 bereaved h c a owner is known = record {
   id = is.id;
   copies = is.copies;
@@ -68,7 +72,7 @@ bereaved h c a owner is known = record {
   calls = is.calls;
   marks = is.marks;
   sent = λ k. is.sent k ∙ same_sent k (slice_get (calls_of c h) k);
-  kept = death_table h c a owner is;
+  kept = death_table h c a is;
   deaths = λ b. death_known h c a b owner is known;
 }
   where
@@ -78,17 +82,20 @@ bereaved h c a owner is known = record {
 
 -- ---- what is asked of each notice
 
-pub death_collects : (h : History) (network : NetworkView) (slots : List SlotView) (j c a : ℕ) → IsLawful h → Refines h (record { network = network; slots = slots }) → slice_get h.posts j ≡ Some (DeathPost c a) → Collects h network slots j (record { caller = c; notice = Death a })
+pub death_collects : (h : History) (network : NetworkView) (slots : List SlotView) (j c a : ℕ) → IsLawful h →
+    Refines h (record { network = network; slots = slots }) → slice_get h.posts j ≡ Some (DeathPost c a) →
+    Collects h network slots j (record { caller = c; notice = Death a })
 death_collects h network slots j c a lawful refines at place owner new told sees told_is new_is known =
     finish h j (DeathPost c a) told (record { network = record network { owners = slice_set network.owners place new }; slots = slots }) at
-    (told_is ∙ told_death ∙ ap (λ (n : ℕ). Ok (DidDie n)) (unanswered_is h c a owner is))
-    (heard_ties h network slots (DeathPost c a) place owner new lawful (heard_grows h j (DeathPost c a) at) refines sees (subst (IsOwnerOf (heard h (DeathPost c a)) c) (sym there) (bereaved h c a owner is (subst (λ (o : OwnerView). knows_dead o a ≡ true) there (known listed)))))
+    (told_is ∙ told_death ∙ ap (λ n. Ok (DidDie n)) (unanswered_is h c a owner is))
+    (heard_ties h slots (DeathPost c a) new lawful (heard_grows h j at) refines sees
+    (subst (IsOwnerOf (heard h (DeathPost c a)) c) (sym there) (bereaved h c a owner is (subst (λ o. knows_dead o a ≡ true) there (known listed)))))
   where
     is : IsOwnerOf h c owner
-    is = (seen_owner h network slots c place owner refines sees).1
+    is = (seen_owner h slots c refines sees).1
 
     listed : is_some (copies_in a owner.handles) ≡ true
-    listed = is_named h c a owner is ∙ All_at (IsNamedPost h) h.posts j (DeathPost c a) lawful.named.posts at
+    listed = is_named h c a owner is ∙ All_at (IsNamedPost h) h.posts j lawful.named.posts at
 
     there : new ≡ with_death owner a
     there = new_is ∙ rw listed refl

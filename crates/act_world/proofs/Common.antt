@@ -100,7 +100,7 @@ pub use Rattle.act_world.specs.View.{Died, Ended, Runs, SlotView, Vacant, WorldO
 pub use Rattle.act_world.specs.declared.network.CallKey.{CallKey}
 pub use Rattle.act_world.specs.declared.network.MailEntry.{MailEntry}
 pub use Rattle.act_world.specs.declared.network.MailEntry.TheVariants.{Call as CallEntry, Note as NoteEntry}
-pub use Rattle.act_world.specs.declared.network.Posted.{Posted}
+pub use Rattle.act_world.specs.declared.network.MailedNotice.{MailedNotice}
 pub use Rattle.act_world.specs.declared.slot.Slot.{Slot}
 pub use Rattle.std.proofs.Common.{All, AllPairs, Bool, Err, IfNone, IfOk, IfSome, IsErrAnd, List, None, Ok, OnErr, OnOk, Option, Result, Some, [], ap}
 pub use Rattle.std.proofs.Common.{append_assoc, arith, cond, count_by, drop, false, filter, find, flat_map, get_or, if◌then◌else◌, inl, inr, is_none, is_some}

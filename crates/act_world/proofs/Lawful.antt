@@ -17,7 +17,7 @@ has_letter-more letter xs ys e = rw (list_any-append (is_letter letter) xs ys, e
 
 -- a letter is in a list with one more at its end where it was before or is that one
 pub has_letter-last : (letter other : Letter) (xs : List Letter) → has_letter letter (xs ++ other ∷ []) ≡ (has_letter letter xs || is_letter letter other)
-has_letter-last letter other xs = list_any-append (is_letter letter) xs (other ∷ []) ∙ ap (λ (b : Bool). has_letter letter xs || b) (or-false (is_letter letter other))
+has_letter-last letter other xs = list_any-append (is_letter letter) xs (other ∷ []) ∙ ap (λ b. has_letter letter xs || b) (or-false (is_letter letter other))
 
 -- each letter that arrived stands in the mail
 abbrev pub WereSent : History → Type 0
@@ -25,19 +25,20 @@ WereSent h = AllByRecursion (λ letter. has_letter letter h.mail ≡ true) h.arr
 
 sent_more : (h : History) (o : Option Letter) → WereSent h → AllByRecursion (λ letter. has_letter letter (and_also h.mail o) ≡ true) h.arrived
 sent_more h None sent = sent
-sent_more h (Some letter) sent = All_weaker (λ x. has_letter x h.mail ≡ true) (λ x. has_letter x (h.mail ++ letter ∷ []) ≡ true) h.arrived (λ x e. has_letter-more x h.mail (letter ∷ []) e) sent
+sent_more h (Some letter) sent = All_weaker (λ x. has_letter x h.mail ≡ true) (λ x. has_letter x (h.mail ++ letter ∷ []) ≡ true) h.arrived
+    (λ x e. has_letter-more x h.mail (letter ∷ []) e) sent
 
 pub sent_step : IsKept WereSent
 sent_step h (Release c a) sent accepted = sent_more h (if_last (is_last c a h)) sent
   where
     if_last : Bool → Option Letter
     if_last last = cond last (Some (NoteLetter c a (length (calls_to a (calls_of c h))))) None
-sent_step h (Send c k) sent accepted = sent_more h (option_map (λ (call : Submission). call_letter c k call h) (slice_get (calls_of c h) k)) sent
+sent_step h (Send c k) sent accepted = sent_more h (option_map (λ call. call_letter c k call h) (slice_get (calls_of c h) k)) sent
 sent_step h (Deliver i) sent accepted = go (slice_get h.mail i) refl
   where
     go : (o : Option Letter) → slice_get h.mail i ≡ o → AllByRecursion (λ letter. has_letter letter h.mail ≡ true) (and_also h.arrived o)
     go None e = sent
-    go (Some letter) e = All_more (λ x. has_letter x h.mail ≡ true) h.arrived letter sent (has_letter-at letter h.mail i e)
+    go (Some letter) e = All_more (λ x. has_letter x h.mail ≡ true) h.arrived letter sent (has_letter-at h.mail i e)
 sent_step h (Run a c) sent accepted = go (next_item a c h)
   where
     go : (o : Option RunItem) → WereSent (after_run a c h o)
@@ -49,22 +50,27 @@ sent_step h other sent accepted = sent
 abbrev pub HadArrived : History → Type 0
 HadArrived h = (a c n : ℕ) → n < ran_count c a h → has_letter (CallLetter c a n) h.arrived ≡ true
 
-arrived_run : (h : History) (b d : ℕ) (item : RunItem) → IsNext b d h item → HadArrived h → (a c n : ℕ) → n < length (items_of c (under a (h.ran ++ (b, item) ∷ []))) → has_letter (CallLetter c a n) h.arrived ≡ true
-arrived_run h b d item next came a c n below = go (b == a) refl (subst (λ (items : List RunItem). n < length (items_of c items)) (under-push a b h.ran item) below)
+arrived_run : (h : History) (b d : ℕ) (item : RunItem) → IsNext b d h item → HadArrived h → (a c n : ℕ) →
+    n < length (items_of c (under a (h.ran ++ (b, item) ∷ []))) → has_letter (CallLetter c a n) h.arrived ≡ true
+arrived_run h b d item next came a c n below = go (b == a) refl (subst (λ items. n < length (items_of c items)) (under-push a b h.ran item) below)
   where
     caller : item.caller ≡ d
     caller = ap (λ (i : RunItem). i.caller) (sym next.is)
 
-    inner : (same : Bool) → (item.caller == c) ≡ same → b ≡ a → n < length (items_of c (runs_of a h)) + length {A = RunItem} (cond same (item ∷ []) []) → has_letter (CallLetter c a n) h.arrived ≡ true
+    inner : (same : Bool) → (item.caller == c) ≡ same → b ≡ a → n < length (items_of c (runs_of a h)) + length {A = RunItem} (cond same (item ∷ []) []) →
+        has_letter (CallLetter c a n) h.arrived ≡ true
     inner true e same below = elim (leb_tells (suc n) (ran_count c a h)) [
       | inl less ↦ came a c n (let here = less.1 in omega arith)
-      | inr more ↦ let least = more.1 in let last : n ≡ ran_count c a h = omega arith in let who : d ≡ c = sym caller ∙ eqb-true item.caller c e in rw last (subst (λ (x : ℕ). has_letter (CallLetter x a (ran_count x a h)) h.arrived ≡ true) who (subst (λ (y : ℕ). has_letter (CallLetter d y (ran_count d y h)) h.arrived ≡ true) same next.arrived))
+      | inr more ↦ let least = more.1 in let last : n ≡ ran_count c a h = omega arith in let who : d ≡ c = sym caller ∙ eqb-true item.caller c e in
+          rw last (subst (λ x. has_letter (CallLetter x a (ran_count x a h)) h.arrived ≡ true) who
+          (subst (λ y. has_letter (CallLetter d y (ran_count d y h)) h.arrived ≡ true) same next.arrived))
     ]
     inner false e same below = came a c n (omega arith)
 
     go : (same : Bool) → (b == a) ≡ same → n < length (items_of c (runs_of a h ++ cond same (item ∷ []) [])) → has_letter (CallLetter c a n) h.arrived ≡ true
-    go true e below = inner (item.caller == c) refl (eqb-true b a e) (subst (λ (k : ℕ). n < k) (ap (λ (items : List RunItem). length items) (filter-append (λ (i : RunItem). i.caller == c) (runs_of a h) (item ∷ [])) ∙ length-append (items_of c (runs_of a h)) _) below)
-    go false e below = came a c n (subst (λ (items : List RunItem). n < length (items_of c items)) (append-nil (runs_of a h)) below)
+    go true e below = inner (item.caller == c) refl (eqb-true b a e) (subst (λ k. n < k) (ap (λ items. length items)
+        (filter-append (λ (i : RunItem). i.caller == c) (runs_of a h) (item ∷ [])) ∙ length-append (items_of c (runs_of a h)) _) below)
+    go false e below = came a c n (subst (λ items. n < length (items_of c items)) (append-nil (runs_of a h)) below)
 
 pub came_step : IsKept HadArrived
 came_step h (Deliver i) came accepted = go (slice_get h.mail i)
@@ -76,7 +82,7 @@ came_step h (Run b d) came accepted = go (next_item b d h) refl
   where
     go : (o : Option RunItem) → next_item b d h ≡ o → HadArrived (after_run b d h o)
     go None e = came
-    go (Some item) e = arrived_run h b d item (next_item_is b d h item e) came
+    go (Some item) e = arrived_run h b d item (next_item_is b d h e) came
 came_step h other came accepted = came
 
 -- ---- letters and notices are of callers that their actor's cast names
@@ -110,19 +116,23 @@ pub named_step : (h : History) (event : Event) → AllNamed h → AreNamed h →
 named_step h (Release c a) all named accepted = record { mail = go (is_last c a h); posts = named.posts }
   where
     go : (last : Bool) → AllByRecursion (IsNamedLetter h) (and_also h.mail (cond last (Some (NoteLetter c a (length (calls_to a (calls_of c h))))) None))
-    go true = All_more (IsNamedLetter h) h.mail (NoteLetter c a (length (calls_to a (calls_of c h)))) named.mail (copies_named c a h (release_needs h c a accepted))
+    go true =
+        All_more (IsNamedLetter h) h.mail (NoteLetter c a (length (calls_to a (calls_of c h)))) named.mail (copies_named c a h (release_needs h c a accepted))
     go false = named.mail
 named_step h (Send c k) all named accepted = record { mail = go (slice_get (calls_of c h) k) refl; posts = named.posts }
   where
-    go : (o : Option Submission) → slice_get (calls_of c h) k ≡ o → AllByRecursion (IsNamedLetter h) (and_also h.mail (option_map (λ (call : Submission). call_letter c k call h) o))
+    go : (o : Option Submission) → slice_get (calls_of c h) k ≡ o →
+        AllByRecursion (IsNamedLetter h) (and_also h.mail (option_map (λ call. call_letter c k call h) o))
     go None e = named.mail
-    go (Some call) e = All_more (IsNamedLetter h) h.mail (call_letter c k call h) named.mail (named_call h c k call all e)
+    go (Some call) e = All_more (IsNamedLetter h) h.mail (call_letter c k call h) named.mail (named_call h c k all e)
 named_step h (Run a c) all named accepted = go (next_item a c h)
   where
     go : (o : Option RunItem) → AreNamed (after_run a c h o)
     go None = named
-    go (Some item) = record { mail = named.mail; posts = All_more (IsNamedPost h) h.posts (ReplyPost c a (length (runs_of a h))) named.posts (run_needs h a c accepted).1 }
-named_step h (Tell a c) all named accepted = record { mail = named.mail; posts = All_more (IsNamedPost h) h.posts (DeathPost c a) named.posts (tell_names h a c accepted) }
+    go (Some item) =
+        record { mail = named.mail; posts = All_more (IsNamedPost h) h.posts (ReplyPost c a (length (runs_of a h))) named.posts (run_needs h a c accepted).1 }
+named_step h (Tell a c) all named accepted =
+    record { mail = named.mail; posts = All_more (IsNamedPost h) h.posts (DeathPost c a) named.posts (tell_names h a c accepted) }
 named_step h event all named accepted = record { mail = named.mail; posts = named.posts }
 
 -- who is named by a cast is a caller

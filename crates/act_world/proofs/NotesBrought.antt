@@ -16,20 +16,19 @@ note_came h c a n live lawful is named note = go (note_of live.inbox c) refl
     go (Some m) e =
         let there : has_letter (NoteLetter c a m) h.arrived ≡ true = sym (is.notes c m named) ∙ ap (is_note_of m) e ∙ eq-eqb m m refl in
         let other = has_letter-sound (IsSoundNote h) (NoteLetter c a m) h.arrived lawful.retires.notes.arrived there in
-        let same : m ≡ n = other.1 ∙ sym note.1 in
-        sym (subst (λ (x : ℕ). has_letter (NoteLetter c a x) h.arrived ≡ true) same there)
+        let same : m ≡ n = other.1 ∙ sym note.1 in sym (subst (λ x. has_letter (NoteLetter c a x) h.arrived ≡ true) same there)
 
 pub note_arrives : (h : History) (c a n : ℕ) (live : ActorView) → IsLawful h → IsLive h a live → names c (cast_of a h) ≡ true → IsSoundNote h (NoteLetter c a n)
     → note_arrival_at live.id live.inbox (record { caller = c; actor = a; after = n }) ≡ cond (has_letter (NoteLetter c a n) h.arrived) Repeat New
 note_arrives h c a n live lawful is named note =
-    ap (λ (b : Bool). cond b (note_arrival live.inbox (record { caller = c; actor = a; after = n })) Stranger) (eq-eqb a live.id (sym is.id))
-    ∙ ap (λ (b : Bool). cond b (cond (is_some (note_of live.inbox c)) Repeat New) Stranger) (is.listed c ∙ named)
-    ∙ ap (λ (b : Bool). cond b Repeat New) (note_came h c a n live lawful is named note)
+    ap (λ b. cond b (note_arrival live.inbox (record { caller = c; actor = a; after = n })) Stranger) (eq-eqb a live.id (sym is.id))
+    ∙ ap (λ b. cond b (cond (is_some (note_of live.inbox c)) Repeat New) Stranger) (is.listed c ∙ named)
+    ∙ ap (λ b. cond b Repeat New) (note_came h c a n live lawful is named note)
 
 -- what notes the actor has once the letter came
-note_notes : (h : History) (c a n : ℕ) (live : ActorView) → IsLawful h → IsLive h a live → names c (cast_of a h) ≡ true → IsSoundNote h (NoteLetter c a n)
-    → (was : Bool) → has_letter (NoteLetter c a n) h.arrived ≡ was → (d k : ℕ) → names d (cast_of a h) ≡ true
-    → is_note_of k (note_after (cond was Repeat New) (record { caller = c; actor = a; after = n }) live.inbox d) ≡ has_letter (NoteLetter d a k) (h.arrived ++ NoteLetter c a n ∷ [])
+note_notes : (h : History) (c a n : ℕ) (live : ActorView) → IsLawful h → IsLive h a live → names c (cast_of a h) ≡ true → IsSoundNote h (NoteLetter c a n) →
+    (was : Bool) → has_letter (NoteLetter c a n) h.arrived ≡ was → (d k : ℕ) → names d (cast_of a h) ≡ true → is_note_of k (note_after (cond was Repeat New)
+    (record { caller = c; actor = a; after = n }) live.inbox d) ≡ has_letter (NoteLetter d a k) (h.arrived ++ NoteLetter c a n ∷ [])
 note_notes h c a n live lawful is here note true there d k named = is.notes d k named ∙ sym (has_again (NoteLetter d a k) (NoteLetter c a n) h.arrived there)
 note_notes h c a n live lawful is here note false there d k named = go (d == c) refl
   where
@@ -39,21 +38,21 @@ note_notes h c a n live lawful is here note false there d k named = go (d == c) 
 
     mine : is_note_of k (Some n) ≡ has_letter (NoteLetter c a k) (h.arrived ++ NoteLetter c a n ∷ [])
     mine = elim (eqb_tells n k) [
-      | inl t ↦ rw t.0 (subst (λ (x : ℕ). true ≡ has_letter (NoteLetter c a x) (h.arrived ++ NoteLetter c a n ∷ [])) t.1 (sym (has_last (NoteLetter c a n) h.arrived)))
+      | inl t ↦ rw t.0
+          (subst (λ x. true ≡ has_letter (NoteLetter c a x) (h.arrived ++ NoteLetter c a n ∷ [])) t.1 (sym (has_last (NoteLetter c a n) h.arrived)))
       | inr f ↦ rw f.0 (sym (none (note_of live.inbox c) refl (note_came h c a n live lawful is here note ∙ there)) ∙ is.notes c k here
           ∙ sym (has_other (NoteLetter c a k) (NoteLetter c a n) h.arrived (λ same. let eq : n ≡ k = cc in f.1 eq)))
     ]
 
     go : (b : Bool) → (d == c) ≡ b → is_note_of k (cond b (Some n) (note_of live.inbox d)) ≡ has_letter (NoteLetter d a k) (h.arrived ++ NoteLetter c a n ∷ [])
-    go true e = subst (λ (x : ℕ). is_note_of k (Some n) ≡ has_letter (NoteLetter x a k) (h.arrived ++ NoteLetter c a n ∷ [])) (sym (eqb-true d c e)) mine
-    go false e = is.notes d k named ∙ sym (has_other (NoteLetter d a k) (NoteLetter c a n) h.arrived (λ same.
-        let one : d ≡ c = cc in
-        let bad : true ≡ false = sym (eq-eqb d c one) ∙ e in
-        cc))
+    go true e = subst (λ x. is_note_of k (Some n) ≡ has_letter (NoteLetter x a k) (h.arrived ++ NoteLetter c a n ∷ [])) (sym (eqb-true d c e)) mine
+    go false e = is.notes d k named ∙ sym
+        (has_other (NoteLetter d a k) (NoteLetter c a n) h.arrived (λ same. let one : d ≡ c = cc in let bad : true ≡ false = sym (eq-eqb d c one) ∙ e in cc))
 
-pub live_noted : (h : History) (c a n : ℕ) (arrival : Arrival) (live new : ActorView) → IsLawful h → IsLive h a live → names c (cast_of a h) ≡ true → IsSoundNote h (NoteLetter c a n)
-    → arrival ≡ cond (has_letter (NoteLetter c a n) h.arrived) Repeat New → HasNoted (record { caller = c; actor = a; after = n }) arrival live new → IsLive (brought h (NoteLetter c a n)) a new
-live_noted h c a n arrival live new lawful is here note told noted = record {
+pub live_noted : (h : History) (c a n : ℕ) {arrival : Arrival} (live new : ActorView) → IsLawful h → IsLive h a live → names c (cast_of a h) ≡ true →
+    IsSoundNote h (NoteLetter c a n) → arrival ≡ cond (has_letter (NoteLetter c a n) h.arrived) Repeat New →
+    HasNoted (record { caller = c; actor = a; after = n }) arrival live new → IsLive (brought h (NoteLetter c a n)) a new
+live_noted h c a n live new lawful is here note told noted = record {
   cast = is.cast;
   cast_is = is.cast_is;
   runs = is.runs;
@@ -62,8 +61,8 @@ live_noted h c a n arrival live new lawful is here note told noted = record {
   state = ap (λ (l : ActorView). l.state) noted.same ∙ is.state;
   listed = λ d. rw noted.noted.lanes (is.listed d);
   handed = λ d named. rw noted.noted.lanes (is.handed d named);
-  waits = λ d k named. rw (noted.noted.lanes, noted.noted.held) (is.waits d k named) ∙ held_same h (NoteLetter c a n) a d k (has_other (CallLetter d a k) (NoteLetter c a n) h.arrived (λ e. cc));
-  notes = λ d k named. ap (is_note_of k) (noted.noted.notes d)
-      ∙ ap (λ (x : Arrival). is_note_of k (note_after x (record { caller = c; actor = a; after = n }) live.inbox d)) told
-      ∙ note_notes h c a n live lawful is here note (has_letter (NoteLetter c a n) h.arrived) refl d k named;
+  waits = λ d k named. rw (noted.noted.lanes, noted.noted.held) (is.waits d k named) ∙
+      held_same h (NoteLetter c a n) a d k (has_other (CallLetter d a k) (NoteLetter c a n) h.arrived (λ e. cc));
+  notes = λ d k named. ap (is_note_of k) (noted.noted.notes d) ∙ ap (λ x. is_note_of k (note_after x (record { caller = c; actor = a; after = n }) live.inbox
+      d)) told ∙ note_notes h c a n live lawful is here note (has_letter (NoteLetter c a n) h.arrived) refl d k named;
 }

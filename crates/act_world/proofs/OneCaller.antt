@@ -14,21 +14,21 @@ use Rattle.act_world.proofs.Stepping.{refused_there}
 -- ---- what refuses an event
 
 -- the needed conditions that hold, and the first that fails
-pub needs_holds : {R : Type 0} (b : Bool) (r : R) (next : Option R) → b ≡ true → needs b r next ≡ next
-needs_holds b r next e = rw e refl
+pub needs_holds : {R : Type 0} {b : Bool} (r : R) (next : Option R) → b ≡ true → needs b r next ≡ next
+needs_holds r next e = rw e refl
 
-pub needs_fails : {R : Type 0} (b : Bool) (r : R) (next : Option R) → b ≡ false → needs b r next ≡ Some r
-needs_fails b r next e = rw e refl
+pub needs_fails : {R : Type 0} {b : Bool} (r : R) (next : Option R) → b ≡ false → needs b r next ≡ Some r
+needs_fails r next e = rw e refl
 
 -- an answer of the handles: nothing refused it, or what did
-pub or_else-Ok : {X : Type 0} (refusal : Option HandleRefusal) (value told : X) → Ok told ≡ or_else refusal value → (refusal ≡ None) × (told ≡ value)
-or_else-Ok None value told e = (refl, cc)
-or_else-Ok (Some refusal) value told e = cc
+pub or_else-Ok : {X : Type 0} (refusal : Option HandleRefusal) (value : X) {told : X} → Ok told ≡ or_else refusal value → (refusal ≡ None) × (told ≡ value)
+or_else-Ok None value e = (refl, cc)
+or_else-Ok (Some refusal) value e = cc
 
 -- where the handles answer with a refusal, it is what refused
-pub or_else-Err : {X : Type 0} (refusal : Option HandleRefusal) (value : X) (told : HandleRefusal) → Err told ≡ or_else refusal value → refusal ≡ Some told
-or_else-Err None value told e = cc
-or_else-Err (Some refusal) value told e = let same : told ≡ refusal = cc in ap Some (sym same)
+pub or_else-Err : {X : Type 0} (refusal : Option HandleRefusal) (value : X) {told : HandleRefusal} → Err told ≡ or_else refusal value → refusal ≡ Some told
+or_else-Err None value e = cc
+or_else-Err (Some refusal) value {told} e = let same : told ≡ refusal = cc in ap Some (sym same)
 
 -- ---- the caller at its place
 
@@ -38,37 +38,39 @@ pub record IsHere (h : History) (c : ℕ) (owner : OwnerView) : Type 0 where
   pub is : IsOwnerOf h c owner
 
 -- the caller that stands at its place in the world has what the history tells of it
-pub caller_here : (h : History) (network : NetworkView) (slots : List SlotView) (c place : ℕ) (owner : OwnerView) → Refines h (record { network = network; slots = slots })
-    → position (is_owner c) network.owners ≡ Some place → owner ≡ get_or network.owners place owner → IsHere h c owner
-caller_here h network slots c place owner refines at owner_is =
-    let here = owner_here h network.owners c place owner refines.owners at in
-    record { caller = here.0; is = subst (IsOwnerOf h c) (sym owner_is) here.1 }
+pub caller_here : {h : History} (network : NetworkView) (slots : List SlotView) (c : ℕ) {place : ℕ} {owner : OwnerView} →
+    Refines h (record { network = network; slots = slots }) → position (is_owner c) network.owners ≡ Some place → owner ≡ get_or network.owners place owner →
+    IsHere h c owner
+caller_here {h} network slots c {place} {owner} refines at owner_is =
+    let here = owner_here h network.owners c owner refines.owners at in record { caller = here.0; is = subst (IsOwnerOf h c) (sym owner_is) here.1 }
 
 -- a release and the asking of a kill are refused as the handles say
-pub handle_refused : (h : History) (c a : ℕ) (owner : OwnerView) (refusal : Option HandleRefusal) → IsHere h c owner → handle_refusal (copies_in a owner.handles) ≡ refusal
-    → needs (is_caller c h) NoCaller (option_map Handle (handle_refusal (copies_of c a h))) ≡ option_map Handle refusal
-handle_refused h c a owner refusal here e =
-    needs_holds (is_caller c h) NoCaller (option_map Handle (handle_refusal (copies_of c a h))) here.caller
-    ∙ ap (λ (copies : Option ℕ). option_map Handle (handle_refusal copies)) (sym (here.is.copies a))
+pub handle_refused : (h : History) (c a : ℕ) {owner : OwnerView} {refusal : Option HandleRefusal} → IsHere h c owner → handle_refusal
+    (copies_in a owner.handles) ≡ refusal → needs (is_caller c h) NoCaller (option_map Handle (handle_refusal (copies_of c a h))) ≡ option_map Handle refusal
+handle_refused h c a here e =
+    needs_holds NoCaller (option_map Handle (handle_refusal (copies_of c a h))) here.caller
+    ∙ ap (λ copies. option_map Handle (handle_refusal copies)) (sym (here.is.copies a))
     ∙ ap (option_map Handle) e
 
 -- where the caller is put back as it was, the network is as it was
-pub put_back : (network : NetworkView) (place : ℕ) (owner new : OwnerView) → owner ≡ get_or network.owners place owner → new ≡ owner → record network { owners = slice_set network.owners place new } ≡ network
-put_back network place owner new owner_is same =
-    ap (λ (owners : List OwnerView). record network { owners = owners }) (ap (slice_set network.owners place) (same ∙ owner_is) ∙ set-get_or network.owners place owner)
+pub put_back : (network : NetworkView) (place : ℕ) {owner new : OwnerView} → owner ≡ get_or network.owners place owner → new ≡ owner →
+    record network { owners = slice_set network.owners place new } ≡ network
+put_back network place {owner} owner_is same =
+    ap (λ owners. record network { owners = owners }) (ap (slice_set network.owners place) (same ∙ owner_is) ∙ set-get_or network.owners place owner)
 
 -- nothing that an unknown caller does is done
-pub no_caller_follows : (h : History) (event : Event) (network : NetworkView) (slots : List SlotView) (c : ℕ) (rest : Option WorldRefusal) → refusal_of h event ≡ needs (is_caller c h) NoCaller rest
-    → Refines h (record { network = network; slots = slots }) → position (is_owner c) network.owners ≡ None
-    → (Err NoCaller ≡ outcome_of h event) × Refines (after h event) (record { network = network; slots = slots })
-no_caller_follows h event network slots c rest first refines at =
-    refused_follows h event NoCaller (record { network = network; slots = slots }) (first ∙ needs_fails (is_caller c h) NoCaller rest (owner_absent h network.owners c refines.owners at)) refines
+pub no_caller_follows : {h : History} (event : Event) (network : NetworkView) (slots : List SlotView) (c : ℕ) (rest : Option WorldRefusal) →
+    refusal_of h event ≡ needs (is_caller c h) NoCaller rest → Refines h (record { network = network; slots = slots }) →
+    position (is_owner c) network.owners ≡ None → (Err NoCaller ≡ outcome_of h event) × Refines (after h event) (record { network = network; slots = slots })
+no_caller_follows {h} event network slots c rest first refines at =
+    refused_follows event (first ∙ needs_fails NoCaller rest (owner_absent h network.owners c refines.owners at)) refines
 
 -- the fields of the network are known, and none of its callers is this one
-pub no_caller : (event : Event) (inside network : NetworkView) (owners : List OwnerView) (c : ℕ) (rest : History → Option WorldRefusal) → ((h : History) → refusal_of h event ≡ needs (is_caller c h) NoCaller (rest h))
-    → inside ≡ network → owners ≡ inside.owners → None ≡ position (is_owner c) owners → StepsThere event network network (Ok (Err NoCaller))
-no_caller event inside network owners c rest first same is none = refused_there event network network NoCaller refl refl
-    (λ slots casts before refines. no_caller_follows (history casts before) event network slots c (rest (history casts before)) (first (history casts before)) refines
+pub no_caller : (event : Event) {inside : NetworkView} (network : NetworkView) {owners : List OwnerView} (c : ℕ) (rest : History → Option WorldRefusal) →
+    ((h : History) → refusal_of h event ≡ needs (is_caller c h) NoCaller (rest h)) → inside ≡ network → owners ≡ inside.owners →
+    None ≡ position (is_owner c) owners → StepsThere event network network (Ok (Err NoCaller))
+no_caller event network c rest first same is none = refused_there event network network NoCaller refl refl
+    (λ slots casts before refines. no_caller_follows event network slots c (rest (history casts before)) (first (history casts before)) refines
     (ap (λ (n : NetworkView). position (is_owner c) n.owners) (sym same) ∙ ap (position (is_owner c)) (sym is) ∙ sym none))
 
 -- ---- the other callers, and the rest of the world
@@ -83,11 +85,10 @@ pub record IsOfCallers (h g : History) : Type 0 where
   pub retired : g.retired ≡ h.retired
 
 -- the world ties to the history after such an event where its callers, its mail and what was asked do
-pub callers_tie : (h g : History) (old new : NetworkView) (slots : List SlotView) → IsLawful h → Refines h (record { network = old; slots = slots }) → IsOfCallers h g
-    → ((c : ℕ) → IsOwnerAt g c (find (is_owner c) new.owners))
-    → ((i : ℕ) → slice_get new.mail i ≡ option_and_then (mail_entry g) (slice_get g.mail i)) → length new.mail ≡ length g.mail
-    → new.replies ≡ old.replies → ((a : ℕ) → unwrap_or (slice_get new.asked a) false ≡ contains a g.asked)
-    → Refines g (record { network = new; slots = slots })
+pub callers_tie : (h g : History) (old new : NetworkView) (slots : List SlotView) → IsLawful h → Refines h (record { network = old; slots = slots }) →
+    IsOfCallers h g → ((c : ℕ) → IsOwnerAt g c (find (is_owner c) new.owners)) →
+    ((i : ℕ) → slice_get new.mail i ≡ option_and_then (mail_entry g) (slice_get g.mail i)) → length new.mail ≡ length g.mail → new.replies ≡ old.replies →
+    ((a : ℕ) → unwrap_or (slice_get new.asked a) false ≡ contains a g.asked) → Refines g (record { network = new; slots = slots })
 callers_tie h g old new slots lawful refines same owners mail count replies asked = record {
   owners = owners;
   actors = stages_stay h g slots lawful same.grows same.arrived same.ran same.killed same.retired refines.actors;
@@ -103,7 +104,8 @@ pub under-other : {A : Type 0} (c d : ℕ) (pairs : List (ℕ × A)) (x : A) →
 under-other {A = A} c d pairs x apart = under-push d c pairs x ∙ rw (ne_eqb c d apart) (append-nil (under d pairs))
 
 -- a call was sent before where it was, if no call's letter comes
-pub sent_stays : (h g : History) (c k : ℕ) (call : Option Submission) → calls_of c g ≡ calls_of c h → ((a n : ℕ) → has_letter (CallLetter c a n) g.mail ≡ has_letter (CallLetter c a n) h.mail) → was_sent c k call g ≡ was_sent c k call h
+pub sent_stays : (h g : History) (c k : ℕ) (call : Option Submission) → calls_of c g ≡ calls_of c h →
+    ((a n : ℕ) → has_letter (CallLetter c a n) g.mail ≡ has_letter (CallLetter c a n) h.mail) → was_sent c k call g ≡ was_sent c k call h
 sent_stays h g c k None calls mail = refl
 sent_stays h g c k (Some call) calls mail = rw calls (mail call.actor (number_of call.actor k (calls_of c h)))
 

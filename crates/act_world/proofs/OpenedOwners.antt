@@ -9,25 +9,27 @@ use Rattle.act_world.proofs.Common.{ActorSpec, OwnerView, opened_with, is_owner}
 
 -- ---- the actors of a caller
 
-differ_map : {X Y : Type 0} (f : X → Y) (g : Y → ℕ) (xs : List X) → AllPairs (λ one other. g (f one) ≢ g (f other)) xs → AllPairs (λ one other. g one ≢ g other) (map f xs)
+differ_map : {X Y : Type 0} (f : X → Y) (g : Y → ℕ) (xs : List X) → AllPairs (λ one other. g (f one) ≢ g (f other)) xs →
+    AllPairs (λ one other. g one ≢ g other) (map f xs)
 differ_map f g [] pairs i j d below within same = absurd (omega arith)
 differ_map f g (x ∷ xs) pairs i j d below within same =
     let long : length (map f (x ∷ xs)) ≡ length (x ∷ xs) = length-map (x ∷ xs) f in
-    let second : j < length (x ∷ xs) = omega arith in
-    let first : i < length (x ∷ xs) = omega arith in
+    let second : j < length (x ∷ xs) = omega arith in let first : i < length (x ∷ xs) = omega arith in
     pairs i j x below second (ap g (sym (get_or-map f (x ∷ xs) i x d first)) ∙ same ∙ ap g (get_or-map f (x ∷ xs) j x d second))
 
 -- no actor stands twice among those that name a caller
 pub actors_differ : {K : Type 0} (c : ℕ) (casts : List (Cast K)) → ActorsDiffer casts → AllPairs (λ one other. one.0 ≢ other.0) (limits_that_name c casts)
 actors_differ {K} c casts differ =
-    differ_map (λ (cast : Cast K). actor_limit cast) (λ (limit : ℕ × Option ℕ). limit.0) (filter (λ cast. contains c cast.callers) casts)
+    differ_map (λ cast. actor_limit cast) (λ (limit : ℕ × Option ℕ). limit.0) (filter (λ cast. contains c cast.callers) casts)
     (AllPairs-filter (λ (one other : Cast K). one.actor ≢ other.actor) (λ cast. contains c cast.callers) casts differ)
 
 -- and none has the limit 0
-pub limits_fit : {K : Type 0} (c : ℕ) (casts : List (Cast K)) → All (λ cast. IsLimit cast.pending) casts → All (λ limit. limit.1 ≢ Some 0) (limits_that_name c casts)
+pub limits_fit : {K : Type 0} (c : ℕ) (casts : List (Cast K)) → All (λ cast. IsLimit cast.pending) casts →
+    All (λ limit. limit.1 ≢ Some 0) (limits_that_name c casts)
 limits_fit {K} c casts fit =
-    All-map (λ (limit : ℕ × Option ℕ). limit.1 ≢ Some 0) (λ (cast : Cast K). actor_limit cast) (filter (λ cast. contains c cast.callers) casts)
-    (All-filter (λ (cast : Cast K). contains c cast.callers) (λ (cast : Cast K). cast.pending ≢ Some 0) casts (λ i d within. some_calls (get_or casts i d).pending (fit i d within)))
+    All-map (λ (limit : ℕ × Option ℕ). limit.1 ≢ Some 0) (λ cast. actor_limit cast) (filter (λ cast. contains c cast.callers) casts)
+    (All-filter (λ (cast : Cast K). contains c cast.callers) (λ (cast : Cast K). cast.pending ≢ Some 0) casts
+    (λ i d within. some_calls (get_or casts i d).pending (fit i d within)))
   where
     some_calls : (limit : Option ℕ) → IsLimit limit → limit ≢ Some 0
     some_calls None is same = cc
@@ -40,10 +42,11 @@ is_in_more c d callers = list_any-append (λ m. m == d) callers (c ∷ [])
 
 seen : (c : ℕ) (owners : List OwnerView) (place : Option ℕ) → position (is_owner c) owners ≡ place → is_some (find (is_owner c) owners) ≡ is_some place
 seen c owners None at = rw (find-None (is_owner c) owners at) refl
-seen c owners (Some i) at = rw (find-Some (is_owner c) owners i (opened_with c []) at) refl
+seen c owners (Some i) at = rw (find-Some (is_owner c) owners (opened_with c []) at) refl
 
 -- a caller has a place where it is one of these
-listed : {K : Type 0} (casts : List (Cast K)) (callers : List ℕ) (owners : List OwnerView) (c : ℕ) → HasOwners casts callers owners → is_some (position (is_owner c) owners) ≡ contains c callers
+listed : {K : Type 0} (casts : List (Cast K)) (callers : List ℕ) (owners : List OwnerView) (c : ℕ) → HasOwners casts callers owners →
+    is_some (position (is_owner c) owners) ≡ contains c callers
 listed casts callers owners c has = sym (seen c owners (position (is_owner c) owners) refl) ∙ ap is_some (has c) ∙ there (contains c callers)
   where
     there : (b : Bool) → is_some (if b then Some (opened_with c (limits_that_name c casts)) else None) ≡ b
@@ -68,9 +71,12 @@ owner_new casts callers owners c absent has d =
     let is_out : contains c callers ≡ false = sym (listed casts callers owners c has) ∙ absent in
     elim (eqb_tells c d) [
       | inl t ↦
-          subst (λ x. find (is_owner x) (owners ++ one ∷ []) ≡ (if contains x (callers ++ c ∷ []) then Some (opened_with x (limits_that_name x casts)) else None)) t.1
+          subst (λ x. find (is_owner x)
+          (owners ++ one ∷ []) ≡ (if contains x (callers ++ c ∷ []) then Some (opened_with x (limits_that_name x casts)) else None)) t.1
           (rw (find-append (is_owner c) owners (one ∷ []), is_in_more c c callers, has c, is_out, eq-eqb c c refl) refl)
-      | inr f ↦ rw (find-append (is_owner d) owners (one ∷ []), is_in_more c d callers, f.0, or-false (contains d callers), or_nothing (find (is_owner d) owners)) (has d)
+      | inr
+          f ↦ rw (find-append (is_owner d) owners (one ∷ []), is_in_more c d callers, f.0, or-false (contains d callers), or_nothing (find (is_owner d) owners))
+          (has d)
     ]
   where
     or_nothing : (o : Option OwnerView) → option_or o None ≡ o
@@ -92,10 +98,11 @@ no_limit {K} a c (cast ∷ casts) all =
     let rest = no_limit a c casts (All-tail (λ (cast : Cast K). a ≢ cast.actor) cast casts all) in
     elim (eqb_tells cast.actor a) [
       | inl t ↦ absurd (all 0 cast (omega arith) (sym t.1))
-      | inr f ↦ elim (contains c cast.callers) as (λ b. find (λ (limit : ℕ × Option ℕ). limit.0 == a) (map (λ (cast : Cast K). actor_limit cast) (if b then cast ∷ filter (λ cast. contains c cast.callers) casts else filter (λ cast. contains c cast.callers) casts)) ≡ None) [
-        | true ↦ rw f.0 rest
-        | false ↦ rest
-      ]
+      | inr f ↦ elim (contains c cast.callers) as (λ b. find (λ (limit : ℕ × Option ℕ). limit.0 == a) (map (λ cast. actor_limit cast)
+          (if b then cast ∷ filter (λ cast. contains c cast.callers) casts else filter (λ cast. contains c cast.callers) casts)) ≡ None) [
+            | true ↦ rw f.0 rest
+            | false ↦ rest
+          ]
     ]
 
 -- an actor with its limit, where its cast names the caller
@@ -112,13 +119,15 @@ limit_found {K} state a c (cast ∷ casts) differ =
     elim (eqb_tells cast.actor a) [
       | inl t ↦
           let none = no_limit a c casts (λ k d within same. differ_head cast casts differ k d within (t.1 ∙ same)) in
-          rw t.0 (elim (contains c cast.callers) as (λ b. find (λ (limit : ℕ × Option ℕ). limit.0 == a) (map (λ (cast : Cast K). actor_limit cast) (if b then cast ∷ others else others))
+          rw t.0 (elim (contains c cast.callers) as
+          (λ b. find (λ (limit : ℕ × Option ℕ). limit.0 == a) (map (λ cast. actor_limit cast) (if b then cast ∷ others else others))
           ≡ (if b then Some (cast.actor, cast.pending) else None)) [
             | true ↦ rw t.0 refl
             | false ↦ none
           ])
       | inr f ↦
-          rw f.0 (elim (contains c cast.callers) as (λ b. find (λ (limit : ℕ × Option ℕ). limit.0 == a) (map (λ (cast : Cast K). actor_limit cast) (if b then cast ∷ others else others))
+          rw f.0 (elim (contains c cast.callers) as
+          (λ b. find (λ (limit : ℕ × Option ℕ). limit.0 == a) (map (λ cast. actor_limit cast) (if b then cast ∷ others else others))
           ≡ limit_at c (cast_of a (opening (map (actor_spec state) casts)))) [
             | true ↦ rw f.0 rest
             | false ↦ rest
@@ -141,7 +150,8 @@ limit_tells c (Some cast) = told (contains c cast.callers) (cast.actor, cast.pen
     told false limit = (refl, refl)
 
 -- the callers that the casts name are the world's
-caller_named : {K : Type 0} (state : K → KindState) (c : ℕ) (casts : List (Cast K)) → contains c (callers_named casts) ≡ is_caller c (opening (map (actor_spec state) casts))
+caller_named : {K : Type 0} (state : K → KindState) (c : ℕ) (casts : List (Cast K)) →
+    contains c (callers_named casts) ≡ is_caller c (opening (map (actor_spec state) casts))
 caller_named state c [] = refl
 caller_named state c (cast ∷ casts) =
     list_any-append (λ m. m == c) cast.callers (callers_named casts) ∙ ap (λ b. contains c cast.callers || b) (caller_named state c casts)
@@ -150,7 +160,8 @@ caller_named state c (cast ∷ casts) =
 pub nothing_asked : (a : ℕ) → unwrap_or (slice_get (replicate 9 false) a) false ≡ false
 nothing_asked a = none_dead 9 a
 
-owner_opened : {K : Type 0} (state : K → KindState) (c : ℕ) (casts : List (Cast K)) → ActorsDiffer casts → IsOwnerOf (opening (map (actor_spec state) casts)) c (opened_with c (limits_that_name c casts))
+owner_opened : {K : Type 0} (state : K → KindState) (c : ℕ) (casts : List (Cast K)) → ActorsDiffer casts →
+    IsOwnerOf (opening (map (actor_spec state) casts)) c (opened_with c (limits_that_name c casts))
 owner_opened state c casts differ = record {
   id = refl;
   copies = λ a. copies-opened a (map (λ (limit : ℕ × Option ℕ). limit.0) (limits_that_name c casts))
@@ -165,24 +176,28 @@ owner_opened state c casts differ = record {
 }
 
 -- where no actor has two casts, the callers opened with these have what the history tells at the opening
-pub owners_opened : {K : Type 0} (state : K → KindState) (casts : List (Cast K)) (owners : List OwnerView) → ActorsDiffer casts → HasOwners casts (callers_named casts) owners → (c : ℕ) → IsOwnerAt (opening (map (actor_spec state) casts)) c (find (is_owner c) owners)
+pub owners_opened : {K : Type 0} (state : K → KindState) (casts : List (Cast K)) (owners : List OwnerView) → ActorsDiffer casts →
+    HasOwners casts (callers_named casts) owners → (c : ℕ) → IsOwnerAt (opening (map (actor_spec state) casts)) c (find (is_owner c) owners)
 owners_opened state casts owners differ has c =
     subst (IsOwnerAt (opening (map (actor_spec state) casts)) c) (sym (has c)) (go (contains c (callers_named casts)) (sym (caller_named state c casts)))
   where
-    go : (b : Bool) → is_caller c (opening (map (actor_spec state) casts)) ≡ b → IsOwnerAt (opening (map (actor_spec state) casts)) c (if b then Some (opened_with c (limits_that_name c casts)) else None)
+    go : (b : Bool) → is_caller c (opening (map (actor_spec state) casts)) ≡ b →
+        IsOwnerAt (opening (map (actor_spec state) casts)) c (if b then Some (opened_with c (limits_that_name c casts)) else None)
     go true e = (e, owner_opened state c casts differ)
     go false e = e
 
 -- ---- the callers so far
 
-pub one_more : {K : Type 0} (casts : List (Cast K)) (callers these : List ℕ) (i c : ℕ) (owners : List OwnerView) → i < length these → c ≡ get_or these i c → HasOwners casts ((callers ++ take i these) ++ c ∷ []) owners → HasOwners casts (callers ++ take (i + 1) these) owners
+pub one_more : {K : Type 0} (casts : List (Cast K)) (callers these : List ℕ) (i c : ℕ) (owners : List OwnerView) → i < length these → c ≡ get_or these i c →
+    HasOwners casts ((callers ++ take i these) ++ c ∷ []) owners → HasOwners casts (callers ++ take (i + 1) these) owners
 one_more casts callers these i c owners within is =
-    subst (λ (named : List ℕ). HasOwners casts named owners)
-    (append_assoc callers (take i these) (c ∷ []) ∙ ap (λ (named : List ℕ). callers ++ named) (ap (λ (last : ℕ). take i these ++ last ∷ []) is ∙ sym (take_more these i c within)))
+    subst (λ named. HasOwners casts named owners)
+    (append_assoc callers (take i these) (c ∷ []) ∙
+    ap (λ named. callers ++ named) (ap (λ last. take i these ++ last ∷ []) is ∙ sym (take_more these i c within)))
 
-pub cast_more : {K : Type 0} (casts : List (Cast K)) (i : ℕ) (cast : Cast K) (owners : List OwnerView) → i < length casts → cast ≡ get_or casts i cast → HasOwners casts (callers_named (take i casts) ++ cast.callers) owners → HasOwners casts (callers_named (take (i + 1) casts)) owners
-cast_more {K} casts i cast owners within is =
-    subst (λ (named : List ℕ). HasOwners casts named owners)
-    (ap (λ (named : List ℕ). callers_named (take i casts) ++ named) (sym (append-nil cast.callers))
-    ∙ sym (flat_map-append (λ (cast : Cast K). cast.callers) (take i casts) (cast ∷ []))
-    ∙ ap callers_named (ap (λ (last : Cast K). take i casts ++ last ∷ []) is ∙ sym (take_more casts i cast within)))
+pub cast_more : {K : Type 0} (casts : List (Cast K)) {i : ℕ} {cast : Cast K} (owners : List OwnerView) → i < length casts → cast ≡ get_or casts i cast →
+    HasOwners casts (callers_named (take i casts) ++ cast.callers) owners → HasOwners casts (callers_named (take (i + 1) casts)) owners
+cast_more {K} casts {i} {cast} owners within is =
+    subst (λ named. HasOwners casts named owners)
+    (ap (λ named. callers_named (take i casts) ++ named) (sym (append-nil cast.callers)) ∙ sym (flat_map-append (λ (cast : Cast K). cast.callers) (take i casts)
+    (cast ∷ [])) ∙ ap callers_named (ap (λ last. take i casts ++ last ∷ []) is ∙ sym (take_more casts i cast within)))

@@ -9,15 +9,17 @@ pub kept_long : (h : History) (c : ℕ) → length (kept_of c h) ≡ length (cal
 kept_long h c = length-map (enumerate_from 0 (calls_of c h)) (first_answer h c) ∙ length-enumerate_from 0 (calls_of c h)
 
 -- the calls that wait are those that have no answer
-waiting_from : (a n : ℕ) (whole kept : List (Option Answer)) (calls : List Submission) → length kept ≡ length calls → ((i : ℕ) → slice_get kept i ≡ slice_get whole (n + i))
-    → length (filter (call_waits_for a) (zip calls kept)) ≡ length (filter (λ (call : ℕ × Submission). is_none (kept_at whole call.0)) (filter (λ (call : ℕ × Submission). call.1.actor == a) (enumerate_from n calls)))
+waiting_from : (a n : ℕ) (whole kept : List (Option Answer)) (calls : List Submission) → length kept ≡ length calls →
+    ((i : ℕ) → slice_get kept i ≡ slice_get whole (n + i)) → length (filter (call_waits_for a) (zip calls kept)) ≡ length
+    (filter (λ (call : ℕ × Submission). is_none (kept_at whole call.0)) (filter (λ (call : ℕ × Submission). call.1.actor == a) (enumerate_from n calls)))
 waiting_from a n whole [] [] long h = refl
 waiting_from a n whole (o ∷ kept) [] long h = absurd (cc)
 waiting_from a n whole [] (x ∷ calls) long h = absurd (cc)
 waiting_from a n whole (o ∷ kept) (x ∷ calls) long h =
     let none : n + 0 ≡ n = omega arith in
-    let here : kept_at whole n ≡ o = sym (ap (λ (m : ℕ). kept_at whole m) none) ∙ ap (λ (found : Option (Option Answer)). option_and_then (λ (answer : Option Answer). answer) found) (sym (h 0)) in
-    let rest = waiting_from a (n + 1) whole kept calls (omega arith) (λ i. let more : n + suc i ≡ (n + 1) + i = omega arith in h (suc i) ∙ ap (slice_get whole) more) in
+    let here : kept_at whole n ≡ o = sym (ap (λ m. kept_at whole m) none) ∙ ap (λ found. option_and_then (λ answer. answer) found) (sym (h 0)) in
+    let rest = waiting_from a (n + 1) whole kept calls (omega arith)
+    (λ i. let more : n + suc i ≡ (n + 1) + i = omega arith in h (suc i) ∙ ap (slice_get whole) more) in
     go (x.actor == a) o here rest
   where
     ahead : List (ℕ × Submission)
@@ -26,8 +28,9 @@ waiting_from a n whole (o ∷ kept) (x ∷ calls) long h =
     behind : List (Submission × Option Answer)
     behind = filter (call_waits_for a) (zip calls kept)
 
-    go : (b : Bool) (o : Option Answer) → kept_at whole n ≡ o → length behind ≡ length (filter (λ (call : ℕ × Submission). is_none (kept_at whole call.0)) ahead)
-        → length (cond (b && not (is_some o)) ((x, o) ∷ behind) behind) ≡ length (filter (λ (call : ℕ × Submission). is_none (kept_at whole call.0)) (cond b ((n, x) ∷ ahead) ahead))
+    go : (b : Bool) (o : Option Answer) → kept_at whole n ≡ o → length behind ≡ length
+        (filter (λ (call : ℕ × Submission). is_none (kept_at whole call.0)) ahead) → length (cond (b && not (is_some o)) ((x, o) ∷ behind) behind) ≡ length
+        (filter (λ (call : ℕ × Submission). is_none (kept_at whole call.0)) (cond b ((n, x) ∷ ahead) ahead))
     go false o here rest = rest
     go true None here rest = rw here (ap suc rest)
     go true (Some answer) here rest = rw here rest
@@ -36,6 +39,6 @@ waiting_from a n whole (o ∷ kept) (x ∷ calls) long h =
 pub unanswered_is : (h : History) (c a : ℕ) (owner : OwnerView) → IsOwnerOf h c owner → pending owner a ≡ unanswered c a h
 unanswered_is h c a owner is =
     sym (length-filter (call_waits_for a) (zip owner.calls owner.kept))
-    ∙ ap (λ (calls : List Submission). length (filter (call_waits_for a) (zip calls owner.kept))) is.calls
-    ∙ ap (λ (kept : List (Option Answer)). length (filter (call_waits_for a) (zip (calls_of c h) kept))) is.kept
+    ∙ ap (λ calls. length (filter (call_waits_for a) (zip calls owner.kept))) is.calls
+    ∙ ap (λ kept. length (filter (call_waits_for a) (zip (calls_of c h) kept))) is.kept
     ∙ waiting_from a 0 (kept_of c h) (kept_of c h) (calls_of c h) (kept_long h c) (λ i. let z : i ≡ 0 + i = omega arith in ap (slice_get (kept_of c h)) z)

@@ -16,13 +16,13 @@ use Rattle.act_owner.specs.Owner.{OwnerView, packet_at}
 use Rattle.act_world.specs.declared.network.CallKey.{CallKey}
 use Rattle.act_world.specs.declared.network.MailEntry.{MailEntry}
 use Rattle.act_world.specs.declared.network.MailEntry.TheVariants.{Call as CallEntry, Note as NoteEntry}
-use Rattle.act_world.specs.declared.network.Posted.{Posted}
+use Rattle.act_world.specs.declared.network.MailedNotice.{MailedNotice}
 
 -- the callers, all letters and all notices in order, and whether a kill of each actor was asked
 pub record NetworkView : Type 0 where
   pub owners : List OwnerView
   pub mail : List MailEntry
-  pub replies : List Posted
+  pub replies : List MailedNotice
   pub asked : List Bool
 
 -- the caller is this one

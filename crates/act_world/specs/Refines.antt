@@ -22,7 +22,7 @@ use Rattle.act_actor.specs.View.{ActorView, DeadView, RetiredView}
 use Rattle.act_world.specs.declared.network.CallKey.{CallKey}
 use Rattle.act_world.specs.declared.network.MailEntry.{MailEntry}
 use Rattle.act_world.specs.declared.network.MailEntry.TheVariants.{Call as CallEntry, Note as NoteEntry}
-use Rattle.act_world.specs.declared.network.Posted.{Posted}
+use Rattle.act_world.specs.declared.network.MailedNotice.{MailedNotice}
 use Rattle.act_world.specs.View.{is_owner, SlotView, Runs, Died, Ended, Vacant, WorldView}
 
 -- ---- a caller
@@ -79,7 +79,7 @@ reply_at h c a place None = None
 reply_at h c a place (Some item) = option_map (reply_as c a place item) (answer_of a place h)
 
 -- what a post tells
-abbrev pub posted_notice : History → Post → Option Posted
+abbrev pub posted_notice : History → Post → Option MailedNotice
 posted_notice h (ReplyPost c a place) = option_map (λ reply. record { caller = c; notice = Answered reply }) (reply_at h c a place (slice_get (runs_of a h) place))
 posted_notice h (DeathPost c a) = Some (record { caller = c; notice = Death a })
 

@@ -8,7 +8,7 @@ use Rattle.act_world.specs.declared.network.MailEntry.{MailEntry}
 use Rattle.act_world.specs.declared.network.MailEntry.TheVariants.{Call as CallEntry, Note as NoteEntry}
 use Rattle.act_types.specs.declared.call.Notice.TheVariants.{Answered}
 use Rattle.act_types.specs.declared.call.Reply.{Reply}
-use Rattle.act_world.specs.declared.network.Posted.{Posted}
+use Rattle.act_world.specs.declared.network.MailedNotice.{MailedNotice}
 use Rattle.act_rules.specs.declared.outcome.Arrival.{Arrival}
 use Rattle.act_rules.specs.declared.outcome.Arrival.TheVariants.{New}
 use Rattle.act_rules.specs.declared.outcome.Did.TheVariants.{Arrived, Dead, Retired, Ran, Gap}
@@ -88,7 +88,7 @@ bury_ended (Runs live) = if has_terminated live.log then dead_slot live else Run
 bury_ended slot = slot
 
 -- the running actor ran the caller's next call at this place, this is its slot then, and the reply is the last notice
-pub record HasRunIn (c : ℕ) (old : ActorView) (slot : SlotView) (replies posted : List Posted) (place j : ℕ) : Type 0 where
+pub record HasRunIn (c : ℕ) (old : ActorView) (slot : SlotView) (replies posted : List MailedNotice) (place j : ℕ) : Type 0 where
   pub reply : Reply
   pub new : ActorView
   pub next : HasRunNext c (Some reply) old new
@@ -98,7 +98,7 @@ pub record HasRunIn (c : ℕ) (old : ActorView) (slot : SlotView) (replies poste
   pub posted_is : posted ≡ replies ++ (record { caller = c; notice = Answered reply }) ∷ []
 
 -- a running actor ran the caller's next call, or that has not arrived; or the actor has ended
-abbrev pub IsRun : ℕ → SlotView → SlotView → List Posted → List Posted → Outcome → Type 0
+abbrev pub IsRun : ℕ → SlotView → SlotView → List MailedNotice → List MailedNotice → Outcome → Type 0
 IsRun c (Runs old) new replies posted (Ok (Ran place j)) = HasRunIn c old new replies posted place j
 IsRun c (Runs old) new replies posted told = (next_call old.log old.inbox c ≡ None) × (new ≡ Runs old) × (posted ≡ replies) × (told ≡ Ok Gap)
 IsRun c old new replies posted told = (new ≡ old) × (posted ≡ replies) × (told ≡ Err ActorEnded)

@@ -52,7 +52,7 @@ impl MailEntry {
 
 /// A notice, and the caller that it is for.
 #[derive(Drop)]
-pub(crate) struct Posted {
+pub(crate) struct MailedNotice {
     pub(crate) caller: CallerId,
     pub(crate) notice: Notice,
 }
@@ -74,7 +74,7 @@ pub(crate) fn copy_notice(alloc: Global, notice: &Notice) -> Result<Notice, NoMe
 pub(crate) struct Network {
     pub(crate) owners: Vec<Owner>,
     pub(crate) mail: Vec<MailEntry>,
-    pub(crate) replies: Vec<Posted>,
+    pub(crate) replies: Vec<MailedNotice>,
     pub(crate) asked: [bool; ACTOR_NUMBERS],
 }
 
@@ -192,7 +192,7 @@ impl Network {
     }
 
     /// The notice at a place of the replies.
-    pub(crate) fn notice(&self, j: u32) -> Option<&Posted>
+    pub(crate) fn notice(&self, j: u32) -> Option<&MailedNotice>
         ensures { option_copied result ≡ slice_get self.now.replies j }
     {
         self.replies.get(j as usize)

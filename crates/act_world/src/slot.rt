@@ -10,7 +10,7 @@ ghost use Rattle.act_world.specs.View.{Runs, slot_view, stage_view, stage_of_slo
 ghost use Rattle.act_world.specs.IsReachedBy.{is_memory};
 ghost use Rattle.act_world.specs.Slots.{is_dead_slot, has_next_in_slot, HasTakenCall, IsNewCall, IsBrought, IsRun, IsRetiredIn, dead_slot, take_kill};
 
-use crate::network::{CallKey, MailEntry, Network, Posted};
+use crate::network::{CallKey, MailEntry, MailedNotice, Network};
 use act_actor::{Dead, Live, Retired};
 use act_kinds::{Actor, Boxed};
 use act_rules::{Arrival, Did, HandleRefusal, Outcome, WorldRefusal};
@@ -133,7 +133,7 @@ fn bury<K: Actor>(slot: &mut Slot<K>)
 pub(crate) fn run_in<K: Actor>(
     slot: &mut Slot<K>,
     c: CallerId,
-    replies: &mut Vec<Posted>,
+    replies: &mut Vec<MailedNotice>,
 ) -> Result<Outcome, NoMemory>
     requires room { length replies.old.items < 4294967296 }
     ensures ok { IfOk result (IsRun c (slot_view K.state slot.old) (slot_view K.state slot.new)
@@ -158,7 +158,7 @@ pub(crate) fn run_in<K: Actor>(
     };
     let place = reply.place;
     let j = replies.len() as u32;
-    replies.push_reserved(Posted {
+    replies.push_reserved(MailedNotice {
         caller: c,
         notice: Notice::Answered(reply),
     });

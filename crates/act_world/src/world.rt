@@ -23,7 +23,7 @@ ghost use Rattle.act_owner.specs.Owner.{opened_with};
 ghost use Rattle.act_world.specs.Openings.{HasOwners};
 ghost use Rattle.act_rules.specs.declared.event.Event.TheVariants as event;
 
-use crate::network::{Network, Posted, make_room_for, place_of};
+use crate::network::{MailedNotice, Network, make_room_for, place_of};
 use crate::slot::{
     Slot, Stage, bring, is_dead_in, kill_in, put, retire_in, run_in, slot_at, slot_of,
 };
@@ -108,7 +108,7 @@ impl<K: Actor> World<K> {
         }
         self.network.replies.reserve(1)?;
         let j = self.network.replies.len() as u32;
-        self.network.replies.push_reserved(Posted {
+        self.network.replies.push_reserved(MailedNotice {
             caller: c,
             notice: Notice::Death(a),
         });

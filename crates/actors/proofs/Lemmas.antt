@@ -14,9 +14,12 @@ pub use Rattle.act_epochs.proofs.Growing.{are_more, left_more, runs_more, goes_o
 pub use Rattle.act_executor.proofs.OpenLines.Faults.{err_only}
 pub use Rattle.act_plans.proofs.Keys.{pairs_of_map}
 pub use Rattle.act_plans.proofs.Matching.{numbers_differ}
+-- the digits of a text have a value, as std reads them
+pub use Rattle.act_rules.proofs.Numbers.{digits_have_values}
 -- lists
 pub use Rattle.act_rules.proofs.Lists.{All_at, All_more, slice_get-enumerate_from, slice_get-filter}
 pub use Rattle.act_rules.proofs.AsSubmitted.{filter-slice_get}
 pub use Rattle.act_rules.proofs.Unique.{map-slice_get}
-pub use Rattle.act_rules.proofs.Elements.{all_in, found_is, finds, is_contained}
+pub use Rattle.act_rules.proofs.Elements.{all_by_places, all_in, found_is, finds, is_contained}
 pub use Rattle.act_executor.proofs.EndsOfRuns.Found.{one_of}
+pub use Rattle.act_executor.proofs.Lists.Places.{some_is}

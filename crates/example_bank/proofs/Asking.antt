@@ -1,5 +1,6 @@
 -- A teller at work.
-use Rattle.std.proofs.Common.{◌≡◌, ℕ, ◌<◌, ◌≤◌, List, [], ◌∷◌, ◌++◌, length, map, is_some, true, refl, ap, sym, ◌∙◌, subst, arith, inl, inr, eq-or-lt_of_le, length-append}
+use Rattle.std.proofs.Common.{◌≡◌, ℕ, ◌<◌, ◌≤◌, List, [], ◌∷◌, ◌++◌, length, map, is_some, true, ap, sym, ◌∙◌, subst, arith, inl, inr, eq-or-lt_of_le}
+use Rattle.std.proofs.Common.{length-append}
 use Rattle.std.specs.Prelude.{slice_index, All}
 use Rattle.std.proofs.lemmas.List.{map-append, length-map}
 use Rattle.std.proofs.Math.ListN.{get_or-append}
@@ -20,9 +21,9 @@ pub record Asking (done : List Request) (seen : SessionView) (futures : List ℕ
   pub count : length futures ≡ length done
   pub numbered : (k : ℕ) → k < length futures → slice_index futures k ≡ k
 
-calls_more : (done : List Request) (request : Request) (calls : List Submission) → calls ≡ map request_call done
+calls_more : (done : List Request) (request : Request) {calls : List Submission} → calls ≡ map request_call done
     → calls ++ request_call request ∷ [] ≡ map request_call (done ++ request ∷ [])
-calls_more done request calls e = ap (λ (l : List Submission). l ++ request_call request ∷ []) e ∙ sym (map-append request_call done (request ∷ []))
+calls_more done request e = ap (λ l. l ++ request_call request ∷ []) e ∙ sym (map-append request_call done (request ∷ []))
 
 at_most : (futures : List ℕ) (n k : ℕ) → k < length (futures ++ n ∷ []) → k ≤ length futures
 at_most futures n k below = omega (arith, below, length-append futures (n ∷ []))
@@ -30,22 +31,22 @@ at_most futures n k below = omega (arith, below, length-append futures (n ∷ []
 numbered_more : (futures : List ℕ) (n : ℕ) → n ≡ length futures → ((k : ℕ) → k < length futures → slice_index futures k ≡ k)
     → (k : ℕ) → k < length (futures ++ n ∷ []) → slice_index (futures ++ n ∷ []) k ≡ k
 numbered_more futures n e numbered k below = elim (eq-or-lt_of_le (at_most futures n k below)) [
-  | inl last ↦ ap (λ (m : ℕ). slice_index (futures ++ n ∷ []) m) last ∙ get_or-append_seam futures n [] 0 ∙ e ∙ sym last
+  | inl last ↦ ap (λ m. slice_index (futures ++ n ∷ []) m) last ∙ get_or-append_seam futures n [] 0 ∙ e ∙ sym last
   | inr less ↦ get_or-append futures (n ∷ []) 0 k less ∙ numbered k less
 ]
 
 -- one request more
-pub asks_more : (done : List Request) (request : Request) (old new : SessionView) (futures : List ℕ) (k : ℕ) (method : Method) (args : List Arg)
+pub asks_more : {done : List Request} (request : Request) {old : SessionView} (new : SessionView) {futures : List ℕ} (k : ℕ) {method : Method} {args : List Arg}
     → Asking done old futures → method ≡ Own (call_word request.call) → args ≡ map Plain (call_values request.call) → k ≡ length old.calls
     → Submits (record { actor = request.branch; method = method; args = args }) old new
     → Asking (done ++ request ∷ []) new (futures ++ k ∷ [])
-asks_more done request old new futures k method args asking word values future submits =
+asks_more {done} request {old} new {futures} k {method} {args} asking word values future submits =
     let call : record { actor = request.branch; method = method; args = args } ≡ request_call request =
-    ap (λ (m : Method). record { actor = request.branch; method = m; args = args }) word
-    ∙ ap (λ (l : List Arg). record { actor = request.branch; method = Own (call_word request.call); args = l }) values in
+    ap (λ m. record { actor = request.branch; method = m; args = args }) word
+    ∙ ap (λ l. record { actor = request.branch; method = Own (call_word request.call); args = l }) values in
     let count : length old.calls ≡ length futures = ap length asking.calls ∙ length-map done request_call ∙ sym asking.count in
     record {
-      calls = submits.calls ∙ ap (λ (c : Submission). old.calls ++ c ∷ []) call ∙ calls_more done request old.calls asking.calls;
+      calls = submits.calls ∙ ap (λ c. old.calls ++ c ∷ []) call ∙ calls_more done request asking.calls;
       count = omega (arith, asking.count, length-append futures (k ∷ []), length-append done (request ∷ []));
       numbered = numbered_more futures k (future ∙ count) asking.numbered;
     }
@@ -57,5 +58,5 @@ asked requests seen last futures asking hears all = record {
   calls = hears.calls ∙ asking.calls;
   answered = λ k below.
       let within : k < length futures = omega (arith, below, asking.count) in
-      subst (λ (n : ℕ). is_some (kept_at last.kept n) ≡ true) (asking.numbered k within) (all k 0 within);
+      subst (λ n. is_some (kept_at last.kept n) ≡ true) (asking.numbered k within) (all k 0 within);
 }

@@ -23,14 +23,14 @@ pub served : (known : List ActorSpec → List (Epoch Teller) → Type 0) (casts 
     → KeptOverEpochs teller_tells bank_step bank_text HoldsItsMoney → EpochsAreConsistent teller_tells
     → HaveLed teller_tells known casts left → HasServed left
 served known casts left opened kept consistent led =
-    let follow : AreEpochs teller_tells all_opened led.epochs = subst (λ (cs : List ActorSpec). AreEpochs teller_tells cs led.epochs) opened led.follow in
-    let after : left ≡ casts_after all_opened led.epochs = subst (λ (cs : List ActorSpec). left ≡ casts_after cs led.epochs) opened led.after in
+    let follow : AreEpochs teller_tells all_opened led.epochs = subst (λ cs. AreEpochs teller_tells cs led.epochs) opened led.follow in
+    let after : left ≡ casts_after all_opened led.epochs = subst (λ cs. left ≡ casts_after cs led.epochs) opened led.after in
     record {
       epochs = led.epochs;
       follow = follow;
       after = after;
       money = λ n least most.
-          subst (λ (cs : List ActorSpec). CastKeeps bank_step bank_text HoldsItsMoney (empty_bank BRANCH_ACCOUNTS) (runs n led.epochs) (branch_left n cs))
+          subst (λ cs. CastKeeps bank_step bank_text HoldsItsMoney (empty_bank BRANCH_ACCOUNTS) (runs n led.epochs) (branch_left n cs))
           (sym after)
           (kept keeps all_opened led.epochs follow n (replicate BRANCH_ACCOUNTS 0) (opens n least most) (empty BRANCH_ACCOUNTS));
       order = consistent all_opened led.epochs follow;

@@ -1,9 +1,9 @@
 -- An account holds what was put in, less what was taken out.
-use Rattle.example_callers.proofs.Common.{◌≡◌, ℕ, zero, suc, ◌+◌, ◌-◌, ◌≤◌, List, [], ◌∷◌, zip, Bool, true, false, refl, ap, sym, ◌∙◌, subst, ℤ, pos, negsuc, ◌+ℤ◌}
-use Rattle.example_callers.proofs.Common.{◌-ℤ◌, arith, Some, Result, Ok, Err, int_lt, nat_le, sum_by, leb-true, sum_by-cons, Value, Method, Settled, Good, Bad}
-use Rattle.example_callers.proofs.Common.{Fault, NoMethod, BadArgs, BadAmount, Overflow, Insufficient, Dependency, KindState, AccountAt, is_in_range, need, Answer}
-use Rattle.example_callers.proofs.Common.{step_of_reply, RunItem, values_of, with_value, step_of_call, after_item, answers_from, state_after, paid_in_by}
-use Rattle.example_callers.proofs.Common.{paid_out_by, put_in, taken_in, HoldsWhatWasPutIn}
+use Rattle.example_callers.proofs.Common.{◌≡◌, ℕ, zero, suc, ◌+◌, ◌-◌, ◌≤◌, List, [], ◌∷◌, zip, Bool, true, false, refl, ap, sym, ◌∙◌, subst, ℤ, pos, negsuc}
+use Rattle.example_callers.proofs.Common.{◌+ℤ◌, ◌-ℤ◌, arith, Some, Result, Ok, Err, int_lt, nat_le, sum_by, leb-true, sum_by-cons, Value, Method, Settled, Good}
+use Rattle.example_callers.proofs.Common.{Bad, Fault, NoMethod, BadArgs, BadAmount, Overflow, Insufficient, Dependency, KindState, AccountAt, is_in_range, need}
+use Rattle.example_callers.proofs.Common.{Answer, step_of_reply, RunItem, values_of, with_value, step_of_call, after_item, answers_from, state_after}
+use Rattle.example_callers.proofs.Common.{paid_in_by, paid_out_by, put_in, taken_in, HoldsWhatWasPutIn}
 use Rattle.actors.specs.Value.TheVariants.{Unit as Nothing, Int, Text}
 use Rattle.actors.specs.Method.TheVariants as m
 
@@ -32,7 +32,8 @@ deposited n (pos zero) = refused n m.Deposit (Good (Int (pos zero)) ∷ []) BadA
 deposited n (negsuc k) = refused n m.Deposit (Good (Int (negsuc k)) ∷ []) BadAmount
 deposited n (pos (suc k)) = go (int_lt (pos zero) (pos (suc k))) (is_in_range (pos n +ℤ pos (suc k)))
   where
-    go : (a b : Bool) → Steps n m.Deposit (Good (Int (pos (suc k))) ∷ []) (step_of_reply (AccountAt (pos n)) (need a BadAmount (need b Overflow (Ok (AccountAt (pos n +ℤ pos (suc k)), Int (pos n +ℤ pos (suc k)))))))
+    go : (a b : Bool) → Steps n m.Deposit (Good (Int (pos (suc k))) ∷ [])
+        (step_of_reply (AccountAt (pos n)) (need a BadAmount (need b Overflow (Ok (AccountAt (pos n +ℤ pos (suc k)), Int (pos n +ℤ pos (suc k)))))))
     go true true = record { balance = n + suc k; left = refl; kept = omega arith }
     go true false = refused n m.Deposit (Good (Int (pos (suc k))) ∷ []) Overflow
     go false b = refused n m.Deposit (Good (Int (pos (suc k))) ∷ []) BadAmount
@@ -42,7 +43,8 @@ withdrawn n (pos zero) = refused n m.Withdraw (Good (Int (pos zero)) ∷ []) Bad
 withdrawn n (negsuc k) = refused n m.Withdraw (Good (Int (negsuc k)) ∷ []) BadAmount
 withdrawn n (pos (suc k)) = go (int_lt (pos zero) (pos (suc k))) (nat_le (suc k) n) refl
   where
-    go : (a b : Bool) → nat_le (suc k) n ≡ b → Steps n m.Withdraw (Good (Int (pos (suc k))) ∷ []) (step_of_reply (AccountAt (pos n)) (need a BadAmount (need b Insufficient (Ok (AccountAt (pos n -ℤ pos (suc k)), Int (pos n -ℤ pos (suc k)))))))
+    go : (a b : Bool) → nat_le (suc k) n ≡ b → Steps n m.Withdraw (Good (Int (pos (suc k))) ∷ [])
+        (step_of_reply (AccountAt (pos n)) (need a BadAmount (need b Insufficient (Ok (AccountAt (pos n -ℤ pos (suc k)), Int (pos n -ℤ pos (suc k)))))))
     go true true e = let l = less n k (leb-true (suc k) n e) in record { balance = l.0; left = ap AccountAt l.2; kept = omega (arith, l.1) }
     go true false e = refused n m.Withdraw (Good (Int (pos (suc k))) ∷ []) Insufficient
     go false b e = refused n m.Withdraw (Good (Int (pos (suc k))) ∷ []) BadAmount
@@ -54,13 +56,15 @@ foreign n method args (Err k) faults = refused n method args (Dependency k)
 foreign n method args (Ok vs) faults = subst (Steps n method args) (sym (faults vs)) (refused n method args NoMethod)
 
 -- two values or more
-deposits_two : (n : ℕ) (args : List Settled) (v w : Value) (vs : Result (List Value) ℕ) → Steps n m.Deposit args (asks n m.Deposit (with_value v (with_value w vs)))
+deposits_two : (n : ℕ) (args : List Settled) (v w : Value) (vs : Result (List Value) ℕ) →
+    Steps n m.Deposit args (asks n m.Deposit (with_value v (with_value w vs)))
 deposits_two n args v w (Err k) = refused n m.Deposit args (Dependency k)
 deposits_two n args Nothing w (Ok vs) = refused n m.Deposit args BadArgs
 deposits_two n args (Int k) w (Ok vs) = refused n m.Deposit args BadArgs
 deposits_two n args (Text t) w (Ok vs) = refused n m.Deposit args BadArgs
 
-withdraws_two : (n : ℕ) (args : List Settled) (v w : Value) (vs : Result (List Value) ℕ) → Steps n m.Withdraw args (asks n m.Withdraw (with_value v (with_value w vs)))
+withdraws_two : (n : ℕ) (args : List Settled) (v w : Value) (vs : Result (List Value) ℕ) →
+    Steps n m.Withdraw args (asks n m.Withdraw (with_value v (with_value w vs)))
 withdraws_two n args v w (Err k) = refused n m.Withdraw args (Dependency k)
 withdraws_two n args Nothing w (Ok vs) = refused n m.Withdraw args BadArgs
 withdraws_two n args (Int k) w (Ok vs) = refused n m.Withdraw args BadArgs
@@ -119,18 +123,24 @@ into ran = paid_in_by (Some ran.1) ran.0.method ran.0.args
 record Goes (n : ℕ) (item : RunItem) (items : List RunItem) (done : KindState × Answer) : Type 0 where
   balance : ℕ
   left : state_after done.0 items ≡ AccountAt (pos balance)
-  kept : balance + sum_by out_of ((item, done.1) ∷ zip items (answers_from done.0 items)) ≡ n + sum_by into ((item, done.1) ∷ zip items (answers_from done.0 items))
+  kept : balance + sum_by out_of ((item, done.1) ∷ zip items (answers_from done.0 items)) ≡ n + sum_by into
+      ((item, done.1) ∷ zip items (answers_from done.0 items))
 
-goes : (n : ℕ) (item : RunItem) (items : List RunItem) (done : KindState × Answer) → Steps n item.method item.args done → ((b : ℕ) → HoldsWhatWasPutIn b items) → Goes n item items done
+goes : (n : ℕ) (item : RunItem) (items : List RunItem) (done : KindState × Answer) → Steps n item.method item.args done →
+    ((b : ℕ) → HoldsWhatWasPutIn b items) → Goes n item items done
 goes n item items done one rest =
     let h : HoldsWhatWasPutIn one.balance items = rest one.balance in
-    let out : sum_by out_of ((item, done.1) ∷ zip items (answers_from done.0 items)) ≡ paid_out_by (Some done.1) item.method item.args + taken_in (AccountAt (pos one.balance)) items =
-    sum_by-cons out_of (item, done.1) (zip items (answers_from done.0 items)) ∙ ap (λ (s : KindState). paid_out_by (Some done.1) item.method item.args + taken_in s items) one.left in
-    let in_all : sum_by into ((item, done.1) ∷ zip items (answers_from done.0 items)) ≡ paid_in_by (Some done.1) item.method item.args + put_in (AccountAt (pos one.balance)) items =
-    sum_by-cons into (item, done.1) (zip items (answers_from done.0 items)) ∙ ap (λ (s : KindState). paid_in_by (Some done.1) item.method item.args + put_in s items) one.left in
+    let out : sum_by out_of ((item, done.1) ∷ zip items (answers_from done.0 items)) ≡ paid_out_by (Some done.1) item.method item.args + taken_in
+    (AccountAt (pos one.balance)) items =
+    sum_by-cons out_of (item, done.1) (zip items (answers_from done.0 items)) ∙
+    ap (λ s. paid_out_by (Some done.1) item.method item.args + taken_in s items) one.left in
+    let in_all : sum_by into ((item, done.1) ∷ zip items (answers_from done.0 items)) ≡ paid_in_by (Some done.1) item.method item.args + put_in
+    (AccountAt (pos one.balance)) items =
+    sum_by-cons into (item, done.1) (zip items (answers_from done.0 items)) ∙
+    ap (λ s. paid_in_by (Some done.1) item.method item.args + put_in s items) one.left in
     record {
       balance = h.balance;
-      left = ap (λ (s : KindState). state_after s items) one.left ∙ h.left;
+      left = ap (λ s. state_after s items) one.left ∙ h.left;
       kept = omega (arith, out, in_all, one.kept, h.kept);
     }
 
@@ -138,6 +148,8 @@ goes n item items done one rest =
 pub holds_what_was_put_in : (n : ℕ) (items : List RunItem) → HoldsWhatWasPutIn n items
 holds_what_was_put_in n [] = record { balance = n; left = refl; kept = refl }
 holds_what_was_put_in n (item ∷ items) =
-    let one : Steps n item.method item.args (after_item (AccountAt (pos n)) item) = subst (Steps n item.method item.args) (sym (asks_so n item (values_of item.args))) (step n item.method item.args) in
-    let all : Goes n item items (after_item (AccountAt (pos n)) item) = goes n item items (after_item (AccountAt (pos n)) item) one (λ b. holds_what_was_put_in b items) in
+    let one : Steps n item.method item.args (after_item (AccountAt (pos n)) item) =
+    subst (Steps n item.method item.args) (sym (asks_so n item (values_of item.args))) (step n item.method item.args) in
+    let all : Goes n item items (after_item (AccountAt (pos n)) item) =
+    goes n item items (after_item (AccountAt (pos n)) item) one (λ b. holds_what_was_put_in b items) in
     record { balance = all.balance; left = all.left; kept = all.kept }

@@ -1,6 +1,6 @@
 -- The names of specifications and of the crates below that most proofs here cite, passed on from one place.
-pub use Rattle.actors.proofs.Lemmas.{All_at, all_in, filter-slice_get, finds, found_is, is_contained, map-slice_get, numbers_differ, one_of, pairs_of_map}
-pub use Rattle.actors.proofs.Lemmas.{run_keeps, slice_get-enumerate_from, slice_get-filter}
+pub use Rattle.actors.proofs.Lemmas.{All_at, all_by_places, all_in, filter-slice_get, finds, found_is, is_contained, map-slice_get, numbers_differ, one_of}
+pub use Rattle.actors.proofs.Lemmas.{pairs_of_map, run_keeps, slice_get-enumerate_from, slice_get-filter}
 pub use Rattle.actors.specs.Actors.{RetiredView, actor_spec, after_item, answer_at, answers_from, items_of, state_after, step_of_call, values_of, with_value}
 pub use Rattle.actors.specs.Arg.{Arg}
 pub use Rattle.actors.specs.Arg.TheVariants.{Plain}

@@ -31,7 +31,7 @@ holds_as_much : (one other : Purse) → purse_at one ≡ purse_at other → (n :
 holds_as_much one other e zero h = omega arith
 holds_as_much one other e (suc n) h =
     let may : nat_le (suc n) other.held ≡ true =
-    sym (gives_if other n) ∙ ap (λ (state : KindState). gives state (paying (suc n))) (sym e) ∙ gives_if one n ∙ grind (arith, h) in
+    sym (gives_if other n) ∙ ap (λ state. gives state (paying (suc n))) (sym e) ∙ gives_if one n ∙ grind (arith, h) in
     grind (arith, may)
 
 pub same_held : (one other : Purse) → purse_at one ≡ purse_at other → one.held ≡ other.held
@@ -41,20 +41,20 @@ same_held one other e =
     omega (arith, up, down)
 
 -- the actor is one purse
-pub same_purse : (h : History) (a : ℕ) (one other : Purse) → IsPurse h a one → IsPurse h a other → one.held ≡ other.held
-same_purse h a one other p q =
+pub same_purse : (h : History) {a : ℕ} {one : Purse} (other : Purse) → IsPurse h a one → IsPurse h a other → one.held ≡ other.held
+same_purse h {a} {one} other p q =
     let cast : Some p.cast ≡ Some q.cast = sym p.cast_is ∙ q.cast_is in
     let same : p.cast ≡ q.cast = cc in
     same_held one other (sym p.state ∙ ap (λ (cast : ActorSpec). state_after cast.opening (runs_of a h)) same ∙ q.state)
 
 -- the two hold the sum together exactly where their amounts add to it
-pub kept_if : (t : Together) (h : History) (one other : Purse) (b : Bool) → IsPurse h t.one one → IsPurse h t.other other
+pub kept_if : (t : Together) {h : History} {one other : Purse} (b : Bool) → IsPurse h t.one one → IsPurse h t.other other
     → (IsTrue b ↔ (one.held + other.held ≡ t.sum)) → (IsTrue b ↔ HoldTogether t h)
-kept_if t h one other b p q adds = (
+kept_if t {h} {one} {other} b p q adds = (
   λ yes. record { one = one; other = other; one_is = p; other_is = q; sum_is = adds.0 yes },
   λ held.
-      let first : held.one.held ≡ one.held = same_purse h t.one held.one one held.one_is p in
-      let second : held.other.held ≡ other.held = same_purse h t.other held.other other held.other_is q in
+      let first : held.one.held ≡ one.held = same_purse h one held.one_is p in
+      let second : held.other.held ≡ other.held = same_purse h other held.other_is q in
       let sum : held.one.held + held.other.held ≡ t.sum = held.sum_is in
       adds.1 (omega (arith, first, second, sum)),
 )

@@ -35,21 +35,21 @@ record IsThere (ends : List EndView) (a : ℕ) : Type 0 where
   end : EndView
   inside : IsIn ends end
   id : end_id end ≡ a
-  is : find (λ (x : EndView). end_id x == a) ends ≡ Some end
+  is : find (λ x. end_id x == a) ends ≡ Some end
 
 there : (casts : List ActorSpec) (ends : List EndView) (a : ℕ) (cast : ActorSpec) → map end_id ends ≡ actors_of_casts casts
     → 1 ≤ a → a ≤ MAX_ACTORS → cast_at a casts ≡ Some cast → IsThere ends a
 there casts ends a cast ids low high e =
-    let at = found_is (λ (x : ActorSpec). x.actor == a) casts cast e in
+    let at = found_is (λ (x : ActorSpec). x.actor == a) casts e in
     let any : list_any (λ (x : ActorSpec). x.actor == a) casts ≡ true =
     any_passes_from_place (λ (x : ActorSpec). x.actor == a) casts at.inside.place cast at.inside.at at.passes in
     let within : IsIn (actors_of_casts casts) a =
-    in_filter (λ (n : ℕ). list_any (λ (x : ActorSpec). x.actor == n) casts) (one_to MAX_ACTORS) a
-    (in_from_contains (one_to MAX_ACTORS) a (in_one_to MAX_ACTORS a low high)) any in
-    let listed : IsIn (map end_id ends) a = subst (λ (ns : List ℕ). IsIn ns a) (sym ids) within in
-    let one = map-slice_get end_id ends listed.place a listed.at in
-    let found = finds (λ (end : EndView). end_id end == a) ends listed.place one.0 one.1 (eq-eqb (end_id one.0) a one.2) in
-    let is = found_is (λ (end : EndView). end_id end == a) ends found.one found.is in
+    in_filter (λ n. list_any (λ (x : ActorSpec). x.actor == n) casts)
+    (in_from_contains (one_to MAX_ACTORS) a (in_one_to MAX_ACTORS low high)) any in
+    let listed : IsIn (map end_id ends) a = subst (λ ns. IsIn ns a) (sym ids) within in
+    let one = map-slice_get end_id ends listed.place listed.at in
+    let found = finds (λ end. end_id end == a) ends listed.place one.0 one.1 (eq-eqb (end_id one.0) a one.2) in
+    let is = found_is (λ end. end_id end == a) ends found.is in
     record { end = found.one; inside = is.inside; id = eqb-true (end_id found.one) a is.passes; is = found.is }
 
 -- ---- it retired with the purse of the history
@@ -65,7 +65,7 @@ leaves : (casts : List ActorSpec) (owners : List OwnerView) (h : History) (purse
 leaves casts owners h purse (Killed dead) same p can ran = let died : is_dead dead.id h ≡ true = can.ends in absurd (cc (died, p.lives))
 leaves casts owners h purse (Starved dead) same p can ran = absurd can.ends
 leaves casts owners h purse (Retired retired) same p can ran =
-    let here : cast_at retired.id casts ≡ Some p.cast = ap (λ (l : List ActorSpec). cast_at retired.id l) (sym same) ∙ p.cast_is in
+    let here : cast_at retired.id casts ≡ Some p.cast = ap (λ l. cast_at retired.id l) (sym same) ∙ p.cast_is in
     let casts_are : Some ran.cast ≡ Some p.cast = sym ran.at ∙ here in
     let cast : ran.cast ≡ p.cast = cc in
     record {
@@ -99,12 +99,12 @@ module _ (casts : List ActorSpec) (plans : List (ℕ × List Step)) (owners : Li
     found : find (λ (x : PurseLeft). end_id (end_view purse_at x.ended) == a) actors ≡ Some actor
     is : end_view purse_at actor.ended ≡ end
 
-  found_as : (a : ℕ) (end : EndView) → find (λ (x : EndView). end_id x == a) ends ≡ Some end → IsSame a end
+  found_as : (a : ℕ) (end : EndView) → find (λ x. end_id x == a) ends ≡ Some end → IsSame a end
   found_as a end e = go (find (λ (actor : PurseLeft). end_id (end_view purse_at actor.ended) == a) actors) refl
     where
-      viewed : find (λ (x : EndView). end_id x == a) ends
+      viewed : find (λ x. end_id x == a) ends
           ≡ option_map (λ (actor : PurseLeft). end_view purse_at actor.ended) (find (λ (actor : PurseLeft). end_id (end_view purse_at actor.ended) == a) actors)
-      viewed = find-map (λ (x : EndView). end_id x == a) (λ (actor : PurseLeft). end_view purse_at actor.ended) actors
+      viewed = find-map (λ x. end_id x == a) (λ (actor : PurseLeft). end_view purse_at actor.ended) actors
 
       go : (o : Option PurseLeft) → find (λ (actor : PurseLeft). end_id (end_view purse_at actor.ended) == a) actors ≡ o → IsSame a end
       go None is =
@@ -115,25 +115,25 @@ module _ (casts : List ActorSpec) (plans : List (ℕ × List Step)) (owners : Li
           record { actor = actor; found = is; is = cc }
 
   left_so : IsJoined casts plans owners ends → (early : At) → IsPlay casts (λ c. plan_of c plans) early → EndsAsThreads plans early owners ends
-      → (a : ℕ) (purse : Purse) → 1 ≤ a → a ≤ MAX_ACTORS → IsPurse early.history a purse → IsLeft a actors purse
-  left_so joined early play alike a purse low high p =
+      → {a : ℕ} {purse : Purse} → 1 ≤ a → a ≤ MAX_ACTORS → IsPurse early.history a purse → IsLeft a actors purse
+  left_so joined early play alike {a} {purse} low high p =
       let same : early.history.casts ≡ casts = (world casts (λ c. plan_of c plans) early play).casts in
-      let here : cast_at a casts ≡ Some p.cast = ap (λ (l : List ActorSpec). cast_at a l) (sym same) ∙ p.cast_is in
+      let here : cast_at a casts ≡ Some p.cast = ap (λ l. cast_at a l) (sym same) ∙ p.cast_is in
       let end = there casts ends a p.cast joined.actors low high here in
-      let mine : IsPurse early.history (end_id end.end) purse = subst (λ (n : ℕ). IsPurse early.history n purse) (sym end.id) p in
-      let can = all_in (CanBeEndIn early.history) ends end.end alike.actors end.inside in
-      let ran = all_in (λ (x : EndView). IfRetired x (RanAll casts owners)) ends end.end joined.retired end.inside in
+      let mine : IsPurse early.history (end_id end.end) purse = subst (λ n. IsPurse early.history n purse) (sym end.id) p in
+      let can = all_in (CanBeEndIn early.history) alike.actors end.inside in
+      let ran = all_in (λ x. IfRetired x (RanAll casts owners)) joined.retired end.inside in
       let gone : Leaves end.end purse = leaves casts owners early.history purse end.end same mine can ran in
       let found = found_as a end.end end.is in
       left_by a actors purse found.actor.ended (ap (option_and_then (λ (x : PurseLeft). purse_of_end x.ended)) found.found)
-      (subst (λ (x : EndView). Leaves x purse) (sym found.is) gone)
+      (subst (λ x. Leaves x purse) (sym found.is) gone)
 
-  left_together : (t : Together) → IsJoined casts plans owners ends → (early : At) → IsPlay casts (λ c. plan_of c plans) early
+  left_together : {t : Together} → IsJoined casts plans owners ends → (early : At) → IsPlay casts (λ c. plan_of c plans) early
       → EndsAsThreads plans early owners ends
       → HoldTogether t early.history → AreActors t → AreLeftTogether t actors
-  left_together t joined early play alike h known =
-      let one = left_so joined early play alike t.one h.one known.one.0 known.one.1 h.one_is in
-      let other = left_so joined early play alike t.other h.other known.other.0 known.other.1 h.other_is in
+  left_together {t} joined early play alike h known =
+      let one = left_so joined early play alike known.one.0 known.one.1 h.one_is in
+      let other = left_so joined early play alike known.other.0 known.other.1 h.other_is in
       let same = one.same in
       let same' = other.same in
       let sum = h.sum_is in
@@ -144,18 +144,18 @@ pub kept_in_threads : (purses : Purses) (t : Together) (plans : List (ℕ × Lis
     → EachRunHas (casts_of purses) plans (HoldTogether t) → IsKeptInThreads purses plans
 kept_in_threads purses t plans same always = λ owners actors joined played.
     let seen : EndsInThreads (casts_of purses) plans (HoldTogether t) owners (ends_of actors) = always owners (ends_of actors) joined played in
-    let held : HoldTogether (together_of purses) seen.early.history = subst (λ (x : Together). HoldTogether x seen.early.history) same seen.holds in
-    left_together (casts_of purses) plans owners actors (together_of purses) joined seen.early seen.play seen.ends_so held
+    let held : HoldTogether (together_of purses) seen.early.history = subst (λ x. HoldTogether x seen.early.history) same seen.holds in
+    left_together (casts_of purses) plans owners actors joined seen.early seen.play seen.ends_so held
     (record { one = (omega arith, omega arith); other = (omega arith, omega arith) })
 
 -- a run with what was opened is one
-pub kept_in_run : (purses : Purses) (plans : List (ℕ × List Step)) (owners : List OwnerView) (actors : List PurseLeft) (opened : List ActorSpec)
+pub kept_in_run : (purses : Purses) {plans : List (ℕ × List Step)} {owners : List OwnerView} (actors : List PurseLeft) (opened : List ActorSpec)
     → opened ≡ casts_of purses → IsKeptInThreads purses plans → IsJoined opened plans owners (ends_of actors)
     → IsPlayedAsPlanned opened plans owners (ends_of actors)
     → AreLeftTogether (together_of purses) actors
-kept_in_run purses plans owners actors opened same kept joined played =
-    kept owners actors (subst (λ (l : List ActorSpec). IsJoined l plans owners (ends_of actors)) same joined)
-    (subst (λ (l : List ActorSpec). IsPlayedAsPlanned l plans owners (ends_of actors)) same played)
+kept_in_run purses {plans} {owners} actors opened same kept joined played =
+    kept owners actors (subst (λ l. IsJoined l plans owners (ends_of actors)) same joined)
+    (subst (λ l. IsPlayedAsPlanned l plans owners (ends_of actors)) same played)
 
 -- what a search answers is what is said of plans
 pub answered : (purses : Purses) (t : Together) (plans : List (ℕ × List Step)) (found : Option (Vec Event)) → t ≡ together_of purses
@@ -164,4 +164,4 @@ pub answered : (purses : Purses) (t : Together) (plans : List (ℕ × List Step)
     → IfSome found (λ events. HoldOtherwise t (history (casts_of purses) events.items)) → IsAnswer purses plans found
 answered purses t plans None same always leads breaks = kept_in_threads purses t plans same (always refl)
 answered purses t plans (Some events) same always leads breaks =
-    (leads, subst (λ (x : Together). HoldOtherwise x (history (casts_of purses) events.items)) same breaks)
+    (leads, subst (λ x. HoldOtherwise x (history (casts_of purses) events.items)) same breaks)

@@ -1,8 +1,8 @@
 -- The casts of a counter, a table, an account and a list fit, and so does one plan that isn't too long: what is left to fail is the run.
 use Rattle.example_uses.proofs.Common.{◌≡◌, ◌≢◌, ◌<◌, ℕ, true, false, List, [], ◌∷◌, map, length, get_or, refl, ap, sym, ◌∙◌, subst, arith, All, AllPairs, Vec}
 use Rattle.example_uses.proofs.Common.{list_all, list_any, eq-eqb, All-cons, All-nil, AllPairs-cons, KindState, Step, ActorSpec, contains, IsLimit, Cast}
-use Rattle.example_uses.proofs.Common.{CallersDiffer, IsFitting, actor_spec, PlansFit, plan_view, IsFault, most_steps, Kinds, PeaceFault, EndsAnActor, Unfit, Run}
-use Rattle.example_uses.proofs.Common.{is_peaceful, are_peaceful, cast_for, casts_for, IsPeaceFault, IsServeFault}
+use Rattle.example_uses.proofs.Common.{CallersDiffer, IsFitting, actor_spec, PlansFit, plan_view, IsFault, most_steps, Kinds, PeaceFault, EndsAnActor, Unfit}
+use Rattle.example_uses.proofs.Common.{Run, is_peaceful, are_peaceful, cast_for, casts_for, IsPeaceFault, IsServeFault}
 
 -- ---- lists of one and of four
 
@@ -30,14 +30,13 @@ apart x y m n is that less same = absurd (omega (arith, is, that, less, same))
 
 module _ {K : Type 0} (state : K → KindState) (c : ℕ) where
   callers_differ : (n : ℕ) (s : KindState) (cast : Cast K) → actor_spec state cast ≡ cast_for c n s → CallersDiffer cast.callers
-  callers_differ n s cast is = subst CallersDiffer (sym (ap (λ (it : ActorSpec). it.callers) is)) (one_differs (λ (x y : ℕ). x ≢ y) c)
+  callers_differ n s cast is = subst CallersDiffer (sym (ap (λ (it : ActorSpec). it.callers) is)) (one_differs (λ x y. x ≢ y) c)
 
   unlimited : (n : ℕ) (s : KindState) (cast : Cast K) → actor_spec state cast ≡ cast_for c n s → IsLimit cast.pending
   unlimited n s cast is = subst IsLimit (sym (ap (λ (it : ActorSpec). it.pending) is)) tt
 
-  four_fit : (s1 s2 s3 s4 : KindState) (one two three four : Cast K) →
-      actor_spec state one ≡ cast_for c 1 s1 → actor_spec state two ≡ cast_for c 2 s2 → actor_spec state three ≡ cast_for c 3 s3 → actor_spec state four ≡ cast_for c 4 s4 →
-      IsFitting (one ∷ two ∷ three ∷ four ∷ [])
+  four_fit : (s1 s2 s3 s4 : KindState) (one two three four : Cast K) → actor_spec state one ≡ cast_for c 1 s1 → actor_spec state two ≡ cast_for c 2 s2 →
+      actor_spec state three ≡ cast_for c 3 s3 → actor_spec state four ≡ cast_for c 4 s4 → IsFitting (one ∷ two ∷ three ∷ four ∷ [])
   four_fit s1 s2 s3 s4 one two three four e1 e2 e3 e4 =
       let actor = λ (it : ActorSpec). it.actor in
       let n1 : one.actor ≡ 1 = ap actor e1 in
@@ -45,9 +44,9 @@ module _ {K : Type 0} (state : K → KindState) (c : ℕ) where
       let n3 : three.actor ≡ 3 = ap actor e3 in
       let n4 : four.actor ≡ 4 = ap actor e4 in
       record {
-        actors = four_differ (λ (x y : Cast K). x.actor ≢ y.actor) one two three four
-            (apart one.actor two.actor 1 2 n1 n2 (omega arith)) (apart one.actor three.actor 1 3 n1 n3 (omega arith)) (apart one.actor four.actor 1 4 n1 n4 (omega arith))
-            (apart two.actor three.actor 2 3 n2 n3 (omega arith)) (apart two.actor four.actor 2 4 n2 n4 (omega arith)) (apart three.actor four.actor 3 4 n3 n4 (omega arith));
+        actors = four_differ (λ (x y : Cast K). x.actor ≢ y.actor) one two three four (apart one.actor two.actor 1 2 n1 n2 (omega arith))
+            (apart one.actor three.actor 1 3 n1 n3 (omega arith)) (apart one.actor four.actor 1 4 n1 n4 (omega arith)) (apart two.actor three.actor 2 3 n2 n3
+            (omega arith)) (apart two.actor four.actor 2 4 n2 n4 (omega arith)) (apart three.actor four.actor 3 4 n3 n4 (omega arith));
         callers = all_four (λ (cast : Cast K). CallersDiffer cast.callers) one two three four
             (callers_differ 1 s1 one e1) (callers_differ 2 s2 two e2) (callers_differ 3 s3 three e3) (callers_differ 4 s4 four e4);
         limits = all_four (λ (cast : Cast K). IsLimit cast.pending) one two three four
@@ -62,25 +61,28 @@ module _ {K : Type 0} (state : K → KindState) (c : ℕ) where
   casts_fit kinds (one ∷ two ∷ three ∷ four ∷ []) same =
       let d = actor_spec state one in
       four_fit (state kinds.counter) (state kinds.table) (state kinds.account) (state kinds.list) one two three four
-      (ap (λ (l : List ActorSpec). get_or l 0 d) same) (ap (λ (l : List ActorSpec). get_or l 1 d) same)
-      (ap (λ (l : List ActorSpec). get_or l 2 d) same) (ap (λ (l : List ActorSpec). get_or l 3 d) same)
+      (ap (λ l. get_or l 0 d) same) (ap (λ l. get_or l 1 d) same)
+      (ap (λ l. get_or l 2 d) same) (ap (λ l. get_or l 3 d) same)
   casts_fit kinds (one ∷ two ∷ three ∷ four ∷ five ∷ more) same = let lengths = ap length same in absurd (omega (arith, lengths))
 
   -- the casts name the caller
-  contained : (callers : List ℕ) → callers ≡ c ∷ [] → contains c callers ≡ true
-  contained callers is = rw (is, eq-eqb c c refl) refl
+  contained : {callers : List ℕ} → callers ≡ c ∷ [] → contains c callers ≡ true
+  contained is = rw (is, eq-eqb c c refl) refl
 
-  named : (kinds : Kinds K) (casts : List (Cast K)) → map (actor_spec state) casts ≡ casts_for state c kinds → list_any (λ (cast : Cast K). contains c cast.callers) casts ≡ true
+  named : (kinds : Kinds K) (casts : List (Cast K)) → map (actor_spec state) casts ≡ casts_for state c kinds →
+      list_any (λ (cast : Cast K). contains c cast.callers) casts ≡ true
   named kinds [] same = let lengths = ap length same in absurd (omega (arith, lengths))
   named kinds (one ∷ more) same =
       let d = actor_spec state one in
-      let is : contains c one.callers ≡ true = contained one.callers (ap (λ (l : List ActorSpec). (get_or l 0 d).callers) same) in
+      let is : contains c one.callers ≡ true = contained (ap (λ l. (get_or l 0 d).callers) same) in
       rw is refl
 
-  plans_fit : (kinds : Kinds K) (casts : List (Cast K)) (plan : Vec Step) → map (actor_spec state) casts ≡ casts_for state c kinds → length plan.items < most_steps → PlansFit casts ((c, plan) ∷ [])
+  plans_fit : (kinds : Kinds K) (casts : List (Cast K)) (plan : Vec Step) → map (actor_spec state) casts ≡ casts_for state c kinds →
+      length plan.items < most_steps → PlansFit casts ((c, plan) ∷ [])
   plans_fit kinds casts plan same short = record {
     differ = one_differs (λ (one other : ℕ × Vec Step). one.0 ≢ other.0) (c, plan);
-    named = All-cons (λ (it : ℕ × Vec Step). list_any (λ (cast : Cast K). contains it.0 cast.callers) casts ≡ true) (c, plan) [] (named kinds casts same) (All-nil _);
+    named = All-cons (λ (it : ℕ × Vec Step). list_any (λ (cast : Cast K). contains it.0 cast.callers) casts ≡ true) (c, plan) [] (named kinds casts same)
+        (All-nil _);
     short = All-cons (λ (it : ℕ × Vec Step). length it.1.items < most_steps) (c, plan) [] short (All-nil _);
   }
 
@@ -90,8 +92,8 @@ module _ {K : Type 0} (state : K → KindState) (c : ℕ) where
   peaceful_one plan peace = rw peace refl
 
   pub served : (kinds : Kinds K) (casts : List (Cast K)) (plans : List (ℕ × Vec Step)) (plan : Vec Step) →
-      map (actor_spec state) casts ≡ casts_for state c kinds → plans ≡ (c, plan) ∷ [] → list_all is_peaceful plan.items ≡ true → length plan.items < most_steps →
-      (fault : PeaceFault) → IsPeaceFault state casts plans fault → IsServeFault (casts_for state c kinds) c plan.items fault
+      map (actor_spec state) casts ≡ casts_for state c kinds → plans ≡ (c, plan) ∷ [] → list_all is_peaceful plan.items ≡ true →
+      length plan.items < most_steps → (fault : PeaceFault) → IsPeaceFault state casts plans fault → IsServeFault (casts_for state c kinds) c plan.items fault
   served kinds casts plans plan same is peace short EndsAnActor wild =
       let calm = ap are_peaceful is ∙ peaceful_one plan peace in
       let no : true ≡ false = sym calm ∙ wild in
@@ -101,6 +103,6 @@ module _ {K : Type 0} (state : K → KindState) (c : ℕ) where
   served kinds casts plans plan same is peace short (Run fault) ran = (
     peace,
     short,
-    subst (λ (l : List (ℕ × List Step)). IsFault (casts_for state c kinds) l fault) (ap (map plan_view) is)
-        (subst (λ (l : List ActorSpec). IsFault l (map plan_view plans) fault) same ran.3),
+    subst (λ l. IsFault (casts_for state c kinds) l fault) (ap (map plan_view) is)
+        (subst (λ l. IsFault l (map plan_view plans) fault) same ran.3),
   )

@@ -7,17 +7,20 @@ use Rattle.example_uses.proofs.Common.{step_of_question}
 answers_alive : (state : KindState) (method : Method) (value : Value) → is_death (step_of_question state method value).1 ≡ false
 answers_alive state method value =
     let item : RunItem = record { caller = 1; number = 0; future = 0; method = method; args = Good value ∷ [] } in
-    alive_is (after_item state item).1 (answer_alive state (item ∷ []) 0 (after_item state item).1 refl)
+    alive_is (after_item state item).1 (answer_alive state (item ∷ []) 0 {answer = (after_item state item).1} refl)
 
 -- the first reply of an actor in this state
 abbrev pub reply_for : KindState → Packet → Reply
 reply_for state packet = record { actor = 1; caller = 1; future = packet.future; place = 0; answer = (after_item state (item_of packet)).1 }
 
-first : (method : Method) (value : Value) (answer : Answer) → is_death answer ≡ false → kept_at (after_collect (asking_owner method value) (Answered (record { actor = 1; caller = 1; future = 0; place = 0; answer = answer }))).kept 0 ≡ Some answer
+first : (method : Method) (value : Value) (answer : Answer) → is_death answer ≡ false → kept_at
+    (after_collect (asking_owner method value) (Answered (record { actor = 1; caller = 1; future = 0; place = 0; answer = answer }))).kept 0 ≡ Some answer
 first method value answer alive = rw alive refl
 
-pub heard : (old new : OwnerView) (packet : Packet) (reply : Reply) (state : KindState) (method : Method) (value : Value) → old ≡ asking_owner method value → packet ≡ question method value → reply ≡ reply_for state packet
-    → new ≡ after_collect old (Answered reply) → kept_at new.kept 0 ≡ Some (step_of_question state method value).1
+pub heard : (old new : OwnerView) (packet : Packet) (reply : Reply) (state : KindState) (method : Method) (value : Value) → old ≡ asking_owner method value →
+    packet ≡ question method value → reply ≡ reply_for state packet → new ≡ after_collect old (Answered reply) →
+    kept_at new.kept 0 ≡ Some (step_of_question state method value).1
 heard old new packet reply state method value sent carried told after =
-    ap (λ (owner : OwnerView). kept_at owner.kept 0) (after ∙ ap (λ (owner : OwnerView). after_collect owner (Answered reply)) sent ∙ ap (λ (r : Reply). after_collect (asking_owner method value) (Answered r)) (told ∙ ap (reply_for state) carried))
+    ap (λ (owner : OwnerView). kept_at owner.kept 0) (after ∙ ap (λ owner. after_collect owner (Answered reply)) sent ∙
+    ap (λ r. after_collect (asking_owner method value) (Answered r)) (told ∙ ap (reply_for state) carried))
     ∙ first method value (step_of_question state method value).1 (answers_alive state method value)

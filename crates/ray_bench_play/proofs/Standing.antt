@@ -4,19 +4,18 @@ use Rattle.ray_bench_play.proofs.Common.{map-append, Event, WorldView, IsReached
 
 -- no event
 pub stands_still : (world : WorldView) → StandsAfter [] world world
-stands_still world casts before reached = subst (λ (l : List Event). IsReachedBy casts l world) (sym (append-nil before)) reached
+stands_still world casts before reached = subst (λ l. IsReachedBy casts l world) (sym (append-nil before)) reached
 
 -- some events, and then others, which together are these
 pub stands_on : (xs ys zs : List Event) (old mid new : WorldView) → xs ++ ys ≡ zs → StandsAfter xs old mid → StandsAfter ys mid new → StandsAfter zs old new
 stands_on xs ys zs old mid new joined first then =
-    subst (λ (l : List Event). StandsAfter l old new) joined
-    (λ casts before reached. subst (λ (l : List Event). IsReachedBy casts l new) (append_assoc before xs ys)
-    (then casts (before ++ xs) (first casts before reached)))
+    subst (λ l. StandsAfter l old new) joined
+    (λ casts before reached. subst (λ l. IsReachedBy casts l new) (append_assoc before xs ys) (then casts (before ++ xs) (first casts before reached)))
 
 -- where a world stands after some events, and another after more from there, that one stands after both lists
 pub stands_both : (xs ys : List Event) (old mid new : WorldView) → StandsAfter xs old mid → StandsAfter ys mid new → StandsAfter (xs ++ ys) old new
 stands_both xs ys old mid new first then casts before reached =
-    subst (λ (l : List Event). IsReachedBy casts l new) (append_assoc before xs ys) (then casts (before ++ xs) (first casts before reached))
+    subst (λ l. IsReachedBy casts l new) (append_assoc before xs ys) (then casts (before ++ xs) (first casts before reached))
 
 places_next : (n : ℕ) → places (n + 1) ≡ places n ++ n ∷ []
 places_next n = ap places (add-one n)

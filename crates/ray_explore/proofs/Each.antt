@@ -4,7 +4,6 @@ use Rattle.ray_explore.proofs.Common.{contains_text, Global, String, history, to
 use Rattle.act_rules.specs.declared.script.Step.{Step}
 use Rattle.act_rules.specs.History.{ActorSpec, History}
 use Rattle.act_early.proofs.Told.{alike_told}
-use Rattle.act_plans.specs.Runs.{plan_of}
 use Rattle.act_explore.specs.Ends.{HasPassed, EachEndHas}
 use Rattle.ray_explore.specs.declared.telling.Told.{Told}
 
@@ -15,8 +14,7 @@ none_told script ends old none = (
   record {
     tells = refl;
     known = λ lines is.
-        let bad : true ≡ false = sym is ∙ ap (λ (keys : List (String Global)). contains_text (record { keys = keys }) lines) none in
-        cc;
+        let bad : true ≡ false = sym is ∙ ap (λ (keys : List (String Global)). contains_text (record { keys = keys }) lines) none in cc;
   },
 )
 
@@ -28,7 +26,7 @@ each_told casts plans script ends old new each (told, has) = record {
   told = has.tells;
   all = λ late is ended loses.
       let so = each late is ended loses in
-      let same : told_at_rest so.early.history ≡ _ = alike_told casts (λ c. plan_of c plans) so.early late so.play is ended so.ends in
+      let same : told_at_rest so.early.history ≡ _ = alike_told casts late so.play is ended so.ends in
       subst (Contains told) same (has.known (told_at_rest so.early.history)
       (subst (λ (h : History). contains_text ends (told_at_rest h) ≡ true) (sym so.holds.history_is) so.holds.passed));
 }

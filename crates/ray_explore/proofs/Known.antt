@@ -10,8 +10,7 @@ abbrev pub Adds : List ℕ → BTreeSet (String Global) → BTreeSet (String Glo
 Adds lines old new = (other : List ℕ) → contains_text new other ≡ cond (bytes_eq lines other) true (contains_text old other)
 
 pub known_now : (lines same : List ℕ) (old new : BTreeSet (String Global)) → Adds lines old new → lines ≡ same → contains_text new same ≡ true
-known_now lines same old new adds is =
-    adds same ∙ ap (λ (b : Bool). cond b true (contains_text old same)) ((bytes_decides lines same).1 is)
+known_now lines same old new adds is = adds same ∙ ap (λ (b : Bool). cond b true (contains_text old same)) ((bytes_decides lines same).1 is)
 
 pub known_still : (lines other : List ℕ) (old new : BTreeSet (String Global)) → Adds lines old new → contains_text old other ≡ true
     → contains_text new other ≡ true
@@ -34,9 +33,8 @@ last_one : (told : List (List ℕ)) (lines : List ℕ) → Contains (told ++ lin
 last_one told lines = let within : 0 < length (lines ∷ []) = omega arith in Contains-append_right told (lines ∷ []) lines (0, within, refl)
 
 -- an end that is new was written
-pub told_new : (script lines : List ℕ) (is_new : Bool) (old new : BTreeSet (String Global)) (before after : Option (List ℕ)) → Adds lines old new
-    → is_new ≡ true
-    → TellsNew script lines is_new before after → HasToldMore script old new before after
+pub told_new : (script lines : List ℕ) (is_new : Bool) (old new : BTreeSet (String Global)) (before after : Option (List ℕ)) → Adds lines old new →
+    is_new ≡ true → TellsNew script lines is_new before after → HasToldMore script old new before after
 told_new script lines is_new old new before after adds fresh wrote first (told, has) =
     let written : TellsEnd script lines before after = subst (λ (b : Bool). TellsNew script lines b before after) fresh wrote in (
       told ++ lines ∷ [],
@@ -48,9 +46,8 @@ told_new script lines is_new old new before after adds fresh wrote first (told, 
     )
 
 -- one that was told before was not
-pub told_before : (script lines : List ℕ) (is_new : Bool) (old new : BTreeSet (String Global)) (before after : Option (List ℕ)) → Adds lines old new
-    → is_new ≡ false
-    → contains_text old lines ≡ true → TellsNew script lines is_new before after → HasToldMore script old new before after
+pub told_before : (script lines : List ℕ) (is_new : Bool) (old new : BTreeSet (String Global)) (before after : Option (List ℕ)) → Adds lines old new →
+    is_new ≡ false → contains_text old lines ≡ true → TellsNew script lines is_new before after → HasToldMore script old new before after
 told_before script lines is_new old new before after adds stale known wrote first (told, has) =
     let same : after ≡ before = subst (λ (b : Bool). TellsNew script lines b before after) stale wrote in (
       told,
@@ -61,8 +58,7 @@ told_before script lines is_new old new before after adds stale known wrote firs
     )
 
 -- the same of a script that is seen otherwise
-pub told_there : (script seen : List ℕ) (old new : BTreeSet (String Global)) (first before after : Option (List ℕ)) → seen ≡ script
-    → HasToldMore seen old new before after
-    → HasToldSome script old first before → HasToldSome script new first after
+pub told_there : (script seen : List ℕ) (old new : BTreeSet (String Global)) (first before after : Option (List ℕ)) → seen ≡ script →
+    HasToldMore seen old new before after → HasToldSome script old first before → HasToldSome script new first after
 told_there script seen old new first before after same more some =
     subst (λ (s : List ℕ). HasToldSome s new first after) same (more first (subst (λ (s : List ℕ). HasToldSome s old first before) (sym same) some))

@@ -3,9 +3,8 @@ use Rattle.ray_explore.proofs.Common.{◌≡◌, ℕ, ◌+◌, ◌≤◌, Bool, 
 use Rattle.ray_explore.proofs.Common.{TellsEnd, TellsNew, TellsEnds, TellsCount, TellsMore}
 
 -- after what was written of some ends, what is written of one more
-pub one_end_more : (script : List ℕ) (ends : List (List ℕ)) (lines : List ℕ) (first old new : Option (List ℕ)) → TellsEnds script ends first old
-    → TellsEnd script lines old new
-    → TellsEnds script (ends ++ lines ∷ []) first new
+pub one_end_more : (script : List ℕ) (ends : List (List ℕ)) (lines : List ℕ) (first old new : Option (List ℕ)) → TellsEnds script ends first old →
+    TellsEnd script lines old new → TellsEnds script (ends ++ lines ∷ []) first new
 one_end_more script [] lines first old new told wrote = (new, subst (λ (bytes : Option (List ℕ)). TellsEnd script lines bytes new) told wrote, refl)
 one_end_more script (one ∷ ends) lines first old new (mid, wrote_one, told) wrote = (mid, wrote_one, one_end_more script ends lines mid old new told wrote)
 
@@ -24,9 +23,8 @@ more script count after first old new told (inr (grows, lines, wrote)) = record 
 }
 
 -- one end more is written
-pub one_more : (script seen lines : List ℕ) (count : ℕ) (is_new : Bool) (old new : Option (List ℕ)) → seen ≡ script → is_new ≡ true
-    → TellsNew seen lines is_new old new
-    → TellsMore script count (count + 1) old new
+pub one_more : (script seen lines : List ℕ) (count : ℕ) (is_new : Bool) (old new : Option (List ℕ)) → seen ≡ script → is_new ≡ true →
+    TellsNew seen lines is_new old new → TellsMore script count (count + 1) old new
 one_more script seen lines count is_new old new same fresh wrote =
     inr (refl, lines, subst (λ (s : List ℕ). TellsEnd s lines old new) same (subst (λ (b : Bool). TellsNew seen lines b old new) fresh wrote))
 

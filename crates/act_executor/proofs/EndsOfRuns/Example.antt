@@ -5,8 +5,8 @@ use Rattle.act_executor.proofs.Common.{CounterAt, MAX_ACTORS, MAX_CALLERS, Notic
 use Rattle.act_executor.proofs.Common.{kept_at, one_to, ActorSpec, contains, actors_naming, All-two, OwnerView, is_death, IsToldBy, MailView, ControlView}
 use Rattle.act_executor.proofs.Common.{asker_of, starter, RepliesView, ReplyExecView, PutterView, Asked, Letter, Call, Note, Endpoint, packet_of_item, Retired}
 use Rattle.act_executor.proofs.Common.{end_id, first_note, replies_to, deaths, caller_at, Driven, HasPosted, HasAsked, IsSent, AreTwo, limits_naming, cast_at}
-use Rattle.act_executor.proofs.Common.{plan_of, is_starved, ServedView, IsServed, IsDriven, AreAudited, AreCasts, AreJoined, Submit, Ptr, items_put}
-use Rattle.act_executor.proofs.Common.{contains_is, all_one}
+use Rattle.act_executor.proofs.Common.{plan_of, is_starved, ServedView, IsServed, IsDriven, AreAudited, AreCasts, AreJoined, Ptr, items_put, contains_is}
+use Rattle.act_executor.proofs.Common.{all_one}
 use Rattle.act_types.specs.declared.call.Value.TheVariants as value
 use Rattle.act_types.specs.declared.call.Method.TheVariants as method
 use Rattle.act_rules.specs.declared.script.Step.TheVariants as step
@@ -37,7 +37,8 @@ pub casts_are : AreCasts casts
 casts_are = record {
   differ = pairs_one (λ (one other : ActorSpec). one.actor ≢ other.actor) _;
   actors = all_one (λ (cast : ActorSpec). Contains (one_to MAX_ACTORS) cast.actor) _ (0, omega arith, refl);
-  callers = all_one (λ (cast : ActorSpec). All (λ c. Contains (one_to MAX_CALLERS) c) cast.callers) _ (all_one (λ (c : ℕ). Contains (one_to MAX_CALLERS) c) 1 (0, omega arith, refl));
+  callers = all_one (λ (cast : ActorSpec). All (λ c. Contains (one_to MAX_CALLERS) c) cast.callers)
+      _ (all_one (λ c. Contains (one_to MAX_CALLERS) c) 1 (0, omega arith, refl));
 }
 
 abbrev pub mails : TableId → List MailView
@@ -51,10 +52,10 @@ replies line = record { line = line; caller = 1 } ∷ []
 
 -- the passes of the caller and of the actor
 abbrev pub letter_endpoint : TableId → List Letter → Endpoint (PutterView Letter Unit)
-letter_endpoint line letters = record { place = 0; pass = record { line = line; number = 1; put = letters; stamps = []; note = [] } }
+letter_endpoint line letters = record { place = 0; pass = record { line = line; number = 1; put = letters; stamps = []; label = [] } }
 
 abbrev pub kill_endpoint : TableId → List Asked → Endpoint (PutterView Asked ℕ)
-kill_endpoint line kills = record { place = 0; pass = record { line = line; number = 1; put = kills; stamps = []; note = [] } }
+kill_endpoint line kills = record { place = 0; pass = record { line = line; number = 1; put = kills; stamps = []; label = [] } }
 
 abbrev pub notice_endpoint : TableId → List RunItem → List Notice → Endpoint ReplyExecView
 notice_endpoint line log notices = record { place = 0; pass = record { line = line; actor = 1; given = notices; stamps = []; seen = log } }
@@ -83,7 +84,15 @@ abbrev notices : List Notice
 notices = Answered (record { actor = 1; caller = 1; future = 0; place = 0; answer = answer }) ∷ []
 
 abbrev owner : OwnerView
-owner = record { id = 1; handles = record { actor = 1; copies = 0; given = 1 } ∷ []; calls = call ∷ []; sent = true ∷ []; kept = Some answer ∷ []; dead = []; limits = (1, Some 2) ∷ [] }
+owner = record {
+  id = 1;
+  handles = record { actor = 1; copies = 0; given = 1 } ∷ [];
+  calls = call ∷ [];
+  sent = true ∷ [];
+  kept = Some answer ∷ [];
+  dead = [];
+  limits = (1, Some 2) ∷ [];
+}
 
 abbrev plan : List Step
 plan = step.Submit 1 method.Get [] ∷ []
@@ -102,7 +111,7 @@ module _ (mail control reply : TableId) (ptr : Ptr) (alloc : Global) where
     passes = record {
       letters = only ptr alloc (letter_endpoint mail letters);
       kills = only ptr alloc (kill_endpoint control []);
-      collects = record { line = reply; putters = 1 ∷ []; taken = notices; stamps = []; note = [] };
+      collects = record { line = reply; putters = 1 ∷ []; taken = notices; stamps = []; label = [] };
     };
   }
 
@@ -110,24 +119,25 @@ module _ (mail control reply : TableId) (ptr : Ptr) (alloc : Global) where
   s = record {
     end = Retired (record { id = 1; log = log; state = CounterAt (pos 0) });
     passes = record {
-      letters = record { line = mail; putters = 1 ∷ []; taken = letters; stamps = []; note = [] };
+      letters = record { line = mail; putters = 1 ∷ []; taken = letters; stamps = []; label = [] };
       kills = record { line = control; actor = 1; askers = starter ∷ 1 ∷ []; taken = []; stamps = []; lengths = []; looked = 1 };
       notices = only ptr alloc (notice_endpoint reply log notices);
     };
   }
 
   serves : (cast : ActorSpec) → cast_at 1 casts ≡ Some cast → IsServed (replies reply) cast s
-  serves cast e = subst (λ (x : ActorSpec). IsServed (replies reply) x s) (one_at _ cast 0 e) (record {
+  serves cast e = subst (λ x. IsServed (replies reply) x s) (one_at _ cast 0 e) (record {
     callers = 1 ∷ [];
     same_callers = λ c. refl;
     endpoints = refl;
     log = record {
-      taken = all_one (λ (i : RunItem). Contains letters (Call (packet_of_item 1 i))) item (0, omega arith, refl);
+      taken = all_one (λ i. Contains letters (Call (packet_of_item 1 i))) item (0, omega arith, refl);
       listed = all_one (λ (i : RunItem). contains i.caller (1 ∷ []) ≡ true) item refl;
       numbered = λ c. turn (1 == c);
     };
     last = last;
-    given = all_one (λ (endpoint : Endpoint ReplyExecView). endpoint.pass.given ≡ replies_to (CounterAt (pos 0)) 1 log (caller_at (replies reply) endpoint.place) ++ deaths 1 s.end) _ refl;
+    given = all_one (λ (endpoint : Endpoint ReplyExecView). endpoint.pass.given ≡ replies_to (CounterAt (pos 0)) 1 log
+        (caller_at (replies reply) endpoint.place) ++ deaths 1 s.end) _ refl;
     kills = ((refl, refl), refl);
     askers = refl;
     drained = record { state = refl; notes = notes };
@@ -142,7 +152,7 @@ module _ (mail control reply : TableId) (ptr : Ptr) (alloc : Global) where
       last (suc place) ends = cc
 
       notes : (c : ℕ) → contains c (1 ∷ []) ≡ true → first_note 1 c letters ≡ Some (length (items_of c log))
-      notes c names = subst (λ (n : ℕ). first_note 1 n letters ≡ Some (length (items_of n log))) (is_one c names) refl
+      notes c names = subst (λ n. first_note 1 n letters ≡ Some (length (items_of n log))) (is_one c names) refl
 
   -- a call, and a note
   two_letters : AllPairs AreTwo letters
@@ -160,7 +170,7 @@ module _ (mail control reply : TableId) (ptr : Ptr) (alloc : Global) where
       answers : (k : ℕ) (x : Answer) → kept_at owner.kept k ≡ Some x → IsToldBy (is_death x) owner notices k x
       answers zero x e =
           let same : answer ≡ x = cc in
-          subst (λ (y : Answer). IsToldBy (is_death y) owner notices 0 y) same (record {
+          subst (λ y. IsToldBy (is_death y) owner notices 0 y) same (record {
             reply = record { actor = 1; caller = 1; future = 0; place = 0; answer = answer };
             heard = (0, omega arith, refl);
             caller = refl;
@@ -189,7 +199,8 @@ module _ (mail control reply : TableId) (ptr : Ptr) (alloc : Global) where
     all_served = all_one (λ (x : ServedView). (cast : ActorSpec) → cast_at (end_id x.end) casts ≡ Some cast → IsServed (replies reply) cast x) s serves;
     all_driven = all_one (λ (x : Driven). IsDriven (mails mail) (controls control) (actors_naming x.owner.id casts) (plan_of x.owner.id plans) x) d drives;
     limits = all_one (λ (x : Driven). x.owner.limits ≡ limits_naming x.owner.id casts) d refl;
-    audited = λ i k x y cast at at' of names. subst (λ (z : Driven). AreAudited (mails mail) (controls control) (replies reply) (end_id y.end) z.owner.id z y) (one_at d x i at)
+    audited = λ i k x y cast at at' of names. subst (λ (z : Driven). AreAudited (mails mail) (controls control) (replies reply) (end_id y.end) z.owner.id z y)
+        (one_at d x i at)
         (subst (λ (z : ServedView). AreAudited (mails mail) (controls control) (replies reply) (end_id z.end) 1 d z) (one_at s y k at') audits);
     starter = all_one (λ (x : ServedView). items_put asker_of starter x.passes.kills.taken ≡ []) s refl;
     fed = all_one (λ (x : ServedView). is_starved x.end ≡ false) s refl;

@@ -20,7 +20,15 @@ abbrev kills : List Asked
 kills = record { asker = 1; note = record { caller = 1; actor = 1 } } ∷ []
 
 abbrev owner : OwnerView
-owner = record { id = 1; handles = record { actor = 1; copies = 1; given = 1 } ∷ []; calls = call ∷ []; sent = true ∷ []; kept = Some (Err ActorDied) ∷ []; dead = false ∷ true ∷ []; limits = (1, Some 2) ∷ [] }
+owner = record {
+  id = 1;
+  handles = record { actor = 1; copies = 1; given = 1 } ∷ [];
+  calls = call ∷ [];
+  sent = true ∷ [];
+  kept = Some (Err ActorDied) ∷ [];
+  dead = false ∷ true ∷ [];
+  limits = (1, Some 2) ∷ [];
+}
 
 abbrev plan : List Step
 plan = step.Submit 1 method.Get [] ∷ step.Kill 1 ∷ []
@@ -36,7 +44,7 @@ module _ (mail control reply : TableId) (ptr : Ptr) (alloc : Global) where
     passes = record {
       letters = only ptr alloc (letter_endpoint mail letters);
       kills = only ptr alloc (kill_endpoint control kills);
-      collects = record { line = reply; putters = 1 ∷ []; taken = notices; stamps = []; note = [] };
+      collects = record { line = reply; putters = 1 ∷ []; taken = notices; stamps = []; label = [] };
     };
   }
 
@@ -44,24 +52,25 @@ module _ (mail control reply : TableId) (ptr : Ptr) (alloc : Global) where
   s = record {
     end = Killed (record { id = 1; log = [] });
     passes = record {
-      letters = record { line = mail; putters = 1 ∷ []; taken = []; stamps = []; note = [] };
+      letters = record { line = mail; putters = 1 ∷ []; taken = []; stamps = []; label = [] };
       kills = record { line = control; actor = 1; askers = starter ∷ 1 ∷ []; taken = kills; stamps = []; lengths = 0 ∷ []; looked = 1 };
       notices = only ptr alloc (notice_endpoint reply [] notices);
     };
   }
 
   serves : (cast : ActorSpec) → cast_at 1 casts ≡ Some cast → IsServed (replies reply) cast s
-  serves cast e = subst (λ (x : ActorSpec). IsServed (replies reply) x s) (one_at _ cast 0 e) (record {
+  serves cast e = subst (λ x. IsServed (replies reply) x s) (one_at _ cast 0 e) (record {
     callers = 1 ∷ [];
     same_callers = λ c. refl;
     endpoints = refl;
     log = record {
-      taken = All-nil (λ (i : RunItem). Contains {X = Letter} [] (Call (packet_of_item 1 i)));
+      taken = All-nil (λ i. Contains {X = Letter} [] (Call (packet_of_item 1 i)));
       listed = All-nil (λ (i : RunItem). contains i.caller (1 ∷ []) ≡ true);
       numbered = λ c. refl;
     };
     last = λ place ends. cc;
-    given = all_one (λ (endpoint : Endpoint ReplyExecView). endpoint.pass.given ≡ replies_to (CounterAt (pos 0)) 1 [] (caller_at (replies reply) endpoint.place) ++ deaths 1 s.end) _ refl;
+    given = all_one (λ (endpoint : Endpoint ReplyExecView). endpoint.pass.given ≡ replies_to (CounterAt (pos 0)) 1 []
+        (caller_at (replies reply) endpoint.place) ++ deaths 1 s.end) _ refl;
     kills = (_, refl, (1, omega arith, refl), refl);
     askers = refl;
     drained = tt;
@@ -79,7 +88,7 @@ module _ (mail control reply : TableId) (ptr : Ptr) (alloc : Global) where
       answers : (k : ℕ) (x : Answer) → kept_at owner.kept k ≡ Some x → IsToldBy (is_death x) owner notices k x
       answers zero x e =
           let same : Err ActorDied ≡ x = cc in
-          subst (λ (y : Answer). IsToldBy (is_death y) owner notices 0 y) same (record { actor = 1; heard = (0, omega arith, refl); to = refl })
+          subst (λ y. IsToldBy (is_death y) owner notices 0 y) same (record { actor = 1; heard = (0, omega arith, refl); to = refl })
       answers (suc k) x e = cc
 
       dies : (a : ℕ) → is_known_dead owner a ≡ true → Contains notices (Death a)
@@ -93,7 +102,8 @@ module _ (mail control reply : TableId) (ptr : Ptr) (alloc : Global) where
 
   audits : AreAudited (mails mail) (controls control) (replies reply) 1 1 d s
   audits = record {
-    letters = record { endpoint = letter_endpoint mail letters; sits = (0, omega arith, refl); line = λ m. refl; front = (letters, refl); stamped = ([], refl) };
+    letters =
+        record { endpoint = letter_endpoint mail letters; sits = (0, omega arith, refl); line = λ m. refl; front = (letters, refl); stamped = ([], refl) };
     kills = record { endpoint = kill_endpoint control kills; sits = (0, omega arith, refl); line = λ k. refl; front = ([], refl); stamped = ([], refl) };
     notices = record { endpoint = notice_endpoint reply [] notices; sits = (0, omega arith, refl); line = refl; front = ([], refl); stamped = ([], refl) };
   }
@@ -106,7 +116,8 @@ module _ (mail control reply : TableId) (ptr : Ptr) (alloc : Global) where
     all_served = all_one (λ (x : ServedView). (cast : ActorSpec) → cast_at (end_id x.end) casts ≡ Some cast → IsServed (replies reply) cast x) s serves;
     all_driven = all_one (λ (x : Driven). IsDriven (mails mail) (controls control) (actors_naming x.owner.id casts) (plan_of x.owner.id plans) x) d drives;
     limits = all_one (λ (x : Driven). x.owner.limits ≡ limits_naming x.owner.id casts) d refl;
-    audited = λ i k x y cast at at' of names. subst (λ (z : Driven). AreAudited (mails mail) (controls control) (replies reply) (end_id y.end) z.owner.id z y) (one_at d x i at)
+    audited = λ i k x y cast at at' of names. subst (λ (z : Driven). AreAudited (mails mail) (controls control) (replies reply) (end_id y.end) z.owner.id z y)
+        (one_at d x i at)
         (subst (λ (z : ServedView). AreAudited (mails mail) (controls control) (replies reply) (end_id z.end) 1 d z) (one_at s y k at') audits);
     starter = all_one (λ (x : ServedView). items_put asker_of starter x.passes.kills.taken ≡ []) s refl;
     fed = all_one (λ (x : ServedView). is_starved x.end ≡ false) s refl;

@@ -26,19 +26,18 @@ pairs_append R (x ∷ xs) ys one other across =
 
 module _ {S : Type 0} (m : ℕ) (trace front : List (ℕ × S)) (seen : IsFrontBelow m trace front) where
   -- an earlier step of the trace stands at its place in the front
-  pub place_seen : (k n : ℕ) (step : S) → slice_get trace k ≡ Some (n, step) → n < m → slice_get front k ≡ Some (n, step)
-  place_seen k n step at lt =
+  pub place_seen : (k n : ℕ) {step : S} → slice_get trace k ≡ Some (n, step) → n < m → slice_get front k ≡ Some (n, step)
+  place_seen k n {step} at lt =
       place_in_front front seen.later k m n step (recursion_from_All (λ (x : ℕ × S). m ≤ x.0) seen.later seen.from)
-      (ap (λ (l : List (ℕ × S)). slice_get l k) (sym seen.cut) ∙ at) lt
+      (ap (λ l. slice_get l k) (sym seen.cut) ∙ at) lt
 
   -- an earlier step that the trace contains is contained in the front
-  pub step_seen : (n : ℕ) (step : S) → Contains trace (n, step) → n < m → Contains front (n, step)
-  step_seen n step has lt =
+  pub step_seen : {n : ℕ} (step : S) → Contains trace (n, step) → n < m → Contains front (n, step)
+  step_seen {n} step has lt =
       let i : IsIn {A = ℕ × S} trace (n, step) = in_from_contains trace (n, step) has in
-      contains_from_in front (n, step) (record { place = i.place; at = place_seen i.place n step i.at lt })
+      contains_from_in {xs = front} {x = (n, step)} (record { place = i.place; at = place_seen i.place n i.at lt })
 
   -- first steps that are all earlier are the first of the front
   pub first_seen : (before later : List (ℕ × S)) → trace ≡ before ++ later → All (λ x. x.0 < m) before → IsPrefix before front
-  first_seen before later cut earlier = front_by_places before front (λ k x at.
-      place_seen k x.0 x.1 (ap (λ (l : List (ℕ × S)). slice_get l k) cut ∙ slice_get_front before (before ++ later) k x (later, refl) at)
-      (all_in (λ (y : ℕ × S). y.0 < m) before x earlier (record { place = k; at = at })))
+  first_seen before later cut earlier = front_by_places before front (λ k x at. place_seen k x.0 (ap (λ l. slice_get l k) cut ∙ slice_get_front before
+      (before ++ later) k (later, refl) at) (all_in (λ (y : ℕ × S). y.0 < m) {xs = before} {x = x} earlier (record { place = k; at = at })))

@@ -26,18 +26,19 @@ record IsPacketOf (owner : OwnerView) (a : ℕ) (packet : Packet) : Type 0 where
 packet_is : (owner : OwnerView) (a : ℕ) (packet : Packet) → IsSent owner a (Call packet) → IsPacketOf owner a packet
 packet_is owner a packet sent = go (slice_get owner.calls packet.future) refl sent.0
   where
-    go : (o : Option Submission) → slice_get owner.calls packet.future ≡ o → option_map (packet_for owner packet.future) o ≡ Some packet → IsPacketOf owner a packet
+    go : (o : Option Submission) → slice_get owner.calls packet.future ≡ o → option_map (packet_for owner packet.future) o ≡ Some packet →
+        IsPacketOf owner a packet
     go None at e = cc
     go (Some call) at e =
         let same : packet_for owner packet.future call ≡ packet = cc in
         let actor : call.actor ≡ a = ap (λ (p : Packet). p.actor) same ∙ sent.2 in
-        record { call = call; at = at; to = actor; number = sym (ap (λ (p : Packet). p.number) same) ∙ ap (λ (b : ℕ). number_of b packet.future owner.calls) actor }
+        record { call = call; at = at; to = actor; number = sym (ap (λ (p : Packet). p.number) same) ∙ ap (λ b. number_of b packet.future owner.calls) actor }
 
 one_future : (owner : OwnerView) (a : ℕ) (p q : Packet) → IsSent owner a (Call p) → IsSent owner a (Call q) → p.number ≡ q.number → p.future ≡ q.future
 one_future owner a p q sent other same =
-    let x = packet_is owner a p sent in
-    let y = packet_is owner a q other in
-    same_place (λ (call : Submission). call.actor == a) owner.calls p.future q.future x.call y.call x.at (eq-eqb x.call.actor a x.to) y.at (eq-eqb y.call.actor a y.to) (sym x.number ∙ same ∙ y.number)
+    let x = packet_is owner a p sent in let y = packet_is owner a q other in
+    same_place (λ (call : Submission). call.actor == a) owner.calls p.future q.future x.at (eq-eqb x.call.actor a x.to) y.at (eq-eqb y.call.actor a y.to)
+    (sym x.number ∙ same ∙ y.number)
 
 -- each letter is another one than those behind it
 abbrev pub Apart : List Letter → Type 0
@@ -58,7 +59,8 @@ module _ (owner : OwnerView) (a : ℕ) where
   two_differ (Note note) (Call p) sent there two e = cc
   two_differ (Note one) (Note other) sent there two e = two (ap (λ (r : ReleaseNote). r.actor) (sent.0 ∙ sym there.0))
 
-  one_differs : (letter : Letter) (put : List Letter) → IsSent owner a letter → AllByRecursion (IsSent owner a) put → AllByRecursion (AreTwo letter) put → AllByRecursion (λ other. sent_letter a letter ≢ other) (map (sent_letter a) put)
+  one_differs : (letter : Letter) (put : List Letter) → IsSent owner a letter → AllByRecursion (IsSent owner a) put → AllByRecursion (AreTwo letter) put →
+      AllByRecursion (λ other. sent_letter a letter ≢ other) (map (sent_letter a) put)
   one_differs letter [] sent all two = tt
   one_differs letter (other ∷ put) sent all two = (two_differ letter other sent all.0 two.0, one_differs letter put sent all.1 two.1)
 
@@ -89,32 +91,34 @@ abbrev pub letter_in_step : ℕ → ℕ → Action → Option SentLetter
 letter_in_step c a step = option_and_then (letter_from c a) (letter_taken step)
 
 module _ (c a : ℕ) where
-  one_taken : (b : ℕ) (step : Action) (letter : Letter) (letters : List SentLetter) (steps : List Action) → letter_taken step ≡ Some letter → letters ≡ filter_map (letter_in_step c a) steps
-      → (x : Bool) → (caller_of letter == c) ≡ x → (y : Bool) → (b == a) ≡ y
-      → cond (x && y) (sent_letter b letter ∷ letters) letters ≡ filter_map (letter_in_step c a) (cons_option (cond y (Some step) None) steps)
-  one_taken b step letter letters steps takes rest x is false same = and_none x ∙ rest
+  one_taken : (b : ℕ) (step : Action) (letter : Letter) {letters : List SentLetter} (steps : List Action) → letter_taken step ≡ Some letter →
+      letters ≡ filter_map (letter_in_step c a) steps → (x : Bool) → (caller_of letter == c) ≡ x → (y : Bool) → (b == a) ≡ y →
+      cond (x && y) (sent_letter b letter ∷ letters) letters ≡ filter_map (letter_in_step c a) (cons_option (cond y (Some step) None) steps)
+  one_taken b step letter {letters} steps takes rest x is false same = and_none x ∙ rest
     where
       and_none : (x : Bool) → cond (x && false) (sent_letter b letter ∷ letters) letters ≡ letters
       and_none true = refl
       and_none false = refl
-  one_taken b step letter letters steps takes rest x is true same = go x is ∙ sym (ap (λ (o : Option SentLetter). cons_option o (filter_map (letter_in_step c a) steps)) gives)
+  one_taken b step letter {letters} steps takes rest x is true same = go x is ∙ sym (ap (λ o. cons_option o (filter_map (letter_in_step c a) steps)) gives)
     where
       gives : letter_in_step c a step ≡ cond x (Some (sent_letter a letter)) None
-      gives = ap (option_and_then (letter_from c a)) takes ∙ ap (λ (x : Bool). cond x (Some (sent_letter a letter)) None) is
+      gives = ap (option_and_then (letter_from c a)) takes ∙ ap (λ x. cond x (Some (sent_letter a letter)) None) is
 
-      go : (x : Bool) → (caller_of letter == c) ≡ x → cond (x && true) (sent_letter b letter ∷ letters) letters ≡ cons_option (cond x (Some (sent_letter a letter)) None) (filter_map (letter_in_step c a) steps)
-      go true is = ap (λ (n : ℕ). sent_letter n letter ∷ letters) (eqb-true b a same) ∙ ap (λ (l : List SentLetter). sent_letter a letter ∷ l) rest
+      go : (x : Bool) → (caller_of letter == c) ≡ x → cond (x && true) (sent_letter b letter ∷ letters) letters ≡ cons_option
+          (cond x (Some (sent_letter a letter)) None) (filter_map (letter_in_step c a) steps)
+      go true is = ap (λ n. sent_letter n letter ∷ letters) (eqb-true b a same) ∙ ap (λ l. sent_letter a letter ∷ l) rest
       go false is = rest
 
   -- of the caller's letters the deeds bring to the actor what the actor's own steps take
-  pub arrived_part : (deeds : List (Site × Action)) → filter (is_sent_between c a) (filter_map letter_of deeds) ≡ filter_map (letter_in_step c a) (actions_of (Actor a) deeds)
+  pub arrived_part : (deeds : List (Site × Action)) →
+      filter (is_sent_between c a) (filter_map letter_of deeds) ≡ filter_map (letter_in_step c a) (actions_of (Actor a) deeds)
   arrived_part [] = refl
   arrived_part ((Caller d, step) ∷ deeds) = arrived_part deeds
   arrived_part ((Actor b, CallTaken packet) ∷ deeds) =
-      one_taken b (CallTaken packet) (Call packet) (filter (is_sent_between c a) (filter_map letter_of deeds)) (actions_of (Actor a) deeds) refl (arrived_part deeds)
+      one_taken b (CallTaken packet) (Call packet) (actions_of (Actor a) deeds) refl (arrived_part deeds)
       (packet.caller == c) refl (b == a) refl
   arrived_part ((Actor b, NoteTaken note) ∷ deeds) =
-      one_taken b (NoteTaken note) (Note note) (filter (is_sent_between c a) (filter_map letter_of deeds)) (actions_of (Actor a) deeds) refl (arrived_part deeds) (note.caller == c) refl
+      one_taken b (NoteTaken note) (Note note) (actions_of (Actor a) deeds) refl (arrived_part deeds) (note.caller == c) refl
       (b == a) refl
   arrived_part ((Actor b, step) ∷ deeds) = arrived_part deeds ∙ sym (gives_none (letter_in_step c a) (b == a) step (actions_of (Actor a) deeds) refl)
 
@@ -125,44 +129,50 @@ module _ (c a : ℕ) where
   by_letters [] = refl
   by_letters (step ∷ steps) = go (letter_taken step) (by_letters steps)
     where
-      go : (o : Option Letter) → filter_map (letter_in_step c a) steps ≡ filter_map (letter_from c a) (filter_map letter_taken steps)
-          → cons_option (option_and_then (letter_from c a) o) (filter_map (letter_in_step c a) steps) ≡ filter_map (letter_from c a) (cons_option o (filter_map letter_taken steps))
+      go : (o : Option Letter) → filter_map (letter_in_step c a) steps ≡ filter_map (letter_from c a) (filter_map letter_taken steps) →
+          cons_option (option_and_then (letter_from c a) o) (filter_map (letter_in_step c a) steps) ≡ filter_map (letter_from c a)
+          (cons_option o (filter_map letter_taken steps))
       go None rest = rest
       go (Some letter) rest = ap (cons_option (letter_from c a letter)) rest
 
   -- a caller that is listed otherwise than the caller takes no letter of the caller's
-  other_letter : (callers : List ℕ) (kept : Bool) → contains c callers ≢ kept → (step : Action) → is_of_these callers step ≡ kept → letter_in_step c a step ≡ None
+  other_letter : (callers : List ℕ) (kept : Bool) → contains c callers ≢ kept → (step : Action) → is_of_these callers step ≡ kept →
+      letter_in_step c a step ≡ None
   other_letter callers kept apart step is = go (letter_taken step) refl
     where
       by : (letter : Letter) → contains (caller_of letter) callers ≡ kept → letter_from c a letter ≡ None
       by letter mine = elim (eqb_tells (caller_of letter) c) [
-        | inl t ↦ absurd (apart (ap (λ (n : ℕ). contains n callers) (sym t.1) ∙ mine))
-        | inr f ↦ ap (λ (b : Bool). cond b (Some (sent_letter a letter)) None) f.0
+        | inl t ↦ absurd (apart (ap (λ n. contains n callers) (sym t.1) ∙ mine))
+        | inr f ↦ ap (λ b. cond b (Some (sent_letter a letter)) None) f.0
       ]
 
       go : (o : Option Letter) → letter_taken step ≡ o → option_and_then (letter_from c a) o ≡ None
       go None e = refl
-      go (Some letter) e = by letter (sym (kept_letter callers step letter e) ∙ is)
+      go (Some letter) e = by letter (sym (kept_letter callers step e) ∙ is)
 
   -- the letters that are taken of a listed caller
-  pub letters_kept : (callers : List ℕ) → contains c callers ≡ true → (t : List (ℕ × Action)) (taken : List Letter) → map (λ x. x.1) (found_in letter_taken t) ≡ taken
-      → filter_map (letter_in_step c a) (steps_in (filter (keep_stamped (is_of_these callers)) t)) ≡ filter_map (letter_from c a) taken
-  letters_kept callers listed t taken is =
+  pub letters_kept : (callers : List ℕ) → contains c callers ≡ true → (t : List (ℕ × Action)) {taken : List Letter} → map (λ x. x.1) (found_in letter_taken t) ≡
+      taken → filter_map (letter_in_step c a) (steps_in (filter (keep_stamped (is_of_these callers)) t)) ≡ filter_map (letter_from c a) taken
+  letters_kept callers listed t is =
       ap (filter_map (letter_in_step c a)) (kept_steps (is_of_these callers) t)
-      ∙ kept_found (is_of_these callers) (letter_in_step c a) (λ step lost. other_letter callers false (λ same. true≢false (sym listed ∙ same)) step lost) (steps_in t)
+      ∙ kept_found (is_of_these callers) (letter_in_step c a) (λ step lost. other_letter callers false (λ same. true≢false (sym listed ∙ same)) step lost)
+      (steps_in t)
       ∙ by_letters (steps_in t)
       ∙ ap (filter_map (letter_from c a)) (sym (found_alone letter_taken t) ∙ is)
 
-  none_listed : (callers : List ℕ) → contains c callers ≡ false → (steps : List Action) → filter_map (letter_in_step c a) (filter (is_of_these callers) steps) ≡ []
+  none_listed : (callers : List ℕ) → contains c callers ≡ false → (steps : List Action) →
+      filter_map (letter_in_step c a) (filter (is_of_these callers) steps) ≡ []
   none_listed callers none [] = refl
   none_listed callers none (step ∷ steps) = go (is_of_these callers step) refl (none_listed callers none steps)
     where
       go : (b : Bool) → is_of_these callers step ≡ b → filter_map (letter_in_step c a) (filter (is_of_these callers) steps) ≡ []
           → filter_map (letter_in_step c a) (cond b (step ∷ filter (is_of_these callers) steps) (filter (is_of_these callers) steps)) ≡ []
-      go true is rest = ap (λ (o : Option SentLetter). cons_option o (filter_map (letter_in_step c a) (filter (is_of_these callers) steps))) (other_letter callers true (λ same. true≢false (sym same ∙ none)) step is) ∙ rest
+      go true is rest = ap (λ o. cons_option o (filter_map (letter_in_step c a) (filter (is_of_these callers) steps)))
+          (other_letter callers true (λ same. true≢false (sym same ∙ none)) step is) ∙ rest
       go false is rest = rest
 
-  pub letters_lost : (callers : List ℕ) → contains c callers ≡ false → (t : List (ℕ × Action)) → filter_map (letter_in_step c a) (steps_in (filter (keep_stamped (is_of_these callers)) t)) ≡ []
+  pub letters_lost : (callers : List ℕ) → contains c callers ≡ false → (t : List (ℕ × Action)) →
+      filter_map (letter_in_step c a) (steps_in (filter (keep_stamped (is_of_these callers)) t)) ≡ []
   letters_lost callers none t = ap (filter_map (letter_in_step c a)) (kept_steps (is_of_these callers) t) ∙ none_listed callers none (steps_in t)
 
   -- ---- what was taken was put
@@ -171,13 +181,16 @@ module _ (c a : ℕ) where
   of_caller [] = refl
   of_caller (letter ∷ letters) = go (caller_of letter == c) (of_caller letters)
     where
-      go : (b : Bool) → filter_map (letter_from c a) letters ≡ map (sent_letter a) (items_from caller_of c letters)
-          → cons_option (cond b (Some (sent_letter a letter)) None) (filter_map (letter_from c a) letters) ≡ map (sent_letter a) (cond b (letter ∷ items_from caller_of c letters) (items_from caller_of c letters))
-      go true rest = ap (λ (l : List SentLetter). sent_letter a letter ∷ l) rest
+      go : (b : Bool) → filter_map (letter_from c a) letters ≡ map (sent_letter a) (items_from caller_of c letters) →
+          cons_option (cond b (Some (sent_letter a letter)) None) (filter_map (letter_from c a) letters) ≡ map (sent_letter a)
+          (cond b (letter ∷ items_from caller_of c letters) (items_from caller_of c letters))
+      go true rest = ap (λ l. sent_letter a letter ∷ l) rest
       go false rest = rest
 
-  pub taken_differ : (owner : OwnerView) (taken put : List Letter) → IsPrefix (items_from caller_of c taken) put → All (IsSent owner a) put → AllPairs AreTwo put → Differ (filter_map (letter_from c a) taken)
+  pub taken_differ : (owner : OwnerView) (taken put : List Letter) → IsPrefix (items_from caller_of c taken) put → All (IsSent owner a) put →
+      AllPairs AreTwo put → Differ (filter_map (letter_from c a) taken)
   taken_differ owner taken put front sent apart =
       let all : Differ (map (sent_letter a) put) = put_differ owner a put (recursion_from_All (IsSent owner a) put sent) (are_apart put apart) in
-      let cut : Differ (map (sent_letter a) (items_from caller_of c taken) ++ map (sent_letter a) front.0) = subst (λ (l : List SentLetter). Differ l) (ap (map (sent_letter a)) (sym front.1) ∙ map-append (sent_letter a) (items_from caller_of c taken) front.0) all in
-      subst (λ (l : List SentLetter). Differ l) (sym (of_caller taken)) (front_differs (map (sent_letter a) (items_from caller_of c taken)) (map (sent_letter a) front.0) cut)
+      let cut : Differ (map (sent_letter a) (items_from caller_of c taken) ++ map (sent_letter a) front.0) =
+      subst (λ l. Differ l) (ap (map (sent_letter a)) (sym front.1) ∙ map-append (sent_letter a) (items_from caller_of c taken) front.0) all in
+      subst (λ l. Differ l) (sym (of_caller taken)) (front_differs (map (sent_letter a) (items_from caller_of c taken)) (map (sent_letter a) front.0) cut)

@@ -10,7 +10,7 @@ Differ (x ∷ xs) = AllByRecursion (λ y. x ≢ y) xs × Differ xs
 
 pub differ_pairs : {A : Type 0} (xs : List A) → Differ xs → AllPairs (λ one other. one ≢ other) xs
 differ_pairs [] differ = λ i j d below within. absurd (omega (arith, within))
-differ_pairs {A = A} (x ∷ xs) differ = AllPairs-cons (λ (one other : A). one ≢ other) x xs (All-from_recursion (λ (y : A). x ≢ y) xs differ.0) (differ_pairs xs differ.1)
+differ_pairs {A = A} (x ∷ xs) differ = AllPairs-cons (λ one other. one ≢ other) x xs (All-from_recursion (λ y. x ≢ y) xs differ.0) (differ_pairs xs differ.1)
 
 all_front : {A : Type 0} (P : A → Type 0) (xs ys : List A) → AllByRecursion P (xs ++ ys) → AllByRecursion P xs
 all_front P [] ys all = tt
@@ -18,7 +18,7 @@ all_front P (x ∷ xs) ys all = (all.0, all_front P xs ys all.1)
 
 pub front_differs : {A : Type 0} (xs ys : List A) → Differ (xs ++ ys) → Differ xs
 front_differs [] ys differ = tt
-front_differs {A = A} (x ∷ xs) ys differ = (all_front (λ (y : A). x ≢ y) xs ys differ.0, front_differs xs ys differ.1)
+front_differs {A = A} (x ∷ xs) ys differ = (all_front (λ y. x ≢ y) xs ys differ.0, front_differs xs ys differ.1)
 
 -- ---- all of one kind, from those of each pair of a caller and an actor
 
@@ -29,7 +29,7 @@ pub record HasEnds {X : Type 0} (between : ℕ → ℕ → X → Bool) (x : X) :
   pub goes : between caller actor x ≡ true
 
 pub both_same : (c a : ℕ) → ((c == c) && (a == a)) ≡ true
-both_same c a = ap (λ (b : Bool). b && (a == a)) (eq-eqb c c refl) ∙ eq-eqb a a refl
+both_same c a = ap (λ b. b && (a == a)) (eq-eqb c c refl) ∙ eq-eqb a a refl
 
 module _ {X : Type 0} (between : ℕ → ℕ → X → Bool) where
   rest_differs : (c a : ℕ) (x : X) (xs : List X) → Differ (filter (between c a) (x ∷ xs)) → Differ (filter (between c a) xs)
@@ -43,7 +43,8 @@ module _ {X : Type 0} (between : ℕ → ℕ → X → Bool) where
   others c a x [] mine all = tt
   others c a x (y ∷ xs) mine all = go (between c a y) refl all (others c a x xs mine)
     where
-      go : (b : Bool) → between c a y ≡ b → AllByRecursion (λ y. x ≢ y) (cond b (y ∷ filter (between c a) xs) (filter (between c a) xs)) → (AllByRecursion (λ y. x ≢ y) (filter (between c a) xs) → AllByRecursion (λ y. x ≢ y) xs) → AllByRecursion (λ y. x ≢ y) (y ∷ xs)
+      go : (b : Bool) → between c a y ≡ b → AllByRecursion (λ y. x ≢ y) (cond b (y ∷ filter (between c a) xs) (filter (between c a) xs)) →
+          (AllByRecursion (λ y. x ≢ y) (filter (between c a) xs) → AllByRecursion (λ y. x ≢ y) xs) → AllByRecursion (λ y. x ≢ y) (y ∷ xs)
       go true is all rest = (all.0, rest all.1)
       go false is all rest = ((λ e. (let bad : true ≡ false = sym mine ∙ ap (between c a) e ∙ is in cc)), rest all)
 
@@ -51,7 +52,8 @@ module _ {X : Type 0} (between : ℕ → ℕ → X → Bool) where
   all_differ ends [] each = tt
   all_differ ends (x ∷ xs) each =
       let e = ends x in
-      let here : Differ (x ∷ filter (between e.caller e.actor) xs) = subst (λ (b : Bool). Differ (cond b (x ∷ filter (between e.caller e.actor) xs) (filter (between e.caller e.actor) xs))) e.goes (each e.caller e.actor) in
+      let here : Differ (x ∷ filter (between e.caller e.actor) xs) =
+      subst (λ b. Differ (cond b (x ∷ filter (between e.caller e.actor) xs) (filter (between e.caller e.actor) xs))) e.goes (each e.caller e.actor) in
       (others e.caller e.actor x xs e.goes here.0, all_differ ends xs (λ c a. rest_differs c a x xs (each c a)))
 
 -- ---- one line
@@ -67,7 +69,8 @@ module _ (c a : ℕ) where
   late n m [] below = tt
   late n m (x ∷ log) below = go (x.caller == c) (late n (m + 1) log (omega (arith, below)))
     where
-      go : (b : Bool) → AllByRecursion (λ p. n ≤ p) (places_from (m + 1) log) → AllByRecursion (λ p. n ≤ p) (map (λ ran. ran.0) (cond b ((m, x) ∷ filter (λ ran. ran.1.caller == c) (enumerate_from (m + 1) log)) (filter (λ ran. ran.1.caller == c) (enumerate_from (m + 1) log))))
+      go : (b : Bool) → AllByRecursion (λ p. n ≤ p) (places_from (m + 1) log) → AllByRecursion (λ p. n ≤ p) (map (λ ran. ran.0)
+          (cond b ((m, x) ∷ filter (λ ran. ran.1.caller == c) (enumerate_from (m + 1) log)) (filter (λ ran. ran.1.caller == c) (enumerate_from (m + 1) log))))
       go true rest = (below, rest)
       go false rest = rest
 
@@ -83,7 +86,8 @@ module _ (c a : ℕ) where
   line_differs n [] = (tt, tt)
   line_differs n (x ∷ log) = go (x.caller == c) (late (n + 1) (n + 1) log (omega arith)) (line_differs (n + 1) log)
     where
-      go : (b : Bool) → AllByRecursion (λ p. n + 1 ≤ p) (places_from (n + 1) log) → Differ (line (places_from (n + 1) log)) → Differ (line (map (λ ran. ran.0) (cond b ((n, x) ∷ filter (λ ran. ran.1.caller == c) (enumerate_from (n + 1) log)) (filter (λ ran. ran.1.caller == c) (enumerate_from (n + 1) log)))))
+      go : (b : Bool) → AllByRecursion (λ p. n + 1 ≤ p) (places_from (n + 1) log) → Differ (line (places_from (n + 1) log)) → Differ (line (map (λ ran. ran.0)
+          (cond b ((n, x) ∷ filter (λ ran. ran.1.caller == c) (enumerate_from (n + 1) log)) (filter (λ ran. ran.1.caller == c) (enumerate_from (n + 1) log)))))
       go true past rest = (apart n (places_from (n + 1) log) past, rest)
       go false past rest = rest
 
@@ -95,4 +99,4 @@ ends_of (DeathPost c a) = record { caller = c; actor = a; goes = both_same c a }
 
 pub collected_once : (h : History) → ((c a : ℕ) → CollectsInLine h c a) → AllPairs (λ one other. one ≢ other) h.collected
 collected_once h lines = differ_pairs h.collected (all_differ is_between ends_of h.collected (λ c a.
-    front_differs (filter (is_between c a) h.collected) (lines c a).0 (subst (λ (l : List Post). Differ l) (sym (lines c a).1) (line_differs c a 0 (runs_of a h)))))
+    front_differs (filter (is_between c a) h.collected) (lines c a).0 (subst (λ l. Differ l) (sym (lines c a).1) (line_differs c a 0 (runs_of a h)))))

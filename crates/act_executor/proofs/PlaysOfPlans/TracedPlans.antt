@@ -2,7 +2,6 @@
 use Rattle.act_executor.proofs.Common.{◌≡◌, ℕ, List, [], ap, ◌∙◌, map, filter, filter_map, Event, Step, history, ActorSpec, items_from, notice_actor, steps_in}
 use Rattle.act_executor.proofs.Common.{opened_of, SpecsFit, Action, notice_of, DoesPlan, AreTraced, Threads, Site, Caller, Actor, IsPlayOfRun, DoesPlanIn}
 use Rattle.act_executor.proofs.Common.{is_between}
-use Rattle.act_rules.specs.declared.history.Letter.{Letter}
 use Rattle.act_executor.proofs.PlaysOfThreads.Seen.{actions_are}
 use Rattle.act_executor.proofs.PlaysOfThreads.Traced.{IsMergedPlay, merged_play}
 use Rattle.act_executor.proofs.PlaysOfPlans.Planned.{plan_in_play}
@@ -18,18 +17,19 @@ pub record IsPlayOfPlannedRun (casts : List ActorSpec) (run : Site → List Acti
       → filter (is_between c a) (history casts events).collected ≡ map (post_from c) (items_from notice_actor a (filter_map notice_of (run (Caller c))))
   pub arrived : (c a : ℕ) → filter (is_sent_between c a) (history casts events).arrived ≡ filter_map (letter_in_step c a) (run (Actor a))
 
-pub play_of_steps : (casts : List ActorSpec) (threads : Threads) → SpecsFit casts → AreTraced casts threads → (events : List Event) × IsPlayOfPlannedRun casts (λ site. steps_in (threads site)) events
-play_of_steps casts threads fitting traced =
-    let m : IsMergedPlay casts threads = merged_play casts threads fitting traced in
-    let deeds = steps_in m.merged in
+pub play_of_steps : (casts : List ActorSpec) {threads : Threads} → SpecsFit casts → AreTraced casts threads →
+    (events : List Event) × IsPlayOfPlannedRun casts (λ site. steps_in (threads site)) events
+play_of_steps casts {threads} fitting traced =
+    let m : IsMergedPlay casts threads = merged_play casts fitting traced in let deeds = steps_in m.merged in
     let steps = m.stepwise in (
       m.events,
       record {
         play = m.left;
-        does = λ c plan does. plan_in_play casts c (history casts m.events) deeds m.events (steps_in (threads (Caller c))) plan steps.play.steps steps.fronts (actions_are m.merge (Caller c)) does;
+        does = λ c plan does. plan_in_play casts c (history casts m.events) deeds m.events plan steps.play.steps steps.fronts
+            (actions_are m.merge (Caller c)) does;
         collected = λ c a. ap (filter (is_between c a)) steps.in_order.collected ∙ collected_part c a deeds
-            ∙ ap (λ (own : List Action). map (post_from c) (items_from notice_actor a (filter_map notice_of own))) (actions_are m.merge (Caller c));
-        arrived = λ c a. ap (λ (l : List Letter). filter (is_sent_between c a) l) steps.in_order.arrived ∙ arrived_part c a deeds
+            ∙ ap (λ own. map (post_from c) (items_from notice_actor a (filter_map notice_of own))) (actions_are m.merge (Caller c));
+        arrived = λ c a. ap (λ l. filter (is_sent_between c a) l) steps.in_order.arrived ∙ arrived_part c a deeds
             ∙ ap (filter_map (letter_in_step c a)) (actions_are m.merge (Actor a));
       },
     )

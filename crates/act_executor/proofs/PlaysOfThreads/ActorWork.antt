@@ -1,9 +1,9 @@
 -- What an actor's thread did: its trace without letters of strangers, and what the audits and the run need of it.
 use Rattle.act_executor.proofs.Common.{◌≡◌, ℕ, Bool, true, false, List, [], ◌∷◌, ◌++◌, length, None, refl, ap, sym, ◌∙◌, subst, Contains, filter}
-use Rattle.act_executor.proofs.Common.{AllByRecursion, list_any, RunItem, items_of, has_terminated, contains, Call, Note, caller_of, packet_of_item}
-use Rattle.act_executor.proofs.Common.{note_after_calls, Action, CallTaken, NoteTaken, CallRun, KillTaken, DeathTold, Retirement, call_run, is_kill_taken}
-use Rattle.act_executor.proofs.Common.{is_retirement, log_of, has_died_in, has_ended_in, ActorMayDo, ActorMayDoAll, letter_taken, ◌||◌, Letter, Some}
-use Rattle.act_executor.proofs.Common.{in_from_contains, contains_from_in, in_filter}
+use Rattle.act_executor.proofs.Common.{AllByRecursion, list_any, items_of, has_terminated, contains, Call, Note, caller_of, packet_of_item, note_after_calls}
+use Rattle.act_executor.proofs.Common.{Action, CallTaken, NoteTaken, CallRun, KillTaken, DeathTold, Retirement, call_run, is_kill_taken, is_retirement, log_of}
+use Rattle.act_executor.proofs.Common.{has_died_in, has_ended_in, ActorMayDo, ActorMayDoAll, letter_taken, ◌||◌, Letter, Some, in_from_contains}
+use Rattle.act_executor.proofs.Common.{contains_from_in, in_filter}
 use Rattle.act_executor.proofs.Lists.Kept.{kept_any, kept_found, kept_more, lost_more, kept_first, lost_first}
 
 -- every step but the taking of a letter of a caller that isn't among these
@@ -17,10 +17,10 @@ module _ (callers : List ℕ) where
   keep = is_of_these callers
 
   -- whether the step of a letter stays is told by its caller
-  pub kept_letter : (step : Action) (letter : Letter) → letter_taken step ≡ Some letter → keep step ≡ contains (caller_of letter) callers
-  kept_letter (CallTaken packet) letter e = let same : Call packet ≡ letter = cc in ap (λ (l : Letter). contains (caller_of l) callers) same
-  kept_letter (NoteTaken note) letter e = let same : Note note ≡ letter = cc in ap (λ (l : Letter). contains (caller_of l) callers) same
-  kept_letter step letter e = cc
+  pub kept_letter : (step : Action) {letter : Letter} → letter_taken step ≡ Some letter → keep step ≡ contains (caller_of letter) callers
+  kept_letter (CallTaken packet) {letter} e = let same : Call packet ≡ letter = cc in ap (λ l. contains (caller_of l) callers) same
+  kept_letter (NoteTaken note) {letter} e = let same : Note note ≡ letter = cc in ap (λ l. contains (caller_of l) callers) same
+  kept_letter step e = cc
 
   pub lost_kill : (step : Action) → keep step ≡ false → is_kill_taken step ≡ false
   lost_kill (KillTaken asker note) e = cc
@@ -47,7 +47,7 @@ module _ (callers : List ℕ) where
   ended_same steps = λ i. died_same steps i || retired_same steps i
 
   still_in : (steps : List Action) (step : Action) → keep step ≡ true → Contains steps step → Contains (filter keep steps) step
-  still_in steps step is has = contains_from_in (filter keep steps) step (in_filter keep steps step (in_from_contains steps step has) is)
+  still_in steps step is has = contains_from_in (in_filter keep (in_from_contains steps step has) is)
 
   -- a call that runs is of one of these
   abbrev pub RunsFor : Action → Type 0
@@ -57,13 +57,17 @@ module _ (callers : List ℕ) where
   module _ (a : ℕ) (others : List ℕ) (same_callers : (c : ℕ) → contains c others ≡ contains c callers) where
     -- a step that stays may be done after those that stay
     may_still : (before : List Action) (step : Action) → RunsFor step → ActorMayDo a others before step → ActorMayDo a callers (filter keep before) step
-    may_still before (CallRun item) runs may = (ended_same before ∙ may.0, still_in before (CallTaken (packet_of_item a item)) runs may.1, may.2 ∙ ap (λ (log : List RunItem). length (items_of item.caller log)) (sym (log_same before)))
+    may_still before (CallRun item) runs may = (
+      ended_same before ∙ may.0,
+      still_in before (CallTaken (packet_of_item a item)) runs may.1,
+      may.2 ∙ ap (λ log. length (items_of item.caller log)) (sym (log_same before)),
+    )
     may_still before (DeathTold c) runs may = (died_same before ∙ may.0, sym (same_callers c) ∙ may.1)
     may_still before Retirement runs may = (
       ended_same before ∙ may.0,
       λ c named.
           let noted = may.1 c (same_callers c ∙ named) in
-          subst (λ (log : List RunItem). Contains (filter keep before) (NoteTaken (note_after_calls c a (length (items_of c log))))) (sym (log_same before))
+          subst (λ log. Contains (filter keep before) (NoteTaken (note_after_calls c a (length (items_of c log))))) (sym (log_same before))
           (still_in before (NoteTaken (note_after_calls c a (length (items_of c (log_of before))))) named noted),
     )
     may_still before (CallTaken packet) runs may = ended_same before ∙ may
@@ -71,14 +75,16 @@ module _ (callers : List ℕ) where
     may_still before (KillTaken asker note) runs may = ended_same before ∙ may
     may_still before step runs may = may
 
-    pub may_all : (before steps : List Action) → AllByRecursion RunsFor steps → ActorMayDoAll a others before steps → ActorMayDoAll a callers (filter keep before) (filter keep steps)
+    pub may_all : (before steps : List Action) → AllByRecursion RunsFor steps → ActorMayDoAll a others before steps →
+        ActorMayDoAll a callers (filter keep before) (filter keep steps)
     may_all before [] runs may = tt
     may_all before (step ∷ steps) runs may = go (keep step) refl (may_still before step runs.0 may.0) (may_all (before ++ step ∷ []) steps runs.1 may.1)
       where
-        go : (b : Bool) → keep step ≡ b → ActorMayDo a callers (filter keep before) step → ActorMayDoAll a callers (filter keep (before ++ step ∷ [])) (filter keep steps) → ActorMayDoAll a callers (filter keep before) (filter keep (step ∷ steps))
+        go : (b : Bool) → keep step ≡ b → ActorMayDo a callers (filter keep before) step → ActorMayDoAll a callers (filter keep (before ++ step ∷ []))
+            (filter keep steps) → ActorMayDoAll a callers (filter keep before) (filter keep (step ∷ steps))
         go true is here rest =
-            let after = subst (λ (l : List Action). ActorMayDoAll a callers l (filter keep steps)) (kept_more keep before step is) rest in
-            subst (λ (l : List Action). ActorMayDoAll a callers (filter keep before) l) (sym (kept_first keep step steps is)) (here, after)
+            let after = subst (λ l. ActorMayDoAll a callers l (filter keep steps)) (kept_more keep before step is) rest in
+            subst (λ l. ActorMayDoAll a callers (filter keep before) l) (sym (kept_first keep step steps is)) (here, after)
         go false is here rest =
-            let after = subst (λ (l : List Action). ActorMayDoAll a callers l (filter keep steps)) (lost_more keep before step is) rest in
-            subst (λ (l : List Action). ActorMayDoAll a callers (filter keep before) l) (sym (lost_first keep step steps is)) after
+            let after = subst (λ l. ActorMayDoAll a callers l (filter keep steps)) (lost_more keep before step is) rest in
+            subst (λ l. ActorMayDoAll a callers (filter keep before) l) (sym (lost_first keep step steps is)) after

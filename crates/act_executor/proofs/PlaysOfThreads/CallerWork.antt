@@ -28,10 +28,7 @@ module _ (actors : List ℕ) where
     pub calls : AllByRecursion IsToThese owner.calls
 
   pub opened_holds : (limits : List (ℕ × Option ℕ)) (id : ℕ) → HoldsThese (opened_under limits id actors)
-  opened_holds limits id = record {
-    strangers = λ a none. copies-opened a actors ∙ ap (λ (b : Bool). if b then Some 1 else None) none;
-    calls = tt;
-  }
+  opened_holds limits id = record { strangers = λ a none. copies-opened a actors ∙ ap (λ b. if b then Some 1 else None) none; calls = tt }
 
   -- ---- a notice of a stranger
 
@@ -39,24 +36,24 @@ module _ (actors : List ℕ) where
   no_call a calls k none all = go (slice_get calls k) refl
     where
       other : (call : Submission) (b : Bool) → (call.actor == a) ≡ b → contains call.actor actors ≡ true → b ≡ false
-      other call true is listed = let bad : contains a actors ≡ true = subst (λ (n : ℕ). contains n actors ≡ true) (eqb-true call.actor a is) listed in cc
+      other call true is listed = let bad : contains a actors ≡ true = subst (λ n. contains n actors ≡ true) (eqb-true call.actor a is) listed in cc
       other call false is listed = refl
 
       go : (o : Option Submission) → slice_get calls k ≡ o → is_to a o ≡ false
       go None at = refl
-      go (Some call) at = other call (call.actor == a) refl (All_at IsToThese calls k call all at)
+      go (Some call) at = other call (call.actor == a) refl (All_at IsToThese calls k all at)
 
-  not_of_call : (x b y z : Bool) → b ≡ false → (x && b && y && z) ≡ false
-  not_of_call true b y z e = ap (λ (w : Bool). w && y && z) e
-  not_of_call false b y z e = refl
+  not_of_call : (x : Bool) {b : Bool} (y z : Bool) → b ≡ false → (x && b && y && z) ≡ false
+  not_of_call true y z e = ap (λ w. w && y && z) e
+  not_of_call false y z e = refl
 
-  stranger_ignored : (owner : OwnerView) (notice : Notice) → HoldsThese owner → contains (notice_actor notice) actors ≡ false → after_collect owner notice ≡ owner
+  stranger_ignored : (owner : OwnerView) (notice : Notice) → HoldsThese owner → contains (notice_actor notice) actors ≡ false →
+      after_collect owner notice ≡ owner
   stranger_ignored owner (Answered reply) holds none =
-      let k = reply.future in
-      let to = no_call reply.actor owner.calls k none holds.calls in
-      ap (λ (b : Bool). after_reply_that (if b then (if is_some (kept_at owner.kept k) then Late k else First k) else Stray) owner reply)
-      (not_of_call (reply.caller == owner.id) (is_to reply.actor (slice_get owner.calls k)) (is_sent owner k) (not (is_death reply.answer)) to)
-  stranger_ignored owner (Death a) holds none = ap (λ (o : Option ℕ). if is_some o then with_death owner a else owner) (holds.strangers a none)
+      let k = reply.future in let to = no_call reply.actor owner.calls k none holds.calls in
+      ap (λ b. after_reply_that (if b then (if is_some (kept_at owner.kept k) then Late k else First k) else Stray) owner reply)
+      (not_of_call (reply.caller == owner.id) (is_sent owner k) (not (is_death reply.answer)) to)
+  stranger_ignored owner (Death a) holds none = ap (λ o. if is_some o then with_death owner a else owner) (holds.strangers a none)
 
   -- ---- a step
 
@@ -65,17 +62,20 @@ module _ (actors : List ℕ) where
     where
       go : (b : Bool) → contains a actors ≡ b → contains a actors ≡ true
       go true is = is
-      go false is = let bad = subst (λ (o : Option ℕ). option_or (submit_refusal o (length owner.calls) args) (limit_refusal (owner_limit owner a) (pending owner a)) ≡ None) (holds.strangers a is) may in cc
+      go false is = let bad = subst (λ o. option_or (submit_refusal o (length owner.calls) args)
+          (limit_refusal (owner_limit owner a) (pending owner a)) ≡ None) (holds.strangers a is) may in cc
 
   copied_none : (a b : ℕ) (handles : List Handle) → copies_in b handles ≡ None → copies_in b (with_copy a handles) ≡ None
   copied_none a b handles none = elim (eqb_tells a b) [
-    | inl t ↦ subst (λ (n : ℕ). copies_in n (with_copy a handles) ≡ None) t.1 (copies-with_copy a handles ∙ ap (option_map (λ copies. copies + 1)) (subst (λ (n : ℕ). copies_in n handles ≡ None) (sym t.1) none))
+    | inl t ↦ subst (λ n. copies_in n (with_copy a handles) ≡ None) t.1
+        (copies-with_copy a handles ∙ ap (option_map (λ copies. copies + 1)) (subst (λ n. copies_in n handles ≡ None) (sym t.1) none))
     | inr f ↦ copies-with_copy-other a b handles f.1 ∙ none
   ]
 
   released_none : (a b : ℕ) (handles : List Handle) → copies_in b handles ≡ None → copies_in b (without_copy a handles) ≡ None
   released_none a b handles none = elim (eqb_tells a b) [
-    | inl t ↦ subst (λ (n : ℕ). copies_in n (without_copy a handles) ≡ None) t.1 (copies-without_copy a handles ∙ ap (option_map (λ copies. copies - 1)) (subst (λ (n : ℕ). copies_in n handles ≡ None) (sym t.1) none))
+    | inl t ↦ subst (λ n. copies_in n (without_copy a handles) ≡ None) t.1
+        (copies-without_copy a handles ∙ ap (option_map (λ copies. copies - 1)) (subst (λ n. copies_in n handles ≡ None) (sym t.1) none))
     | inr f ↦ copies-without_copy-other a b handles f.1 ∙ none
   ]
 
@@ -88,10 +88,7 @@ module _ (actors : List ℕ) where
   }
   step_holds owner (Noticed notice) holds may =
       let same = notice_keeps owner notice in
-      record {
-        strangers = λ b none. ap (copies_in b) same.2 ∙ holds.strangers b none;
-        calls = subst (AllByRecursion IsToThese) (sym same.1) holds.calls;
-      }
+      record { strangers = λ b none. ap (copies_in b) same.2 ∙ holds.strangers b none; calls = subst (AllByRecursion IsToThese) (sym same.1) holds.calls }
   step_holds owner step holds may = record { strangers = holds.strangers; calls = holds.calls }
 
   -- ---- all steps
@@ -104,23 +101,24 @@ module _ (actors : List ℕ) where
     pub may : CallerMayDoAll owner (filter keep steps)
     pub same : after_actions owner (filter keep steps) ≡ after_actions owner steps
 
-  more : (owner : OwnerView) (step : Action) (steps : List Action) → CallerMayDo owner step → keep step ≡ true → IsStill (after_action owner step) steps → IsStill owner (step ∷ steps)
+  more : (owner : OwnerView) (step : Action) (steps : List Action) → CallerMayDo owner step → keep step ≡ true → IsStill (after_action owner step) steps →
+      IsStill owner (step ∷ steps)
   more owner step steps may is rest =
       let first = kept_first keep step steps is in
-      record {
-        may = subst (CallerMayDoAll owner) (sym first) (may, rest.may);
-        same = ap (after_actions owner) first ∙ rest.same;
-      }
+      record { may = subst (CallerMayDoAll owner) (sym first) (may, rest.may); same = ap (after_actions owner) first ∙ rest.same }
 
-  less : (owner : OwnerView) (step : Action) (steps : List Action) → keep step ≡ false → after_action owner step ≡ owner → IsStill (after_action owner step) steps → IsStill owner (step ∷ steps)
+  less : (owner : OwnerView) (step : Action) (steps : List Action) → keep step ≡ false → after_action owner step ≡ owner →
+      IsStill (after_action owner step) steps → IsStill owner (step ∷ steps)
   less owner step steps is stays rest =
       let first = lost_first keep step steps is in
       record {
-        may = subst (CallerMayDoAll owner) (sym first) (subst (λ (o : OwnerView). CallerMayDoAll o (filter keep steps)) stays rest.may);
-        same = ap (after_actions owner) first ∙ subst (λ (o : OwnerView). after_actions o (filter keep steps) ≡ after_actions (after_action owner step) steps) stays rest.same;
+        may = subst (CallerMayDoAll owner) (sym first) (subst (λ o. CallerMayDoAll o (filter keep steps)) stays rest.may);
+        same =
+            ap (after_actions owner) first ∙ subst (λ o. after_actions o (filter keep steps) ≡ after_actions (after_action owner step) steps) stays rest.same;
       }
 
-  one_more : (owner : OwnerView) (step : Action) (steps : List Action) → HoldsThese owner → CallerMayDo owner step → IsStill (after_action owner step) steps → IsStill owner (step ∷ steps)
+  one_more : (owner : OwnerView) (step : Action) (steps : List Action) → HoldsThese owner → CallerMayDo owner step → IsStill (after_action owner step) steps →
+      IsStill owner (step ∷ steps)
   one_more owner (Noticed notice) steps holds may rest = go (contains (notice_actor notice) actors) refl
     where
       go : (b : Bool) → contains (notice_actor notice) actors ≡ b → IsStill owner (Noticed notice ∷ steps)

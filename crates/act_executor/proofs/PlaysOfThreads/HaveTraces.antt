@@ -16,25 +16,27 @@ module _ (p q : ExecPasses) (letters : p.letters ≡ q.letters) (kills : p.kills
   clocks : exec_clock p ≡ exec_clock q
   clocks = λ i. clock (flat_map (λ (endpoint : Endpoint ReplyExecView). endpoint.pass.stamps) (notices i)) ((letters i).stamps ++ (kills i).stamps)
 
-  trace_moved : (a : ℕ) (lines : List RepliesView) (log : List RunItem) (trace : List (ℕ × Action)) → IsActorTrace a lines log p trace → IsActorTrace a lines log q trace
-  trace_moved a lines log trace is = record {
-    timed = subst (λ (n : ℕ). IsTimed n trace) clocks is.timed;
-    allowed = subst (λ (l : List (Endpoint ReplyExecView)). ActorMayDoAll a (endpoint_callers lines l) [] (steps_in trace)) notices is.allowed;
+  trace_moved : (a : ℕ) (lines : List RepliesView) {log : List RunItem} (trace : List (ℕ × Action)) → IsActorTrace a lines log p trace →
+      IsActorTrace a lines log q trace
+  trace_moved a lines trace is = record {
+    timed = subst (λ n. IsTimed n trace) clocks is.timed;
+    allowed = subst (λ l. ActorMayDoAll a (endpoint_callers lines l) [] (steps_in trace)) notices is.allowed;
     letters = is.letters ∙ ap (λ (t : TakerView Letter Unit). t.taken) letters;
     letters_later = subst (λ (t : TakerView Letter Unit). AreTakenLater (found_in letter_taken trace) t.stamps) letters is.letters_later;
     kills = is.kills ∙ ap (λ (t : ControlExecView). t.taken) kills;
     kills_later = subst (λ (t : ControlExecView). AreTakenLater (found_in kill_taken trace) t.stamps) kills is.kills_later;
     runs = is.runs;
-    given = subst (λ (l : List (Endpoint ReplyExecView)). All (λ (endpoint : Endpoint ReplyExecView). AllZip (IsGivenAfter trace (caller_at lines endpoint.place)) endpoint.pass.given endpoint.pass.stamps) l) notices is.given;
+    given = subst (λ l. All (λ (endpoint : Endpoint ReplyExecView). AllZip
+        (IsGivenAfter trace (caller_at lines endpoint.place)) endpoint.pass.given endpoint.pass.stamps) l) notices is.given;
   }
 
   traced_so : (a : ℕ) (lines : List RepliesView) (end : EndView) → IsActorTraced a lines end p → IsActorTraced a lines end q
-  traced_so a lines (Killed dead) is = (is.0, trace_moved a lines dead.log is.0 is.1, is.2)
-  traced_so a lines (Retired retired) is = (is.0, trace_moved a lines retired.log is.0 is.1, is.2)
+  traced_so a lines (Killed dead) is = (is.0, trace_moved a lines is.0 is.1, is.2)
+  traced_so a lines (Retired retired) is = (is.0, trace_moved a lines is.0 is.1, is.2)
   traced_so a lines (Starved dead) is = tt
 
   -- and of the same end under the same name
-  pub traced_moved : (a b : ℕ) (lines : List RepliesView) (end later : EndView) → a ≡ b → end ≡ later → IsActorTraced a lines end p → IsActorTraced b lines later q
-  traced_moved a b lines end later same ended is =
-      let At : ℕ × EndView → Type 0 = λ x. IsActorTraced x.0 lines x.1 q in
-      subst At (λ i. (same i, ended i)) (traced_so a lines end is)
+  pub traced_moved : {a b : ℕ} (lines : List RepliesView) {end later : EndView} → a ≡ b → end ≡ later → IsActorTraced a lines end p →
+      IsActorTraced b lines later q
+  traced_moved {a} lines {end} same ended is =
+      let At : ℕ × EndView → Type 0 = λ x. IsActorTraced x.0 lines x.1 q in subst At (λ i. (same i, ended i)) (traced_so a lines end is)

@@ -32,11 +32,12 @@ any_kill (step ∷ steps) = any_kill steps
 
 why_dead : (b : Bool) (log : List RunItem) (kills : ControlExecView) → KillsOfDead b log kills → (is_any kills.taken || b) ≡ true
 unfolding is_any
-why_dead true log kills none = ap (λ (l : List Asked). is_any l || true) none.0
-why_dead false log kills one = ap (λ (l : List Asked). is_any l || false) one.1
+why_dead true log kills none = ap (λ l. is_any l || true) none.0
+why_dead false log kills one = ap (λ l. is_any l || false) one.1
 
 -- it is killed exactly where it took a kill or terminated
-why_killed : (kills : ControlExecView) (end : EndView) → is_starved end ≡ false → KillsTaken kills end → (is_any kills.taken || has_terminated (end_log end)) ≡ is_killed end
+why_killed : (kills : ControlExecView) (end : EndView) → is_starved end ≡ false → KillsTaken kills end →
+    (is_any kills.taken || has_terminated (end_log end)) ≡ is_killed end
 unfolding is_any
 why_killed kills (Killed dead) fed taken = why_dead (has_terminated dead.log) dead.log kills taken
 why_killed kills (Retired retired) fed taken = λ i. is_any (taken.0.0 i) || taken.1 i
@@ -50,19 +51,22 @@ pub record IsActorWork (casts : List ActorSpec) (replies : List RepliesView) (s 
   pub at : cast_at (end_id s.end) casts ≡ Some cast
   pub rising : AllPairs (λ one other. one.0 ≤ other.0) trace
   pub allowed : ActorMayDoAll (end_id s.end) cast.callers [] (steps_in trace)
-  pub letters_taken : (c a : ℕ) → contains c cast.callers ≡ true → filter_map (letter_in_step c a) (steps_in trace) ≡ filter_map (letter_from c a) s.passes.letters.taken
+  pub letters_taken : (c a : ℕ) → contains c cast.callers ≡ true →
+      filter_map (letter_in_step c a) (steps_in trace) ≡ filter_map (letter_from c a) s.passes.letters.taken
   pub no_letters : (c a : ℕ) → contains c cast.callers ≡ false → filter_map (letter_in_step c a) (steps_in trace) ≡ []
   pub letters : (m : ℕ) (step : Action) (letter : Letter) → letter_taken step ≡ Some letter → IsIn {A = ℕ × Action} trace (m, step) →
       IsIn cast.callers (caller_of letter) × IsTakenFrom s.passes.letters.taken s.passes.letters.stamps letter m
-  pub kills : (m : ℕ) (step : Action) (kill : Asked) → kill_taken step ≡ Some kill → IsIn {A = ℕ × Action} trace (m, step) → IsTakenFrom s.passes.kills.taken s.passes.kills.stamps kill m
+  pub kills : (m : ℕ) (step : Action) (kill : Asked) → kill_taken step ≡ Some kill → IsIn {A = ℕ × Action} trace (m, step) →
+      IsTakenFrom s.passes.kills.taken s.passes.kills.stamps kill m
   pub runs : map (λ x. x.1) (found_in call_run trace) ≡ end_log s.end
-  pub given : (endpoint : Endpoint ReplyExecView) → IsIn s.passes.notices.items endpoint → (notice : Notice) (n : ℕ) → IsIn {A = Notice × ℕ} (zip endpoint.pass.given endpoint.pass.stamps) (notice, n) →
-      IsGivenAfter trace (caller_at replies endpoint.place) notice n
+  pub given : (endpoint : Endpoint ReplyExecView) → IsIn s.passes.notices.items endpoint → (notice : Notice) (n : ℕ) →
+      IsIn {A = Notice × ℕ} (zip endpoint.pass.given endpoint.pass.stamps) (notice, n) → IsGivenAfter trace (caller_at replies endpoint.place) notice n
   pub dead : has_died_in (steps_in trace) ≡ is_killed s.end
   pub retired : list_any is_retirement (steps_in trace) ≡ has_retired s.end
 
-module _ (casts : List ActorSpec) (replies : List RepliesView) (s : ServedView) (cast : ActorSpec) (at : cast_at (end_id s.end) casts ≡ Some cast) (serving : IsServed replies cast s) (fed : is_starved s.end ≡ false)
-    (t : List (ℕ × Action)) (is : IsActorTrace (end_id s.end) replies (end_log s.end) s.passes t) (ended : list_any is_retirement (steps_in t) ≡ has_retired s.end) where
+module _ (casts : List ActorSpec) (replies : List RepliesView) (s : ServedView) (cast : ActorSpec) (at : cast_at (end_id s.end) casts ≡ Some cast)
+    (serving : IsServed replies cast s) (fed : is_starved s.end ≡ false) (t : List (ℕ × Action))
+    (is : IsActorTrace (end_id s.end) replies (end_log s.end) s.passes t) (ended : list_any is_retirement (steps_in t) ≡ has_retired s.end) where
   abbrev keep : Action → Bool
   keep = is_of_these cast.callers
 
@@ -75,9 +79,8 @@ module _ (casts : List ActorSpec) (replies : List RepliesView) (s : ServedView) 
 
   runs_for : (step : Action) → IsIn (steps_in t) step → RunsFor cast.callers step
   runs_for (CallRun item) i =
-      let ran = mapped_at call_run (steps_in t) i.place (CallRun item) item i.at refl in
-      let logged = subst (λ (log : List RunItem). IsIn log item) log_is ran in
-      sym (serving.same_callers item.caller) ∙ all_in (λ (x : RunItem). contains x.caller serving.callers ≡ true) (end_log s.end) item serving.log.listed logged
+      let ran = mapped_at call_run (steps_in t) i.place item i.at refl in let logged = subst (λ log. IsIn log item) log_is ran in
+      sym (serving.same_callers item.caller) ∙ all_in (λ (x : RunItem). contains x.caller serving.callers ≡ true) serving.log.listed logged
   runs_for step i = tt
 
   same_callers : (c : ℕ) → contains c (endpoint_callers replies s.passes.notices.items) ≡ contains c cast.callers
@@ -89,37 +92,43 @@ module _ (casts : List ActorSpec) (replies : List RepliesView) (s : ServedView) 
       let may = may_all cast.callers (end_id s.end) (endpoint_callers replies s.passes.notices.items) same_callers [] (steps_in t) all is.allowed in
       subst (ActorMayDoAll (end_id s.end) cast.callers []) (sym (kept_steps keep t)) may
 
-  letters : (m : ℕ) (step : Action) (letter : Letter) → letter_taken step ≡ Some letter → IsIn {A = ℕ × Action} f (m, step) → IsIn cast.callers (caller_of letter) × IsTakenFrom s.passes.letters.taken s.passes.letters.stamps letter m
+  letters : (m : ℕ) (step : Action) (letter : Letter) → letter_taken step ≡ Some letter → IsIn {A = ℕ × Action} f (m, step) →
+      IsIn cast.callers (caller_of letter) × IsTakenFrom s.passes.letters.taken s.passes.letters.stamps letter m
   letters m step letter takes i =
-      let from = filter-slice_get (keep_stamped keep) t i.place (m, step) i.at in
+      let from = filter-slice_get (keep_stamped keep) t i.place i.at in
       let there : IsIn {A = ℕ × Action} t (m, step) = record { place = from.place; at = from.at } in
-      let mine : contains (caller_of letter) cast.callers ≡ true = sym (kept_letter cast.callers step letter takes) ∙ from.passes in
-      (contains_is (caller_of letter) cast.callers mine, found_taken (found_in letter_taken t) s.passes.letters.taken s.passes.letters.stamps m letter is.letters is.letters_later (found_step letter_taken t m step letter takes there))
+      let mine : contains (caller_of letter) cast.callers ≡ true = sym (kept_letter cast.callers step takes) ∙ from.passes in (
+        contains_is (caller_of letter) cast.callers mine,
+        found_taken s.passes.letters.stamps m is.letters is.letters_later (found_step letter_taken t m letter takes there),
+      )
 
-  kills : (m : ℕ) (step : Action) (kill : Asked) → kill_taken step ≡ Some kill → IsIn {A = ℕ × Action} f (m, step) → IsTakenFrom s.passes.kills.taken s.passes.kills.stamps kill m
+  kills : (m : ℕ) (step : Action) (kill : Asked) → kill_taken step ≡ Some kill → IsIn {A = ℕ × Action} f (m, step) →
+      IsTakenFrom s.passes.kills.taken s.passes.kills.stamps kill m
   kills m step kill takes i =
-      let from = filter-slice_get (keep_stamped keep) t i.place (m, step) i.at in
+      let from = filter-slice_get (keep_stamped keep) t i.place i.at in
       let there : IsIn {A = ℕ × Action} t (m, step) = record { place = from.place; at = from.at } in
-      found_taken (found_in kill_taken t) s.passes.kills.taken s.passes.kills.stamps m kill is.kills is.kills_later (found_step kill_taken t m step kill takes there)
+      found_taken s.passes.kills.stamps m is.kills is.kills_later (found_step kill_taken t m kill takes there)
 
   runs_same : found_in call_run f ≡ found_in call_run t
   runs_same = kept_in keep call_run (lost_run cast.callers) t
 
   still_given : (c : ℕ) (notice : Notice) (n : ℕ) → IsGivenAfter t c notice n → IsGivenAfter f c notice n
-  still_given c (Answered reply) n given = (given.0, given.1, ap (λ (l : List (ℕ × RunItem)). slice_get l reply.place) runs_same ∙ given.2, given.3)
+  still_given c (Answered reply) n given = (given.0, given.1, ap (λ l. slice_get l reply.place) runs_same ∙ given.2, given.3)
   still_given c (Death a) n given =
       let step : ℕ × Action = (given.0, DeathTold c) in
-      (given.0, contains_from_in f step (in_filter (keep_stamped keep) t step (in_from_contains t step given.1) refl), given.2)
+      (given.0, contains_from_in (in_filter (keep_stamped keep) (in_from_contains t step given.1) refl), given.2)
 
-  given_at : (endpoint : Endpoint ReplyExecView) → IsIn s.passes.notices.items endpoint → (notice : Notice) (n : ℕ) → IsIn {A = Notice × ℕ} (zip endpoint.pass.given endpoint.pass.stamps) (notice, n) → IsGivenAfter f (caller_at replies endpoint.place) notice n
+  given_at : (endpoint : Endpoint ReplyExecView) → IsIn s.passes.notices.items endpoint → (notice : Notice) (n : ℕ) →
+      IsIn {A = Notice × ℕ} (zip endpoint.pass.given endpoint.pass.stamps) (notice, n) → IsGivenAfter f (caller_at replies endpoint.place) notice n
   given_at endpoint i notice n there =
       let c = caller_at replies endpoint.place in
-      let each = all_in (λ (x : Endpoint ReplyExecView). AllZip (IsGivenAfter t (caller_at replies x.place)) x.pass.given x.pass.stamps) s.passes.notices.items endpoint is.given i in
-      still_given c notice n (zipped (IsGivenAfter t c) endpoint.pass.given endpoint.pass.stamps notice n each there)
+      let each = all_in (λ (x : Endpoint ReplyExecView). AllZip (IsGivenAfter t (caller_at replies x.place)) x.pass.given x.pass.stamps) is.given i in
+      still_given c notice n (zipped (IsGivenAfter t c) endpoint.pass.given endpoint.pass.stamps n each there)
 
   death_is : has_died_in (steps_in f) ≡ is_killed s.end
   death_is =
-      let any : list_any is_kill_taken (steps_in t) ≡ is_any s.passes.kills.taken = any_kill (steps_in t) ∙ ap is_any (sym (found_alone kill_taken t) ∙ is.kills) in
+      let any : list_any is_kill_taken (steps_in t) ≡ is_any s.passes.kills.taken =
+      any_kill (steps_in t) ∙ ap is_any (sym (found_alone kill_taken t) ∙ is.kills) in
       let whole : has_died_in (steps_in t) ≡ (is_any s.passes.kills.taken || has_terminated (end_log s.end)) = λ i. any i || has_terminated (log_is i) in
       ap has_died_in (kept_steps keep t) ∙ died_same cast.callers (steps_in t) ∙ whole ∙ why_killed s.passes.kills s.end fed serving.kills
 
@@ -129,7 +138,7 @@ module _ (casts : List ActorSpec) (replies : List RepliesView) (s : ServedView) 
     at = at;
     rising = AllPairs-filter (λ (one other : ℕ × Action). one.0 ≤ other.0) (keep_stamped keep) t is.timed.rising;
     allowed = allowed;
-    letters_taken = λ c a listed. letters_kept c a cast.callers listed t s.passes.letters.taken is.letters;
+    letters_taken = λ c a listed. letters_kept c a cast.callers listed t is.letters;
     no_letters = λ c a none. letters_lost c a cast.callers none t;
     letters = letters;
     kills = kills;
@@ -140,7 +149,8 @@ module _ (casts : List ActorSpec) (replies : List RepliesView) (s : ServedView) 
   }
 
 -- an actor that was served and refused no memory did such steps
-pub actor_works : (casts : List ActorSpec) (replies : List RepliesView) (s : ServedView) (cast : ActorSpec) → cast_at (end_id s.end) casts ≡ Some cast → IsServed replies cast s → is_starved s.end ≡ false → IsActorTraced (end_id s.end) replies s.end s.passes →
+pub actor_works : (casts : List ActorSpec) (replies : List RepliesView) (s : ServedView) (cast : ActorSpec) → cast_at (end_id s.end) casts ≡ Some cast →
+    IsServed replies cast s → is_starved s.end ≡ false → IsActorTraced (end_id s.end) replies s.end s.passes →
     (trace : List (ℕ × Action)) × IsActorWork casts replies s trace
 actor_works casts replies s cast at serving fed traced =
     let t = trace_left (end_id s.end) replies s.end s.passes fed traced in

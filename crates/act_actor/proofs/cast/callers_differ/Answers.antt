@@ -1,11 +1,11 @@
-use Rattle.act_actor.proofs.Common.{◌≢◌, ℕ, sym, ◌∙◌, refl}
+use Rattle.act_actor.proofs.Common.{◌≢◌, sym, ◌∙◌, refl}
 use Rattle.act_actor.proofs.Pairs.{differ_more, pairs_all}
 use Rattle.act_actor.proofs.cast.callers_differ.Goals as goal
 
 pub loop-place-preserved : goal.loop-place-preserved
 loop-place-preserved c =
-    differ_more (λ (n : ℕ). n) c.args.callers.now c.loop-place.place c.index-callers-place.result c.loop-place-test.true c.index-callers-place.is c.loop-place.invariant
+    differ_more (λ n. n) c.args.callers.now c.loop-place-test.true c.index-callers-place.is c.loop-place.invariant
     (sym c.contains.ensures.value ∙ c.if-contains.false)
 
 pub returns : goal.returns
-returns c = (λ _. pairs_all (λ (one other : ℕ). one ≢ other) c.args.callers.now c.loop-place.place c.loop-place-test.false c.loop-place.invariant, λ _. refl)
+returns c = (λ _. pairs_all (λ one other. one ≢ other) c.args.callers.now c.loop-place-test.false c.loop-place.invariant, λ _. refl)

@@ -4,4 +4,4 @@ use Rattle.act_compare.proofs.same.same_owner.Goals as goal
 
 pub loop-number-preserved : goal.loop-number-preserved
 loop-number-preserved c =
-    below_more c.args.one.now c.args.other.now c.loop-number.number c.new.result c.new.ensures (omega arith) (omega arith) (c.same_future.ensures.0 c.if-not-same_future.false) c.loop-number.invariant
+    below_more c.new.result c.new.ensures (omega arith) (omega arith) (c.same_future.ensures.0 c.if-not-same_future.false) c.loop-number.invariant

@@ -1,4 +1,4 @@
-use Rattle.act_console.proofs.Common.{List, map, arith, refl, IfOk-weaker, Event, ActorSpec, opening, report, actor_spec_of, actor_spec}
+use Rattle.act_console.proofs.Common.{map, arith, refl, IfOk-weaker, opening, report, actor_spec_of, actor_spec}
 use Rattle.std.specs.String.{string_bytes}
 use Rattle.act_console.proofs.Roles.{casts_fit}
 use Rattle.act_console.proofs.Shown.{told_of_same}
@@ -14,7 +14,6 @@ pub returns : goal.returns
 returns g c =
     let casts = map (actor_spec (λ b. (goal.Actor-dyn g (b.vtable, b.value)).state b.value)) c.in_ok-casts.casts.items in
     IfOk-weaker c.play_and_report.result _ _
-    (λ text written.
-    told_of_same (λ (casts : List ActorSpec) (events : List Event). report (opening casts) events) (string_bytes text) casts (map actor_spec_of c.args.roles) c.args.events c.args.events
-    c.in_ok-casts.ensures refl (written casts c.in_ok-world.ensures.reached))
+    (λ text written. told_of_same (λ casts events. report (opening casts) events) (string_bytes text) casts
+    (map actor_spec_of c.args.roles) c.args.events c.args.events c.in_ok-casts.ensures refl (written casts c.in_ok-world.ensures.reached))
     c.play_and_report.ensures.report

@@ -3,9 +3,9 @@ use Rattle.act_console.proofs.Placed.{goes_on_at, is_done}
 use Rattle.act_console.proofs.report.push_items.Goals as goal
 
 pub loop-place-preserved : goal.loop-place-preserved
-loop-place-preserved c = goes_on_at (item_line c.args.actor) (string_bytes c.loop-place.text)
-    (string_bytes c.push_item.new.text) _ c.args.items.now c.loop-place.place c.index-items-place.result c.loop-place-test.true c.index-items-place.is
+loop-place-preserved c = goes_on_at (item_line c.args.actor) (string_bytes c.loop-place.text) _ c.args.items.now c.loop-place-test.true c.index-items-place.is
     c.in_ok-push_item.ensures c.loop-place.invariant
 
 pub returns : goal.returns
-returns c = is_done (item_line c.args.actor) (string_bytes c.loop-place.text) _ c.args.items.now c.loop-place.place c.loop-place-test.false c.loop-place.invariant
+returns c =
+    is_done (item_line c.args.actor) (string_bytes c.loop-place.text) _ c.args.items.now c.loop-place.place c.loop-place-test.false c.loop-place.invariant

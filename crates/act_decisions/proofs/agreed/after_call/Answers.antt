@@ -1,7 +1,5 @@
-use Rattle.act_decisions.proofs.Common.{OfCall, call_told}
 use Rattle.act_decisions.proofs.Agreeing.{agree_one}
 use Rattle.act_decisions.proofs.agreed.after_call.Goals as goal
 
 pub returns-then-branch : goal.returns-then-branch
-returns-then-branch c = agree_one (OfCall c.args.c c.args.k (call_told c.args.call.now)) c.args.rest.now c.in-Some.left.now c.in-Some.line.now c.in-Some.ensures
-    (c.in_ok-agrees_call.ensures c.if-branch.true)
+returns-then-branch c = agree_one c.args.rest.now c.in-Some.left.now c.in-Some.ensures (c.in_ok-agrees_call.ensures c.if-branch.true)

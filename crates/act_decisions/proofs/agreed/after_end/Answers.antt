@@ -1,7 +1,5 @@
-use Rattle.act_decisions.proofs.Common.{OfEnd}
 use Rattle.act_decisions.proofs.Agreeing.{agree_one}
 use Rattle.act_decisions.proofs.agreed.after_end.Goals as goal
 
 pub returns-then-branch : goal.returns-then-branch
-returns-then-branch c = agree_one (OfEnd c.args.a c.args.actor.now.is_dead c.args.actor.now.is_retired) c.args.rest.now c.in-Some.left.now c.in-Some.line.now
-    c.in-Some.ensures (c.in_ok-agrees_end.ensures c.if-branch.true)
+returns-then-branch c = agree_one c.args.rest.now c.in-Some.left.now c.in-Some.ensures (c.in_ok-agrees_end.ensures c.if-branch.true)

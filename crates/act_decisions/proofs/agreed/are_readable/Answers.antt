@@ -4,7 +4,7 @@ use Rattle.act_decisions.proofs.agreed.are_readable.Goals as goal
 
 pub loop-arg-preserved : goal.loop-arg-preserved
 loop-arg-preserved c =
-    each_more IsReadable c.args.args.now c.loop-arg.arg-index c.arg-item.result c.is_readable.result
+    each_more IsReadable c.args.args.now
     c.loop-arg-test.true c.arg-item.is c.is_readable.ensures c.if-not-is_readable.false c.loop-arg.invariant
 
 pub returns : goal.returns

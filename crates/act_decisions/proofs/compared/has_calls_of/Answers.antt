@@ -1,11 +1,11 @@
-use Rattle.act_decisions.proofs.Common.{None, ◌∙◌, history, calls_are, calls_of, world_lawful}
+use Rattle.act_decisions.proofs.Common.{None, ◌∙◌, history, calls_are, world_lawful}
 use Rattle.act_decisions.proofs.Calls.{nobodys}
 use Rattle.act_decisions.proofs.compared.has_calls_of.Goals as goal
 
 pub returns-in-None-clause-exact : goal.returns-in-None-clause-exact
 returns-in-None-clause-exact g c = λ casts events reached has.
     let h = history casts events in
-    c.has_none.ensures.exact (nobodys c.args.c c.args.steps.now (calls_of c.args.c h)
+    c.has_none.ensures.exact (nobodys c.args.c c.args.steps.now
     (calls_are h c.args.c None (world_lawful casts events) (c.in-None.ensures.reached casts events reached)) has)
 
 pub returns-in-Some-clause-exact : goal.returns-in-Some-clause-exact

@@ -4,7 +4,7 @@ use Rattle.act_decisions.proofs.compared.matches_told.Goals as goal
 pub returns-then-not-has_all_calls : goal.returns-then-not-has_all_calls
 returns-then-not-has_all_calls g c = λ casts events reached. (
   λ is. cc,
-  λ matches. absurd (not_so c.has_all_calls.result (c.has_all_calls.ensures.exact casts events reached matches.calls) c.if-not-has_all_calls.true),
+  λ matches. absurd (not_so (c.has_all_calls.ensures.exact casts events reached matches.calls) c.if-not-has_all_calls.true),
 )
 
 pub returns : goal.returns

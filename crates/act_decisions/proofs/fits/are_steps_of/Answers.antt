@@ -3,5 +3,4 @@ use Rattle.act_decisions.proofs.fits.are_steps_of.Goals as goal
 
 pub loop-step-preserved : goal.loop-step-preserved
 loop-step-preserved c =
-    steps_go_on c.args.c c.args.steps.now c.loop-step.step-index c.loop-step.at c.in-Some.next c.step-item.result
-    c.args.own.now c.loop-step-test.true c.step-item.is (c.in-Some.ensures c.step-item.result.2) c.loop-step.invariant
+    steps_go_on c.args.c c.args.steps.now c.loop-step-test.true c.step-item.is (c.in-Some.ensures c.step-item.result.2) c.loop-step.invariant

@@ -4,11 +4,11 @@ use Rattle.act_drive.proofs.Tracing.{fresh_tracing}
 use Rattle.act_drive.proofs.caller.drive_noting.Goals as goal
 
 pub run-starved-requires : goal.run-starved-requires
-run-starved-requires g c = record { calling = fresh_calling c.args.lines.now c.args.owner c.args.passes _ (unset_flags 9) c.requires.fresh }
+run-starved-requires g c = record { calling = fresh_calling _ (unset_flags 9) c.requires.fresh }
 
 pub returns : goal.returns
 returns g c =
     let run = c.run-starved in
-    driven_of c.args.lines.now c.args.plan.items _ _ run.new.self c.requires.fresh.unused.distinct run.ensures.calling run.ensures.stays
-    (λ fed. run.ensures.done fed (actors_in c.args.owner.handles) c.requires.fits (fresh_follows c.args.lines.now c.args.owner c.args.passes _ c.requires.fresh)) run.ensures.ended
-    (λ fed. run.ensures.traced fed c.args.owner (fresh_tracing c.args.lines.now _ c.requires.fresh refl))
+    driven_of c.args.plan.items _ _ c.requires.fresh.unused.distinct run.ensures.calling run.ensures.stays
+    (λ fed. run.ensures.done fed (actors_in c.args.owner.handles) c.requires.fits (fresh_follows _ c.requires.fresh)) run.ensures.ended
+    (λ fed. run.ensures.traced fed c.args.owner (fresh_tracing _ c.requires.fresh refl))

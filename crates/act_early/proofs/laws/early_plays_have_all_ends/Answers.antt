@@ -9,4 +9,4 @@ pub returns-clause-ends : goal.returns-clause-ends
 returns-clause-ends _ casts plans late play ended = early_ends casts plans late play ended
 
 pub returns-clause-retiring : goal.returns-clause-retiring
-returns-clause-retiring _ casts plans early late play quiescent goes ended ends = retired_play casts plans early late play quiescent goes ended ends
+returns-clause-retiring _ casts plans early late play quiescent goes ended ends = retired_play casts plans late play quiescent goes ended ends

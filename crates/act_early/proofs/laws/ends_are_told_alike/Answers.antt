@@ -5,4 +5,4 @@ pub returns-clause-same : goal.returns-clause-same
 returns-clause-same _ one other casts same = same_told one other casts same
 
 pub returns-clause-alike : goal.returns-clause-alike
-returns-clause-alike _ casts plans early late play goes ended ends = alike_told casts plans early late play goes ended ends
+returns-clause-alike _ casts plans early late play goes ended ends = alike_told casts late play goes ended ends

@@ -4,5 +4,5 @@ use Rattle.act_ends.proofs.planned.planned_of.Goals as goal
 
 pub returns : goal.returns
 returns c =
-    planned_as c.args.script c.in-Steps.steps c.as_slice.result.now c.in_ok-plans.field-0 _ c.in-Steps.is c.as_slice.ensures c.in_ok-plans.ensures c.new.ensures
+    planned_as c.args.script _ c.in-Steps.is c.as_slice.ensures c.in_ok-plans.ensures c.new.ensures
     refl

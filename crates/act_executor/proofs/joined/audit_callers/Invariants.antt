@@ -6,5 +6,6 @@ invariant-loop-caller g l = record {
   same : l.actors.items ≡ l.fn.actors.items;
   sit : All (HasEndpoints l.lines) (into_iter_items l.caller-iterator);
   told : All (CallerTold l.fn.actors.items) (into_iter_items l.caller-iterator) → All (CallerTold l.fn.actors.items) l.fn.callers.items;
-  owners : l.owners.items ++ map (λ (caller : Driven). caller.owner) (into_iter_items l.caller-iterator) ≡ map (λ (caller : Driven). caller.owner) l.fn.callers.items;
+  owners : l.owners.items ++ map (λ (caller : Driven). caller.owner) (into_iter_items l.caller-iterator) ≡ map
+      (λ (caller : Driven). caller.owner) l.fn.callers.items;
 }

@@ -6,7 +6,8 @@ invariant-loop-letters l = record {
   places : map (λ exec. exec.place) l.execs.items ≡ range_with_len 0 (length l.execs.items);
   letters : map (λ exec. exec.pass.letters) l.execs.items ++ into_iter_items l.letters-iterator.a.a ≡ l.fn.letters.items;
   kills : map (λ exec. exec.pass.kills) l.execs.items ++ into_iter_items l.letters-iterator.a.b ≡ l.fn.kills.items;
-  notices : map (λ exec. exec.pass.notices.items) l.execs.items ++ map items_of_vec (into_iter_items l.letters-iterator.b) ≡ map items_of_vec l.fn.notices.items;
+  notices : map (λ exec. exec.pass.notices.items) l.execs.items ++ map items_of_vec
+      (into_iter_items l.letters-iterator.b) ≡ map items_of_vec l.fn.notices.items;
   letters_long : into_iter_len l.letters-iterator.a.a ≡ length (into_iter_items l.letters-iterator.a.a);
   kills_long : into_iter_len l.letters-iterator.a.b ≡ length (into_iter_items l.letters-iterator.a.b);
   notices_long : into_iter_len l.letters-iterator.b ≡ length (into_iter_items l.letters-iterator.b);

@@ -18,16 +18,24 @@ returns-clause-ready g c =
     let limits : c.as_slice.result.now ≡ c.args.setup.limits.items = search rules in
     let At : List MailView × List ControlView × RepliesView → Type 0 = λ l. IsUnusedCaller l.0 l.1 l.2 c.args.setup.caller c.args.caller.pass in
     let unused = subst At (λ i. (sym mails i, sym controls i, sym reply i)) (c.requires.drives.is c.index.result.now) in
-    let one = can_drive (record { mails = c.as_slice-2.result; controls = c.as_slice-3.result; replies = c.index.result }) c.in_ok-owner.owner c.args.setup.limits.items c.args.setup.caller c.args.setup.actors.items c.args.caller.pass c.args.setup.plan.items (c.in_ok-owner.ensures ∙ ap (opened_with c.args.setup.caller) limits ∙ opened_for_setup c.args.setup c.requires.drives.limits) unused c.requires.drives.fits in
+    let one = can_drive (record { mails = c.as_slice-2.result; controls = c.as_slice-3.result; replies = c.index.result }) c.args.setup.limits.items
+    c.args.setup.actors.items c.args.setup.plan.items
+    (c.in_ok-owner.ensures ∙ ap (opened_with c.args.setup.caller) limits ∙ opened_for_setup c.requires.drives.limits) unused c.requires.drives.fits in
     subst (λ l. All CanDrive l) (sym c.in_ok-push.ensures.items) (All-push CanDrive c.args.drivings.now.items _ c.requires.ready one)
 
 pub returns-clause-starts : goal.returns-clause-starts
 returns-clause-starts g c =
-    let lines = c.args.lines.now in
-    let before = c.args.drivings.now.items in
+    let lines = c.args.lines.now in let before = c.args.drivings.now.items in
     let limits : c.as_slice.result.now ≡ c.args.setup.limits.items = search rules in
     let mails : c.as_slice-2.result.now ≡ lines.mails.items = search rules in
     let controls : c.as_slice-3.result.now ≡ lines.controls.items = search rules in
-    let owner = c.in_ok-owner.ensures ∙ ap (opened_with c.args.setup.caller) limits ∙ opened_for_setup c.args.setup c.requires.drives.limits in
-    next_pushed driving_start before _ _ c.in_ok-push.ensures.items
-    ∙ (λ i. map driving_start before ++ record { owner = owner i; plan = c.args.setup.plan.items; conduct = c.args.conduct; passes = c.args.caller.pass; mails = mails i; controls = controls i } ∷ [])
+    let owner = c.in_ok-owner.ensures ∙ ap (opened_with c.args.setup.caller) limits ∙ opened_for_setup c.requires.drives.limits in
+    next_pushed driving_start before _ c.in_ok-push.ensures.items
+    ∙ (λ i. map driving_start before ++ record {
+      owner = owner i;
+      plan = c.args.setup.plan.items;
+      conduct = c.args.conduct;
+      passes = c.args.caller.pass;
+      mails = mails i;
+      controls = controls i;
+    } ∷ [])

@@ -10,5 +10,6 @@ invariant-loop-setup g l = record {
   differ : AllPairs (λ one other. one.caller ≢ other.caller) (into_iter_items l.setup-iterator.a);
   left : All (λ setup. g.D.Conducts.of l.conducts setup.caller ≡ g.D.Conducts.of l.fn.conducts setup.caller) (into_iter_items l.setup-iterator.a);
   ready : All CanDrive l.drivings.items;
-  starts : map driving_start l.drivings.items ++ map (setup_start l.lines (g.D.Conducts.of l.fn.conducts)) (zip (into_iter_items l.setup-iterator.a) (into_iter_items l.setup-iterator.b)) ≡ map (setup_start l.lines (g.D.Conducts.of l.fn.conducts)) (zip l.fn.setups.items l.fn.callers.items);
+  starts : map driving_start l.drivings.items ++ map (setup_start l.lines (g.D.Conducts.of l.fn.conducts)) (zip (into_iter_items l.setup-iterator.a)
+      (into_iter_items l.setup-iterator.b)) ≡ map (setup_start l.lines (g.D.Conducts.of l.fn.conducts)) (zip l.fn.setups.items l.fn.callers.items);
 }

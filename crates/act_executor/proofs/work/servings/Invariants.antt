@@ -7,5 +7,6 @@ invariant-loop-cast g l = record {
   second_long : into_iter_len l.cast-iterator.b ≡ length (into_iter_items l.cast-iterator.b);
   serve : Each (MayServe l.lines) (into_iter_items l.cast-iterator.a) (into_iter_items l.cast-iterator.b);
   ready : All CanServe l.servings.items;
-  starts : map (serving_start g.K.Actor.state) l.servings.items ++ map (cast_start g.K.Actor.state l.lines.replies.items) (zip (into_iter_items l.cast-iterator.a) (into_iter_items l.cast-iterator.b)) ≡ map (cast_start g.K.Actor.state l.lines.replies.items) (zip l.fn.casts.items l.fn.execs.items);
+  starts : map (serving_start g.K.Actor.state) l.servings.items ++ map (cast_start g.K.Actor.state l.lines.replies.items) (zip (into_iter_items
+      l.cast-iterator.a) (into_iter_items l.cast-iterator.b)) ≡ map (cast_start g.K.Actor.state l.lines.replies.items) (zip l.fn.casts.items l.fn.execs.items);
 }

@@ -11,15 +11,13 @@ returns-in-Whole-clause-sound g c =
 
 pub returns-in-Whole-clause-complete : goal.returns-in-Whole-clause-complete
 returns-in-Whole-clause-complete g c = λ is.
-    let casts = g.O.Opening.casts c.args.opening.now in
-    let all = c.visit_ends.new.visit.found.items in
+    let casts = g.O.Opening.casts c.args.opening.now in let all = c.visit_ends.new.visit.found.items in
     each_end_weaker casts (map plan_view c.args.plans.items) (HasPassed casts (IsFoundBy all)) (IsFound casts all) (passed_found casts all)
     (c.visit_ends.ensures.ends (cc (c.in_ok-visit_ends.was, c.in-Whole.is)))
 
 pub returns-in-Whole-clause-threads : goal.returns-in-Whole-clause-threads
 returns-in-Whole-clause-threads g c = λ is.
-    let casts = g.O.Opening.casts c.args.opening.now in
-    let all = c.visit_ends.new.visit.found.items in
+    let casts = g.O.Opening.casts c.args.opening.now in let all = c.visit_ends.new.visit.found.items in
     each_run_weaker casts (map plan_view c.args.plans.items) (HasPassed casts (IsFoundBy all)) (IsFound casts all) (passed_found casts all)
     (c.visit_ends.ensures.runs (cc (c.in_ok-visit_ends.was, c.in-Whole.is)))
 

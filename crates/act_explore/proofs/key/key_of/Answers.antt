@@ -4,8 +4,7 @@ use Rattle.act_explore.proofs.key.key_of.Goals as goal
 
 pub loop-before-preserved : goal.loop-before-preserved
 loop-before-preserved c =
-    let before = c.loop-before.before in
-    let path = c.args.path.now in
+    let before = c.loop-before.before in let path = c.args.path.now in
     let number : c.unwrap-actor.result ≡ before + 1 = rw c.unwrap-actor.ensures at c.new.ensures.value in
     c.in_ok-push_part.ensures ∙ ap (λ l. l ++ part_of path c.unwrap-actor.result) c.loop-before.invariant
     ∙ ap (λ n. flat_map (part_of path) (one_to before) ++ part_of path n) number
@@ -14,6 +13,4 @@ loop-before-preserved c =
 
 pub returns : goal.returns
 unfolding key_of
-returns c =
-    let last : c.loop-before.before ≡ 8 = omega arith in
-    c.loop-before.invariant ∙ ap (λ n. flat_map (part_of c.args.path.now) (one_to n)) last
+returns c = let last : c.loop-before.before ≡ 8 = omega arith in c.loop-before.invariant ∙ ap (λ n. flat_map (part_of c.args.path.now) (one_to n)) last

@@ -8,7 +8,7 @@ returns-in-Some c =
     let at = c.in-Some.ensures.lookup.3 in let t = c.taken_by.ensures in
     let lt : n - 2 < length (taken_by told h) = subst (λ ks. n - 2 < length ks) t at.0 in
     let is : c.in-Some.call.now ≡ get_or (taken_by told h) (n - 2) 0 = at.1 0 ∙ ap (λ ks. get_or ks (n - 2) 0) t in
-    taken_some told c.args.places.now h n c.in-Some.call.now (λ e. omega arith) (λ e. omega arith) lt is
+    taken_some told c.args.places.now h n (λ e. omega arith) (λ e. omega arith) lt is
 
 pub returns-in-None : goal.returns-in-None
 returns-in-None c =

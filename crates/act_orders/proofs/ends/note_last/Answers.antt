@@ -20,14 +20,11 @@ loop-call-preserved c =
     let is : get_or waits i 0 ≡ n = ap (λ ws. get_or ws i 0) (sym c.as_slice-call-items.ensures) in
     let len : length items ≡ length waits = ap length c.as_slice-call-items.ensures in
     let lt : i < length waits = omega arith in
-    finds_both told (Come told (take i waits)) (Happened told (Answered n)) (Come told (take (i + 1) waits))
-    c.args.faults.now c.loop-call.faults c.note.new.faults (come_more told waits i n lt is) c.loop-call.invariant
-    (finds_noted told (Happened told (Answered n)) c.loop-call.faults c.note.new.faults c.fault_if_awaited.result
-    c.in_ok-note.ensures.ok c.fault_if_awaited.ensures)
+    finds_both told (Come told (take i waits)) (Come told (take (i + 1) waits)) (come_more told waits i n lt is) c.loop-call.invariant
+    (finds_noted told (Happened told (Answered n)) c.loop-call.faults c.fault_if_awaited.result c.in_ok-note.ensures.ok c.fault_if_awaited.ensures)
 
 pub returns : goal.returns
 returns c =
     let told = c.args.told.now in let i = c.loop-call.call-index in let waits = told.waits in
     let len : length c.as_slice-call-items.result.now ≡ length waits = ap length c.as_slice-call-items.ensures in
-    let inv = c.loop-call.invariant in
-    record { faults = inv.faults; more = inv.more; clean = λ none. come_all told waits i (omega arith) (inv.clean none) }
+    let inv = c.loop-call.invariant in record { faults = inv.faults; more = inv.more; clean = λ none. come_all told waits i (omega arith) (inv.clean none) }

@@ -19,13 +19,10 @@ pub loop-call-preserved : goal.loop-call-preserved
 loop-call-preserved c =
     let told = c.args.told.now in let i = c.loop-call.call-index in let waits = c.args.waits.now in
     let n = get_or waits i 0 in let lt : i < length waits = omega arith in
-    finds_both told (Come told (take i waits)) (Happened told (Answered n)) (Come told (take (i + 1) waits))
-    c.args.faults.now c.loop-call.faults c.note.new.faults (come_more told waits i n lt refl) c.loop-call.invariant
-    (finds_noted told (Happened told (Answered n)) c.loop-call.faults c.note.new.faults c.fault_if_open.result
-    c.in_ok-note.ensures.ok c.fault_if_open.ensures)
+    finds_both told (Come told (take i waits)) (Come told (take (i + 1) waits)) (come_more told waits i n lt refl) c.loop-call.invariant
+    (finds_noted told (Happened told (Answered n)) c.loop-call.faults c.fault_if_open.result c.in_ok-note.ensures.ok c.fault_if_open.ensures)
 
 pub returns : goal.returns
 returns c =
     let told = c.args.told.now in let i = c.loop-call.call-index in let waits = c.args.waits.now in
-    let inv = c.loop-call.invariant in
-    record { faults = inv.faults; more = inv.more; clean = λ none. come_all told waits i (omega arith) (inv.clean none) }
+    let inv = c.loop-call.invariant in record { faults = inv.faults; more = inv.more; clean = λ none. come_all told waits i (omega arith) (inv.clean none) }

@@ -12,5 +12,4 @@ pub returns-in_ok-note_open-in-Some : goal.returns-in_ok-note_open-in-Some
 returns-in_ok-note_open-in-Some c =
     let told = c.args.told.now in let n = c.args.call in
     let same : c.as_slice-takes.result.now ≡ (call_of told n).takes = c.as_slice-takes.ensures ∙ ap (λ (x : Call). x.takes) c.call.ensures in
-    finds_then told (Come told c.as_slice-takes.result.now) (Happened told (Ran n) → Come told (call_of told n).takes)
-    c.args.faults.now c.note_open.new.faults (λ come _. subst (Come told) same come) c.in_ok-note_open-in-Some.ensures
+    finds_then (Happened told (Ran n) → Come told (call_of told n).takes) (λ come _. subst (Come told) same come) c.in_ok-note_open-in-Some.ensures

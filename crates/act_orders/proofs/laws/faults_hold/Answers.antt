@@ -2,4 +2,4 @@ use Rattle.act_orders.proofs.Breaking.{fault_breaks}
 use Rattle.act_orders.proofs.laws.faults_hold.Goals as goal
 
 pub returns : goal.returns
-returns _ told fault f order = fault_breaks told fault order.0 f order.1
+returns _ told fault f order = fault_breaks fault f order.1

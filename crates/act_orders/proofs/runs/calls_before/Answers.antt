@@ -11,11 +11,9 @@ loop-place-preserved c =
     let within : n < length told.calls = omega arith in
     let room : (call_of told n).actor < length last = let h = c.requires.actors n within in omega (arith, h, inv.actors) in
     record {
-      count = ap length c.in_ok-push.ensures.items ∙ length-append c.loop-place.before.items (c.call_before.result ∷ []) ∙
-          ap (λ k. k + 1) inv.count;
+      count = ap length c.in_ok-push.ensures.items ∙ length-append c.loop-place.before.items (c.call_before.result ∷ []) ∙ ap (λ k. k + 1) inv.count;
       actors = length-set last c.call.result.now.actor (Some n) ∙ inv.actors;
-      before = before_more told n c.loop-place.before.items c.push.new.self.items c.call_before.result
-          c.in_ok-push.ensures.items inv.count inv.before c.call_before.ensures;
+      before = before_more told n c.loop-place.before.items c.call_before.result c.in_ok-push.ensures.items inv.count inv.before c.call_before.ensures;
       last = λ a lt. subst (λ k. IsLast told (n + 1) a (place_of (set last k (Some n)) a)) (sym actor)
           (last_more told n a last room inv.last (let e = length-set last c.call.result.now.actor (Some n) in omega (arith, lt, e)));
     }

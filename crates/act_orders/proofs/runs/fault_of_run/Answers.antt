@@ -28,8 +28,7 @@ returns-in-Some-places c turn =
 pub returns-in-None-places : goal.returns-in-None-places
 returns-in-None-places c =
     let told = c.args.told.now in let i = c.args.place in let places = c.args.places.now in let before = c.args.before.now in
-    let p = c.in-Some-before.before in
-    let r : c.run-run.result ≡ run_of told i = c.run-run.ensures in
+    let p = c.in-Some-before.before in let r : c.run-run.result ≡ run_of told i = c.run-run.ensures in
     let n : c.run-run.result.call ≡ (run_of told i).call = ap (λ (x : Run). x.call) r in
     let was : place_of before (run_of told i).call ≡ Some p = ap (λ k. place_of before k) (sym n) ∙ c.in-Some-before.is in
     let lt = c.requires.whole.runs i c.requires.within in

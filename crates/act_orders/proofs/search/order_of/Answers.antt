@@ -11,7 +11,7 @@ loop-call-init c =
     let told = c.args.told.now in let g = graph_of told c.args.places.now in
     let n : ℕ = 3 * c.len-count.result in let new = c.in_ok-search.ensures in
     let few : (v : Happening) → Happened told v → number_of v < n = λ v is.
-    let b = number_below told v (happened_within told v c.requires.whole is) in omega (arith, b, c.len-count.ensures) in
+    let b = number_below told v (happened_within v c.requires.whole is) in omega (arith, b, c.len-count.ensures) in
     let start : Standing g DONE (replicate n 0) [] [] = unbegun g DONE (replicate n 0) (omega arith)
     (λ v is. let l : length (replicate n 0) ≡ n = length-replicate {A = ℕ} n 0 in let f = few v is in omega (arith, l, f))
     (λ v is. get_or-replicate n (number_of v) 0 0 (few v is)) in
@@ -45,4 +45,4 @@ pub returns-clause-order : goal.returns-clause-order
 returns-clause-order c =
     let told = c.args.told.now in let inv = c.loop-call.invariant in let s = c.loop-call.search in
     orders (graph_of told c.args.places.now) DONE s.marks.items s.path.items s.order.items inv.rests
-    (covered told s.order.items c.loop-call.call c.requires.whole (omega arith) inv.submitted inv.ran inv.answered)
+    (covered s.order.items c.loop-call.call c.requires.whole (omega arith) inv.submitted inv.ran inv.answered)

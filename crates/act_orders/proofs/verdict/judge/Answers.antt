@@ -7,8 +7,7 @@ pub returns-then-is_empty-clause-order : goal.returns-then-is_empty-clause-order
 returns-then-is_empty-clause-order c =
     let told = c.args.told.now in let places = c.in_ok-places.places.items in
     let none : c.note_calls.new.faults ≡ [] = c.is_empty.ensures.0 c.if-is_empty.true in
-    let empty : length c.note_calls.new.faults ≡ 0 = ap length none in
-    let ends = c.in_ok-note_calls.ensures in
+    let empty : length c.note_calls.new.faults ≡ 0 = ap length none in let ends = c.in_ok-note_calls.ensures in
     let turn = c.in_ok-places.ensures.runs (let m = ends.more in omega (arith, m, empty)) in
     in_order told places c.in-Ok.order.items c.requires c.in_ok-places.ensures.places turn (ends.clean empty)
     (subst (λ ps. OrdersNodes (graph_of told ps) c.in-Ok.order.items) c.deref-2.ensures.value c.in-Ok.ensures.order)

@@ -11,8 +11,7 @@ returns-then-number-bound c =
 pub returns : goal.returns
 returns c =
     let xs = c.args.numbers.now in (
-      (λ _ k has.
-          let f = place_in xs k has in let w = slice_get_within xs f.0 k f.1 in
-          let h = c.loop-number.invariant f.0 (omega (arith, w)) in omega (arith, h, get_or_from_slice_get xs f.0 k 0 f.1)),
+      (λ _ k has. let f = place_in xs k has in let w = slice_get_within xs f.0 k f.1 in let h = c.loop-number.invariant f.0 (omega (arith, w)) in
+          omega (arith, h, get_or_from_slice_get xs f.0 k 0 f.1)),
       (λ _. refl),
     )

@@ -3,10 +3,9 @@ use Rattle.act_owner.proofs.Waiting.{all_earlier, told_last}
 use Rattle.act_owner.proofs.owner.enter_call.Goals as goal
 
 pub enter_reserved-requires-clause-earlier : goal.enter_reserved-requires-clause-earlier
-enter_reserved-requires-clause-earlier c =
-    rw (c.as_slice.ensures, c.futures_of-futures.ensures) (all_earlier c.args.k c.args.args.now c.requires.earlier)
+enter_reserved-requires-clause-earlier c = rw (c.as_slice.ensures, c.futures_of-futures.ensures) (all_earlier c.args.k c.args.args.now c.requires.earlier)
 
 pub returns-then-is_dead : goal.returns-then-is_dead
 returns-then-is_dead c =
-    told_last c.args.k c.args.args.now c.args.is_dead c.as_slice.result.now c.args.resolver.now.calls c.enter_reserved.new.self.calls c.told.new.self.calls
+    told_last c.args.k c.args.args.now c.args.resolver.now.calls
     c.requires.next (c.as_slice.ensures ∙ c.futures_of-futures.ensures) c.if-is_dead.true c.enter_reserved.ensures.calls c.told.ensures.calls

@@ -1,4 +1,4 @@
-use Rattle.act_plan_plays.proofs.Common.{◌≡◌, true, false, ◌∙◌, refl, sym, subst, CallerSetup, parts_of, IsPart, IsThrough}
+use Rattle.act_plan_plays.proofs.Common.{◌≡◌, true, false, ◌∙◌, refl, sym, subst, CallerSetup, IsPart, IsThrough}
 use Rattle.act_plan_plays.proofs.Loops.{each_more, each_whole}
 use Rattle.act_plan_plays.proofs.Ends.{through_all}
 use Rattle.act_plan_plays.proofs.ending.are_through.Goals as goal
@@ -13,17 +13,15 @@ returns-then-not-is_through g c = λ casts plans at stands hold.
     )
 
 pub loop-setup-preserved : goal.loop-setup-preserved
-loop-setup-preserved g c = λ casts plans at stands.
-    each_more (λ (setup : CallerSetup). IsPart casts plans setup
-    → IsThrough plans setup.caller at) c.args.setups.now c.loop-setup.setup-index c.setup-item.result c.loop-setup-test.true
-    c.setup-item.is (λ part. (c.is_through.ensures casts plans at stands part).0 c.if-not-is_through.false) (c.loop-setup.invariant casts plans at stands)
+loop-setup-preserved g c = λ casts plans at stands. each_more
+    (λ (setup : CallerSetup). IsPart casts plans setup → IsThrough plans setup.caller at) c.args.setups.now c.loop-setup-test.true c.setup-item.is
+    (λ part. (c.is_through.ensures casts plans at stands part).0 c.if-not-is_through.false) (c.loop-setup.invariant casts plans at stands)
 
 pub returns : goal.returns
 returns g c = λ casts plans at stands hold.
-    let all = each_whole (λ (setup : CallerSetup). IsPart casts plans setup → IsThrough plans setup.caller at) c.args.setups.now c.loop-setup.setup-index
+    let all = each_whole (λ (setup : CallerSetup). IsPart casts plans setup → IsThrough plans setup.caller at) c.args.setups.now
     c.loop-setup-test.false
     (c.loop-setup.invariant casts plans at stands) in (
-      (λ e. through_all casts plans at (parts_of g.K.Actor.state c.args.played.now) c.args.setups.now stands hold
-          (λ k d below. all k d below (hold.parts k d below))),
+      (λ e. through_all casts plans at stands hold (λ k d below. all k d below (hold.parts k d below))),
       λ e. refl,
     )

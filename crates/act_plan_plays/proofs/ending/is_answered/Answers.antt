@@ -1,4 +1,4 @@
-use Rattle.act_plan_plays.proofs.Common.{refl, ap, sym, subst, ◌∙◌, History, is_caller, world_view, IsHere}
+use Rattle.act_plan_plays.proofs.Common.{refl, ap, sym, subst, ◌∙◌, is_caller, world_view, IsHere}
 use Rattle.act_plan_plays.proofs.Ends.{answers_tell, stranger}
 use Rattle.act_plan_plays.proofs.ending.is_answered.Goals as goal
 
@@ -13,6 +13,5 @@ pub returns-in-Some : goal.returns-in-Some
 returns-in-Some g c = λ casts h before behind.
     let owned = c.in-Some.ensures.reached casts before behind.reached in
     let here : IsHere h c.args.c c.in-Some.owner.now =
-    subst (λ (h : History). IsHere h c.args.c c.in-Some.owner.now) (sym behind.is) (record { caller = owned.0; is = owned.1 }) in
-    let tell = answers_tell h c.args.c c.in-Some.owner.now here in
-    ((λ e. tell.0 (sym c.all_answered.ensures ∙ e)), λ all. c.all_answered.ensures ∙ tell.1 all)
+    subst (λ h. IsHere h c.args.c c.in-Some.owner.now) (sym behind.is) (record { caller = owned.0; is = owned.1 }) in
+    let tell = answers_tell h c.args.c here in ((λ e. tell.0 (sym c.all_answered.ensures ∙ e)), λ all. c.all_answered.ensures ∙ tell.1 all)

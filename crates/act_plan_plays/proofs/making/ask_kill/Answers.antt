@@ -7,6 +7,5 @@ returns-clause-does g c = λ casts h behind asked.
     record {
       may = done.0;
       behind = done.2;
-      asked = asked_more h c.args.c c.args.a c.args.played.now.asked.items c.add_actor.new.actors.items
-          c.in_ok-add_actor.ensures asked;
+      asked = asked_more h c.args.c c.args.a c.args.played.now.asked.items c.add_actor.new.actors.items c.in_ok-add_actor.ensures asked;
     }

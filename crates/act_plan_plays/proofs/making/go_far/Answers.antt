@@ -6,6 +6,5 @@ loop-init g c = λ casts plans at stands part. (at, stands, same_here at.history
 
 pub loop-preserved : goal.loop-preserved
 loop-preserved g c = λ casts plans at stands part.
-    let before = c.loop.invariant casts plans at stands part in
-    let next = c.in_ok-make.ensures casts plans before.0 before.1 part in
-    (next.0, next.1, same_trans at.history before.0.history next.0.history before.2 next.2)
+    let before = c.loop.invariant casts plans at stands part in let next = c.in_ok-make.ensures casts plans before.0 before.1 part in
+    (next.0, next.1, same_trans before.2 next.2)

@@ -8,5 +8,4 @@ loop-preserved g c = λ casts plans at stands hold.
     let within : c.in-Some.place < length c.args.setups.now = rw c.in-Some.is at c.in_ok-place.ensures.within in
     let part : IsPart casts plans c.index-setups-place.result =
     subst (IsPart casts plans) (sym c.index-setups-place.is) (hold.parts c.in-Some.place c.index-setups-place.result within) in
-    let next = c.in_ok-go_far.ensures casts plans before.0 before.1 part in
-    (next.0, next.1, same_trans at.history before.0.history next.0.history before.2 next.2)
+    let next = c.in_ok-go_far.ensures casts plans before.0 before.1 part in (next.0, next.1, same_trans before.2 next.2)

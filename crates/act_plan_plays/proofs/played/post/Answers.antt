@@ -1,4 +1,4 @@
-use Rattle.act_plan_plays.proofs.Common.{world_view, add_event}
+use Rattle.act_plan_plays.proofs.Common.{add_event}
 use Rattle.act_plan_plays.proofs.Events.{post_mail, post_none}
 use Rattle.act_plan_plays.proofs.played.post.Goals as goal
 
@@ -6,14 +6,12 @@ pub returns-in_ok-bring : goal.returns-in_ok-bring
 returns-in_ok-bring g c = λ casts h behind.
     let done = c.in_ok-told.ensures.behind casts h behind in (
       done.0,
-      post_mail casts h c.args.event c.in_ok-told.told c.in-Mail.i (world_view g.K.Actor.state c.bring.new.world) c.bring.new.events.items done.1 c.in-Mail.is
-          (c.in_ok-bring.ensures casts (add_event h c.args.event) done.2),
+      post_mail casts h c.args.event done.1 c.in-Mail.is (c.in_ok-bring.ensures casts (add_event h c.args.event) done.2),
     )
 
 pub returns-in_default : goal.returns-in_default
 returns-in_default g c = λ casts h behind.
     let done = c.in_ok-told.ensures.behind casts h behind in (
       done.0,
-      post_none casts h c.args.event c.in_ok-told.told (world_view g.K.Actor.state c.do_event.new.world) c.do_event.new.events.items done.1
-          c.in_default.not-Mail done.2,
+      post_none casts h c.args.event done.1 c.in_default.not-Mail done.2,
     )

@@ -1,4 +1,4 @@
-use Rattle.act_plan_plays.proofs.Common.{arith, world_view}
+use Rattle.act_plan_plays.proofs.Common.{arith}
 use Rattle.act_plan_plays.proofs.RetiredAll.{over_more, over_all}
 use Rattle.act_plan_plays.proofs.retiring.retire_all.Goals as goal
 
@@ -11,8 +11,7 @@ loop-before-preserved g c = λ casts plans at r.
     let goes = c.in_ok-retire_one.ensures casts plans at before.0 before.1 in (
       goes.next,
       goes.is,
-      over_more casts plans at before.0 c.loop-before.before
-          (world_view g.K.Actor.state c.retire_one.new.world) c.retire_one.new.events.items before.2 goes,
+      over_more at c.loop-before.before before.2 goes,
     )
 
 pub returns : goal.returns
@@ -21,6 +20,5 @@ returns g c = λ casts plans at r.
     let test = c.loop-before-test.false in (
       all.0,
       all.1,
-      over_all casts plans at all.0 c.loop-before.before (world_view g.K.Actor.state c.loop-before.world) c.loop-before.events.items all.1
-          (omega arith) all.2,
+      over_all casts plans at all.0 c.loop-before.before all.1 (omega arith) all.2,
     )

@@ -7,5 +7,6 @@ loop-place-init c = begins c.args.actors.now c.args.plan.now _ c.in_ok-open.ensu
 
 pub loop-place-preserved : goal.loop-place-preserved
 loop-place-preserved c =
-    passes c.args.actors.now c.args.plan.now c.loop-place.place c.index-plan-place.result c.accepts.result c.loop-place.plan_checker c.accepts.new.self c.loop-place-test.true c.index-plan-place.is c.loop-place.invariant c.accepts.ensures
+    passes c.args.actors.now c.args.plan.now c.loop-place.place c.index-plan-place.result c.accepts.result c.loop-place.plan_checker c.accepts.new.self
+    c.loop-place-test.true c.index-plan-place.is c.loop-place.invariant c.accepts.ensures
     c.if-not-accepts.false

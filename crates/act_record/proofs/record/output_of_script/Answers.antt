@@ -4,11 +4,11 @@ use Rattle.act_record.proofs.record.output_of_script.Goals as goal
 
 pub returns-in-Some : goal.returns-in-Some
 returns-in-Some g c =
-    let strange = told_stranger c.args.script.casts c.as_slice.result.now c.in-Steps.steps c.as_slice-2.result.now c.first_stranger.result _ c.as_slice.ensures
+    let strange = told_stranger c.as_slice.ensures
     c.as_slice-2.ensures c.first_stranger.ensures c.in-Some.is in
-    ((c.in-Some.line, BadPlan), strange_script c.args.script c.in-Steps.steps c.in-Some.line c.in-Steps.is strange c.requires.roles, c.in_ok-refusal_of.ensures)
+    ((c.in-Some.line, BadPlan), strange_script c.args.script c.in-Steps.is strange c.requires.roles, c.in_ok-refusal_of.ensures)
 
 pub output_of_steps-requires-clause-known : goal.output_of_steps-requires-clause-known
 output_of_steps-requires-clause-known g c κs within =
-    told_stranger c.args.script.casts c.as_slice.result.now c.in-Steps.steps c.as_slice-2.result.now c.first_stranger.result _ c.as_slice.ensures
+    told_stranger c.as_slice.ensures
     c.as_slice-2.ensures c.first_stranger.ensures c.in_default-first_stranger.is

@@ -7,7 +7,5 @@ returns-in-None g c = λ casts events reached.
     no_end_in (history casts events) c.id.result (end_view g.K.Actor.state c.args.ended.now) c.id.ensures (c.in-None.ensures.reached casts events reached)
 
 pub returns-in-Some : goal.returns-in-Some
-returns-in-Some g c = λ casts events reached.
-    end_in (history casts events) c.id.result (stage_view g.J.Actor.state c.in-Some.stage)
-    (end_view g.K.Actor.state c.args.ended.now) c.same_end.result c.id.ensures
-    (c.in-Some.ensures.reached casts events reached) c.same_end.ensures
+returns-in-Some g c = λ casts events reached. end_in (history casts events) c.id.result (stage_view g.J.Actor.state c.in-Some.stage)
+    (end_view g.K.Actor.state c.args.ended.now) c.same_end.result c.id.ensures (c.in-Some.ensures.reached casts events reached) c.same_end.ensures

@@ -7,6 +7,5 @@ returns-in-None g c = λ casts events reached. no_owner_in (history casts events
     (c.in-None.ensures.reached casts events reached)
 
 pub returns-in-Some : goal.returns-in-Some
-returns-in-Some g c = λ casts events reached.
-    owner_in (history casts events) c.id.result c.args.owner.now c.in-Some.other.now c.same_owner.result c.id.ensures
+returns-in-Some g c = λ casts events reached. owner_in (history casts events) c.id.result c.args.owner.now c.in-Some.other.now c.same_owner.result c.id.ensures
     (c.in-Some.ensures.reached casts events reached) c.same_owner.ensures

@@ -43,8 +43,4 @@ returns-clause-fine_lines _ = record {
 pub returns-clause-faulty_plans : goal.returns-clause-faulty_plans
 unfolding digits method_at number_at int_at closed_at caller_at actor_at text_at value_at arg_at naming_at role_at submit_at play_forms thread_forms form_at
     line_at role_fault spelled_by
-returns-clause-faulty_plans _ = record {
-  least_caller_first = refl;
-  awaits_no_future = refl;
-  caller_without_a_role = refl;
-}
+returns-clause-faulty_plans _ = record { least_caller_first = refl; awaits_no_future = refl; caller_without_a_role = refl }

@@ -6,7 +6,8 @@ use Rattle.act_scripts.proofs.script.read_lines.Given as goal
 abbrev pub invariant-lines : goal.invariant-lines
 invariant-lines l = record {
   room : l.number + length l.rest ≤ length l.bytes;
-  read : spelled_from (forms_of l.mode) (l.number + 1) (spelled_script l.script) (lines_in l.rest) ≡ spelled_from (forms_of l.mode) 1 no_lines (lines_in l.bytes);
+  read : spelled_from (forms_of l.mode) (l.number + 1) (spelled_script l.script) (lines_in l.rest) ≡ spelled_from (forms_of l.mode) 1 no_lines
+      (lines_in l.bytes);
   sound : AreSound (map actor_spec_of l.script.casts);
   mode : mode_of l.script.items ≡ l.mode;
   few : count_of l.script.items ≤ l.number;

@@ -4,5 +4,5 @@ use Rattle.act_serve.proofs.turn.tell_deaths.Goals as goal
 
 pub loop-endpoint-preserved : goal.loop-endpoint-preserved
 loop-endpoint-preserved g c =
-    told_next c.args.dead.now.id c.id.result g.S.Stamped.stamp c.args.dead.now.log (g.L.RunLog.items c.run_log.result.now) c.deref_mut-endpoint-items.result.now c.loop-endpoint.endpoint-items c.loop-endpoint.endpoint-index c.endpoint-item.result c.give.new.pass
+    told_next g.S.Stamped.stamp c.deref_mut-endpoint-items.result.now c.loop-endpoint.endpoint-index
     (search rules) c.loop-endpoint.invariant c.endpoint-item.is c.id.ensures c.run_log.ensures c.give.ensures

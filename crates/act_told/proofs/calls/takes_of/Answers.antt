@@ -3,5 +3,5 @@ use Rattle.act_told.proofs.calls.takes_of.Goals as goal
 
 pub loop-arg-preserved : goal.loop-arg-preserved
 loop-arg-preserved c =
-    takes_more c.args.start c.args.args.now c.loop-arg.arg-index c.arg-item.result c.loop-arg.takes c.push_take.new.takes
+    takes_more c.args.start c.args.args.now
     c.loop-arg-test.true c.arg-item.is c.loop-arg.invariant c.in_ok-push_take.ensures

@@ -8,5 +8,4 @@ pub returns-clause-goes : goal.returns-clause-goes
 returns-clause-goes _ casts bound told events done h ends walked = goes_on casts bound told events done h ends walked
 
 pub returns-clause-stuck : goal.returns-clause-stuck
-returns-clause-stuck _ casts bound told done h walked not_through stuck events ends =
-    refutes casts bound told done h walked not_through stuck events ends
+returns-clause-stuck _ casts bound told done h walked not_through stuck events ends = refutes casts bound told done h walked not_through stuck events ends

@@ -1,17 +1,10 @@
-use Rattle.act_walks.proofs.Common.{Bool, subst, Moves, parts_of, NoAct}
+use Rattle.act_walks.proofs.Common.{subst, Moves, parts_of, NoAct}
 use Rattle.act_walks.proofs.Onward.{goes_trans, moves_last}
 use Rattle.act_walks.proofs.acting.act_far.Goals as goal
 
 pub returns-then-not-branch : goal.returns-then-not-branch
-returns-then-not-branch g c = moves_last c.args.end.now (NoAct c.args.end.now c.args.c) (parts_of g.K.Actor.state c.args.walk.now)
-    (parts_of g.K.Actor.state c.loop.walk)
-    (parts_of g.K.Actor.state c.act.new.walk) c.loop.moved c.loop.invariant.goes c.loop.invariant.same
-    (subst (λ (b : Bool). Moves c.args.end.now (NoAct c.args.end.now c.args.c) (parts_of g.K.Actor.state c.loop.walk)
-    (parts_of g.K.Actor.state c.act.new.walk) b) c.if-not-branch.true c.in_ok-act.ensures)
+returns-then-not-branch g c = moves_last c.loop.moved c.loop.invariant.goes c.loop.invariant.same (subst (λ b. Moves c.args.end.now (NoAct c.args.end.now
+    c.args.c) (parts_of g.K.Actor.state c.loop.walk) (parts_of g.K.Actor.state c.act.new.walk) b) c.if-not-branch.true c.in_ok-act.ensures)
 
 pub loop-preserved : goal.loop-preserved
-loop-preserved g c = record {
-  goes = goes_trans c.args.end.now (parts_of g.K.Actor.state c.args.walk.now) (parts_of g.K.Actor.state c.loop.walk) (parts_of g.K.Actor.state c.act.new.walk)
-      c.loop.invariant.goes c.in_ok-act.ensures.goes;
-  same = λ e. cc;
-}
+loop-preserved g c = record { goes = goes_trans c.loop.invariant.goes c.in_ok-act.ensures.goes; same = λ e. cc }

@@ -1,4 +1,4 @@
-use Rattle.act_walks.proofs.Common.{◌≡◌, ◌+◌, ℕ, arith, subst, Moves, NoTellsOf, NoTells, parts_of}
+use Rattle.act_walks.proofs.Common.{◌≡◌, ◌+◌, arith, subst, Moves, NoTellsOf, NoTells, parts_of}
 use Rattle.act_walks.proofs.Onward.{row_none, moves_row}
 use Rattle.act_walks.proofs.hearing.hear_all.Goals as goal
 
@@ -8,14 +8,10 @@ loop-before-init g c = row_none c.args.end.now (NoTellsOf 16) (parts_of g.K.Acto
 pub loop-before-preserved : goal.loop-before-preserved
 loop-before-preserved g c =
     let is : c.unwrap-a.result ≡ c.loop-before.before + 1 = rw c.unwrap-a.ensures at c.new.ensures.value in
-    moves_row c.args.end.now (NoTellsOf 16) c.loop-before.before c.unwrap-a.result (parts_of g.K.Actor.state c.args.walk.now)
-    (parts_of g.K.Actor.state c.loop-before.walk)
-    (parts_of g.K.Actor.state c.hear_of.new.walk) c.loop-before.moved c.in_ok-moved.field-0 is c.loop-before.invariant c.in_ok-moved.ensures
+    moves_row (NoTellsOf 16) c.loop-before.before is c.loop-before.invariant c.in_ok-moved.ensures
 
 pub returns : goal.returns
 returns g c =
-    let upto = c.loop-before-test.false in
-    let last = c.loop-before.auto.before-end in
-    let is : c.loop-before.before ≡ 8 = omega arith in
-    subst (λ (n : ℕ). Moves c.args.end.now (NoTells n) (parts_of g.K.Actor.state c.args.walk.now)
+    let upto = c.loop-before-test.false in let last = c.loop-before.auto.before-end in let is : c.loop-before.before ≡ 8 = omega arith in
+    subst (λ n. Moves c.args.end.now (NoTells n) (parts_of g.K.Actor.state c.args.walk.now)
     (parts_of g.K.Actor.state c.loop-before.walk) c.loop-before.moved) is c.loop-before.invariant

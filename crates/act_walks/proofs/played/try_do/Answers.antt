@@ -8,8 +8,7 @@ returns g c = tries c.args.event (parts_of g.K.Actor.state c.args.walk.now)
       world = c.try_event.new.world;
       events = c.try_event.new.events;
       done = c.args.walk.now.done;
-      is_done =
-          c.args.walk.now.is_done;
+      is_done = c.args.walk.now.is_done;
     })) c.in_ok-outcome.outcome c.is_ok.result
     c.in_ok-outcome.ensures.behind c.in_ok-outcome.ensures.kept c.in_ok-outcome.ensures.refused
     (λ same. ap (λ w. parts_of g.K.Actor.state

@@ -3,19 +3,9 @@ use Rattle.act_walks.proofs.Doing.{tried_ok, tried_err, posts_brought, posts_non
 use Rattle.act_walks.proofs.played.try_post.Goals as goal
 
 pub returns-in_default : goal.returns-in_default
-returns-in_default g c = tried_err c.args.event (parts_of g.K.Actor.state c.args.walk.now)
-    (parts_of g.K.Actor.state (record {
-      world = c.try_event.new.world;
-      events = c.try_event.new.events;
-      done = c.args.walk.now.done;
-      is_done =
-          c.args.walk.now.is_done;
-    })) c.in_ok-told.field-0 c.in_default.not-Ok
-    c.in_ok-told.ensures.behind c.in_ok-told.ensures.refused
-    (λ same. ap (λ w. parts_of g.K.Actor.state
-    (record { world = w; events = c.try_event.new.events; done = c.args.walk.now.done; is_done = c.args.walk.now.is_done })) same.0
-    ∙ ap (λ v. parts_of g.K.Actor.state (record { world = c.args.walk.now.world; events = v; done = c.args.walk.now.done; is_done = c.args.walk.now.is_done }))
-    same.1)
+returns-in_default g c = tried_err c.in_ok-told.field-0 c.in_default.not-Ok c.in_ok-told.ensures.behind c.in_ok-told.ensures.refused (λ same. ap (λ w. parts_of
+    g.K.Actor.state (record { world = w; events = c.try_event.new.events; done = c.args.walk.now.done; is_done = c.args.walk.now.is_done })) same.0 ∙ ap (λ v.
+    parts_of g.K.Actor.state (record { world = c.args.walk.now.world; events = v; done = c.args.walk.now.done; is_done = c.args.walk.now.is_done })) same.1)
 
 pub returns-in_ok-_outcome : goal.returns-in_ok-_outcome
 returns-in_ok-_outcome g c =
@@ -27,11 +17,10 @@ returns-in_ok-_outcome g c =
       world = c.try_event-in-Mail.new.world;
       events = c.try_event-in-Mail.new.events;
       done = c.args.walk.now.done;
-      is_done =
-          c.args.walk.now.is_done;
+      is_done = c.args.walk.now.is_done;
     }) in
     posts_brought c.args.event old mid new c.in-Ok.told c.in-Mail.i c.in_ok-_outcome._outcome
-    (tried_ok c.args.event old mid c.in_ok-told.field-0 c.in-Ok.told c.in-Ok.is c.in_ok-told.ensures.behind c.in_ok-told.ensures.kept refl) c.in-Mail.is
+    (tried_ok old mid c.in-Ok.is c.in_ok-told.ensures.behind c.in_ok-told.ensures.kept refl) c.in-Mail.is
     c.in_ok-_outcome.ensures.behind c.in_ok-_outcome.ensures.kept c.in_ok-_outcome.ensures.refused
     (λ same. ap (λ w. parts_of g.K.Actor.state
     (record { world = w; events = c.try_event-in-Mail.new.events; done = c.args.walk.now.done; is_done = c.args.walk.now.is_done })) same.0
@@ -44,5 +33,5 @@ returns-in_default-told g c =
     let new : Parts = parts_of g.K.Actor.state
     (record { world = c.try_event.new.world; events = c.try_event.new.events; done = c.args.walk.now.done; is_done = c.args.walk.now.is_done }) in
     posts_none c.args.event old new c.in-Ok.told
-    (tried_ok c.args.event old new c.in_ok-told.field-0 c.in-Ok.told c.in-Ok.is c.in_ok-told.ensures.behind c.in_ok-told.ensures.kept refl)
+    (tried_ok old new c.in-Ok.is c.in_ok-told.ensures.behind c.in_ok-told.ensures.kept refl)
     c.in_default-told.not-Mail

@@ -16,9 +16,8 @@ returns-in_default-clause-none g c = λ _.
 
 pub returns-clause-rests : goal.returns-clause-rests
 returns-clause-rests g c =
-    let seen = world_view g.K.Actor.state in
-    let kept = rw c.in-Ok.is at c.in_ok-outcome.ensures.kept in
+    let seen = world_view g.K.Actor.state in let kept = rw c.in-Ok.is at c.in_ok-outcome.ensures.kept in
     release_rests c.args.c c.args.a c.in-Ok.told (seen c.args.world.now) (seen c.try_event.new.world) (seen c.bring_told.new.world)
-    c.args.events.now.items c.try_event.new.events.items c.bring_told.new.events.items
+    c.args.events.now.items c.bring_told.new.events.items
     (λ casts h behind. let tried = c.in_ok-outcome.ensures.behind casts h behind in (sym c.in-Ok.is ∙ tried.0, tried.1))
     kept c.in_ok-bring_told.ensures.only c.in_ok-bring_told.ensures.behind

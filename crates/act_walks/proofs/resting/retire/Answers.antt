@@ -13,6 +13,6 @@ returns-else-let_go-clause-settled g c = λ none.
     let still = c.in_ok-retired.ensures.still none in
     record {
       hold = hold_same c.args.callers.now c.args.a (ap (world_view g.K.Actor.state) still.0) (ap (λ (v : Vec Event). v.items) still.1)
-          (c.in_ok-let_go.ensures.none (told_false c.in_ok-let_go.let_go c.if-let_go.false));
+          (c.in_ok-let_go.ensures.none (told_false c.if-let_go.false));
       stays = c.in_ok-retired.ensures.none none;
     }

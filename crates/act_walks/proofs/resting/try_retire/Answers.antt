@@ -15,8 +15,7 @@ returns-in_default-clause-none g c = λ _.
 
 pub returns-clause-rests : goal.returns-clause-rests
 returns-clause-rests g c =
-    let seen = world_view g.K.Actor.state in
-    let kept = rw c.in-Ok.is at c.in_ok-outcome.ensures.kept in
-    retire_rests c.args.a c.in-Ok.field-0 (seen c.args.world.now) (seen c.try_event.new.world) c.args.events.now.items c.try_event.new.events.items
+    let seen = world_view g.K.Actor.state in let kept = rw c.in-Ok.is at c.in_ok-outcome.ensures.kept in
+    retire_rests c.args.a c.in-Ok.field-0 (seen c.args.world.now) (seen c.try_event.new.world) c.args.events.now.items
     (λ casts h behind. let tried = c.in_ok-outcome.ensures.behind casts h behind in (sym c.in-Ok.is ∙ tried.0, tried.1))
     kept

@@ -4,5 +4,4 @@ use Rattle.act_written.proofs.text.push_outcomes.Goals as goal
 
 pub loop-place-preserved : goal.loop-place-preserved
 loop-place-preserved c =
-    each_next (outcome_line c.args.told.now) c.loop-place.place (string_bytes c.args.text.now) (string_bytes c.loop-place.text)
-    (string_bytes c.push_outcome.new.text) c.loop-place.invariant c.in_ok-push_outcome.ensures
+    each_next (outcome_line c.args.told.now) c.loop-place.place (string_bytes c.args.text.now) c.loop-place.invariant c.in_ok-push_outcome.ensures

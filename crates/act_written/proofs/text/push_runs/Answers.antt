@@ -8,33 +8,28 @@ loop-at-init c =
     record {
       at = c.requires.at;
       text = sym (append-nil (string_bytes c.args.text.now)) ∙
-          ap (λ t. string_bytes c.args.text.now ++ t) (sym (none_passed told c.args.names.now c.args.actor c.args.at.place c.requires.past));
+          ap (λ t. string_bytes c.args.text.now ++ t) (sym (none_passed told c.args.names.now c.args.actor c.requires.past));
       before = λ j lt. let h = c.requires.past.before j lt in omega (arith, h);
       after = c.requires.past.after;
     }
 
 pub loop-at-preserved : goal.loop-at-preserved
 loop-at-preserved c =
-    let told = c.args.told.now in
-    let i = c.loop-at.at.place in
-    let inv = c.loop-at.invariant in
+    let told = c.args.told.now in let i = c.loop-at.at.place in let inv = c.loop-at.invariant in
     let here : (run_of told i).actor ≡ c.args.actor = sym (ap (λ (run : Run). run.actor) c.run.ensures) ∙ c.if-run-actor.true in
     let next = c.next_run-at.ensures.place in
     record {
       at = c.next_run-at.ensures.at;
-      text = each_next (run_line_of told c.args.names.now c.args.actor) i (string_bytes c.args.text.now) (string_bytes c.loop-at.text)
-          (string_bytes c.push_run.new.text) inv.text (c.in_ok-push_run.ensures
+      text = each_next (run_line_of told c.args.names.now c.args.actor) i (string_bytes c.args.text.now) inv.text (c.in_ok-push_run.ensures
           ∙ ap (λ t. string_bytes c.loop-at.text ++ t) (sym (mine told c.args.names.now c.args.actor i here)))
           ∙ ap (λ k. string_bytes c.args.text.now ++ of_each (run_line_of told c.args.names.now c.args.actor) k) (sym next);
-      before = λ j lt. passed_one told c.args.actor i inv.before here j (omega (arith, lt, next));
+      before = λ j lt. passed_one told i inv.before here j (omega (arith, lt, next));
       after = λ j le. inv.after j (omega (arith, le, next));
     }
 
 pub returns-else-run-actor-clause-lines : goal.returns-else-run-actor-clause-lines
 returns-else-run-actor-clause-lines c =
-    let told = c.args.told.now in
-    let i = c.loop-at.at.place in
-    let inv = c.loop-at.invariant in
+    let told = c.args.told.now in let i = c.loop-at.at.place in let inv = c.loop-at.invariant in
     let past = is_past told c.args.actor i c.requires.whole.run_actors
     (λ lt same. c.if-run-actor.false (ap (λ (run : Run). run.actor) c.run.ensures ∙ same)) inv.before inv.after in
     inv.text ∙ ap (λ t. string_bytes c.args.text.now ++ t) (sym (none_left told c.args.names.now c.args.actor i inv.at.within past))

@@ -7,7 +7,7 @@ returns-clause-kept g c =
     let state = g.K.Actor.state in
     let left = c.in_ok-joined.joined in
     let by = c.in_ok-joined.ensures.joined in
-    are_balanced (map (actor_spec state) c.args.casts.items) by.steps left.owners.items (map (λ actor. end_view state actor.ended) left.actors.items) by.joined
+    are_balanced by.joined
 
 pub returns-clause-order : goal.returns-clause-order
 returns-clause-order g c = λ a opens.

@@ -5,8 +5,9 @@ use Rattle.example_uses.proofs.patient.play_patiently.Goals as goal
 pub loop-attempt-preserved : goal.loop-attempt-preserved
 loop-attempt-preserved g c = record {
   within = within;
-  played = played_on c.args.events.now c.loop-attempt.place c.in-Err.more (world_view g.K.Actor.state c.args.world.now) (world_view g.K.Actor.state c.loop-attempt.world) (world_view g.K.Actor.state c.play.new.self)
-      c.args.told.now.items c.loop-attempt.told.items c.play.new.told.items c.loop-attempt.invariant.played c.in-Err.ensures.err;
+  played = played_on c.args.events.now c.loop-attempt.place c.in-Err.more (world_view g.K.Actor.state c.args.world.now)
+      (world_view g.K.Actor.state c.loop-attempt.world) (world_view g.K.Actor.state c.play.new.self) c.args.told.now.items c.loop-attempt.told.items
+      c.play.new.told.items c.loop-attempt.invariant.played c.in-Err.ensures.err;
 }
   where
     within : c.loop-attempt.place + c.in-Err.more ≤ length c.args.events.now
@@ -14,5 +15,6 @@ loop-attempt-preserved g c = record {
 
 pub returns-in-Ok-clause-ok : goal.returns-in-Ok-clause-ok
 returns-in-Ok-clause-ok g c =
-    played_out c.args.events.now c.loop-attempt.place (world_view g.K.Actor.state c.args.world.now) (world_view g.K.Actor.state c.loop-attempt.world) (world_view g.K.Actor.state c.play.new.self)
+    played_out c.args.events.now c.loop-attempt.place (world_view g.K.Actor.state c.args.world.now) (world_view g.K.Actor.state c.loop-attempt.world)
+    (world_view g.K.Actor.state c.play.new.self)
     c.args.told.now.items c.loop-attempt.told.items c.play.new.told.items c.loop-attempt.invariant.played c.in-Ok.ensures.ok

@@ -8,5 +8,6 @@ returns-clause-answered g c =
     let plans = c.args.plans.items in
     let left = c.in_ok-joined.joined in
     let peace : are_peaceful plans ≡ true = ap are_peaceful (sym c.as_slice.ensures.value) ∙ sym c.are_peaceful.ensures ∙ c.if-not-are_peaceful.false in
-    all_ran (map (actor_spec state) c.args.casts.items) (map plan_view plans) left.owners.items (map (λ actor. end_view state actor.ended) left.actors.items) c.in_ok-joined.ensures.joined
+    all_ran (map (actor_spec state) c.args.casts.items) (map plan_view plans) left.owners.items
+    (map (λ actor. end_view state actor.ended) left.actors.items) c.in_ok-joined.ensures.joined
     (list_all-map (λ plan. list_all is_peaceful plan.1) plan_view plans ∙ peace)

@@ -4,13 +4,9 @@ use Rattle.ray_bench_play.proofs.play.share_legs.Goals as goal
 
 pub returns : goal.returns
 returns g c =
-    let work = c.args.work.now in
-    let n = c.args.calls in
-    let old = world_view g.K.Actor.state c.args.world.now in
-    let submitted = world_view g.K.Actor.state c.submit_all.new.world in
-    let sent = world_view g.K.Actor.state c.step_all.new.world in
-    let arrived = world_view g.K.Actor.state c.step_all-2.new.world in
-    let ran = world_view g.K.Actor.state c.step_all-3.new.world in
+    let work = c.args.work.now in let n = c.args.calls in let old = world_view g.K.Actor.state c.args.world.now in
+    let submitted = world_view g.K.Actor.state c.submit_all.new.world in let sent = world_view g.K.Actor.state c.step_all.new.world in
+    let arrived = world_view g.K.Actor.state c.step_all-2.new.world in let ran = world_view g.K.Actor.state c.step_all-3.new.world in
     let new = world_view g.K.Actor.state c.step_all-4.new.world in
     record {
       after =

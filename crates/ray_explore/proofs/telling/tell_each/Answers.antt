@@ -13,9 +13,7 @@ returns g c =
     (TellsEach (map actor_spec_of c.args.planned.roles) (map plan_view c.args.planned.plans.items) c.args.script.now (g.W.Write.contents c.args.writer)
     (g.W.Write.contents c.visit_ends-looked.new.visit.writer))
     c.told_of.ensures
-    (λ whole.
-    each_told (map actor_spec_of c.args.planned.roles) (map plan_view c.args.planned.plans.items) c.args.script.now c.visit_ends-looked.new.visit.ends
-    (g.W.Write.contents c.args.writer) (g.W.Write.contents c.visit_ends-looked.new.visit.writer)
-    (c.visit_ends-looked.ensures.ends whole)
+    (λ whole. each_told (map actor_spec_of c.args.planned.roles) (map plan_view c.args.planned.plans.items) c.args.script.now c.visit_ends-looked.new.visit.ends
+    (g.W.Write.contents c.args.writer) (g.W.Write.contents c.visit_ends-looked.new.visit.writer) (c.visit_ends-looked.ensures.ends whole)
     (when_ok c.visit_ends-looked.result Whole _ c.visit_ends-looked.ensures.keeps whole first
     (refl, none_told c.args.script.now c.new.result (g.W.Write.contents c.args.writer) c.new.ensures)).1)

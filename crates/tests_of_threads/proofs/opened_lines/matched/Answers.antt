@@ -1,6 +1,4 @@
-use Rattle.tests_of_threads.proofs.Common.{rules, ◌≡◌, List, [], ◌∷◌, sym, subst}
-use Rattle.act_actor.specs.declared.cast.Cast.{Cast}
-use Rattle.act_plans.specs.declared.rising.CallerSetup.{CallerSetup}
+use Rattle.tests_of_threads.proofs.Common.{rules, ◌≡◌, [], ◌∷◌, sym, subst}
 use Rattle.act_plans.specs.Setups.{AreMatched}
 use Rattle.act_executor.proofs.OpenLines.Matched.{IsCast, IsPart, are_matched}
 use Rattle.tests_of_threads.proofs.opened_lines.matched.Goals as goal
@@ -14,5 +12,6 @@ returns c =
     let first : IsPart 2 (5 ∷ []) c.setup-first.result = record { caller = search rules; actors_are = search rules } in
     let casts : c.in_ok-casts.casts.items ≡ c.in_ok-one.one ∷ c.in_ok-two.two ∷ [] = search rules in
     let setups : c.in_ok-setups.setups.items ≡ c.setup-both.result ∷ c.setup-last.result ∷ c.setup-first.result ∷ [] = search rules in
-    subst (λ (l : List (Cast Unit)). AreMatched l c.in_ok-setups.setups.items) (sym casts)
-    (subst (λ (l : List CallerSetup). AreMatched (c.in_ok-one.one ∷ c.in_ok-two.two ∷ []) l) (sym setups) (are_matched c.in_ok-one.one c.in_ok-two.two one two c.setup-both.result c.setup-last.result c.setup-first.result both last first))
+    subst (λ l. AreMatched l c.in_ok-setups.setups.items) (sym casts)
+    (subst (λ l. AreMatched (c.in_ok-one.one ∷ c.in_ok-two.two ∷ []) l) (sym setups)
+    (are_matched c.in_ok-one.one c.in_ok-two.two one two c.setup-both.result c.setup-last.result c.setup-first.result both last first))

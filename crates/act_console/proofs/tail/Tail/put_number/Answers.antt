@@ -4,8 +4,7 @@ use Rattle.act_console.proofs.tail.Tail.put_number.Goals as goal
 pub write_digits-self-inside-requires : goal.write_digits-self-inside-requires
 write_digits-self-inside-requires c =
     let digits = length-decimal-le 20 c.args.number (omega arith) (omega arith) (omega arith) in
-    let size = length-drop c.self.inside.start c.self.inside.bytes in
-    (omega (arith, digits, size, ap length c.self.view_is), omega arith)
+    let size = length-drop c.self.inside.start c.self.inside.bytes in (omega (arith, digits, size, ap length c.self.view_is), omega arith)
 
 pub invariant_of-self : goal.invariant_of-self
 invariant_of-self c =

@@ -5,11 +5,12 @@ use Rattle.act_drive.proofs.driver.Driver.collect.Goals as goal
 
 pub returns-in-Some-clause-only_waits : goal.returns-in-Some-clause-only_waits
 returns-in-Some-clause-only_waits g c =
-    let on = calling_heard c.args.lines.now c.args.self.now _ c.in-Some.notice c.collect.ensures.after c.in-Some.ensures.taken refl refl refl refl c.requires.calling in
+    let on = calling_heard _ c.in-Some.notice c.collect.ensures.after c.in-Some.ensures.taken refl refl refl refl c.requires.calling in
     record {
       calling = on.0;
       waits = on.1;
-      traced = traces_heard c.args.lines.now c.args.self.now _ c.in-Some.notice c.in-Some.ensures.stamped.0 c.collect.ensures.after (ap (λ (t : _). t.taken) c.in-Some.ensures.taken) c.in-Some.ensures.stamped.1 refl refl refl;
+      traced = traces_heard c.args.lines.now c.args.self.now _ c.in-Some.notice c.in-Some.ensures.stamped.0 c.collect.ensures.after
+          (ap (λ (t : _). t.taken) c.in-Some.ensures.taken) c.in-Some.ensures.stamped.1 refl refl refl;
     }
 
 pub returns-in-Some-clause-heard : goal.returns-in-Some-clause-heard

@@ -11,12 +11,13 @@ pub returns-in_err-wind_up-clause-calling : goal.returns-in_err-wind_up-clause-c
 returns-in_err-wind_up-clause-calling g c = c.in_err-wind_up.ensures.calling
 
 pub returns-in_err-wind_up-clause-stays : goal.returns-in_err-wind_up-clause-stays
-returns-in_err-wind_up-clause-stays g c = stays_trans _ _ _ (rw c.reserve-reserved.ensures at c.in_ok-steps.ensures.stays) c.in_err-wind_up.ensures.stays
+returns-in_err-wind_up-clause-stays g c = stays_trans (rw c.reserve-reserved.ensures at c.in_ok-steps.ensures.stays) c.in_err-wind_up.ensures.stays
 
 pub returns : goal.returns
 returns g c = record {
   calling = c.in_ok-wind_up.ensures.calling;
-  stays = stays_trans _ _ _ (rw c.reserve-reserved.ensures at c.in_ok-steps.ensures.stays) c.in_ok-wind_up.ensures.stays;
-  done = λ actors fits start. c.in_ok-wind_up.ensures.done actors c.args.plan.items (c.in_ok-steps.ensures.follows actors fits (rw c.reserve-reserved.ensures start));
+  stays = stays_trans (rw c.reserve-reserved.ensures at c.in_ok-steps.ensures.stays) c.in_ok-wind_up.ensures.stays;
+  done = λ actors fits start. c.in_ok-wind_up.ensures.done actors c.args.plan.items
+      (c.in_ok-steps.ensures.follows actors fits (rw c.reserve-reserved.ensures start));
   traced = λ start is. c.in_ok-wind_up.ensures.traced start c.args.plan.items (c.in_ok-steps.ensures.traced start (rw c.reserve-reserved.ensures is));
 }

@@ -9,10 +9,13 @@ use Rattle.act_drive.proofs.driver.Driver.enter.Goals as goal
 pub returns-clause-calling : goal.returns-clause-calling
 returns-clause-calling c lines calling =
     let owner = c.args.self.now.owner in
-    calling_step lines c.args.self.now _ (Submitted c.args.a c.args.method c.args.args) c.in_ok-k.ensures.ok refl refl refl refl (submit_flags owner c.args.a c.args.method c.args.args calling.flags) (ended_submitted owner c.args.a c.args.method c.args.args c.in_ok-k.ensures.accepted) (submit_returns owner c.args.a c.args.method c.args.args) calling
+    calling_step _ (Submitted c.args.a c.args.method c.args.args) c.in_ok-k.ensures.ok refl refl refl refl
+    (submit_flags owner c.args.a c.args.method c.args.args calling.flags)
+    (ended_submitted owner c.args.a c.args.method c.args.args c.in_ok-k.ensures.accepted) (submit_returns owner c.args.a c.args.method c.args.args) calling
 
 pub returns-clause-stays : goal.returns-clause-stays
 returns-clause-stays c = stays_submitted c.args.self.now _ c.args.a c.args.method c.args.args c.in_ok-k.ensures.ok refl
 
 pub returns-clause-traced : goal.returns-clause-traced
-returns-clause-traced c lines = traces_step lines c.args.self.now _ (Submit c.args.a c.args.method c.args.args) (Submitted c.args.a c.args.method c.args.args) (λ _ _. refl) refl c.in_ok-k.ensures.accepted c.in_ok-k.ensures.ok refl refl
+returns-clause-traced c lines = traces_step lines c.args.self.now _ (Submit c.args.a c.args.method c.args.args) (Submitted c.args.a c.args.method c.args.args)
+    (λ _ _. refl) refl c.in_ok-k.ensures.accepted c.in_ok-k.ensures.ok refl refl

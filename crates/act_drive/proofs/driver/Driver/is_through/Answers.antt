@@ -4,5 +4,5 @@ use Rattle.act_drive.proofs.driver.Driver.is_through.Goals as goal
 
 pub returns-then-self-number : goal.returns-then-self-number
 returns-then-self-number c = λ lines calling is.
-    let noted : get_or c.args.self.now.noted c.args.a false ≡ true = search rules in
-    through_answered lines c.args.self.now c.args.a calling noted (sym c.awaits.ensures ∙ not-true c.awaits.result is)
+    let note_posted : get_or c.args.self.now.note_posted c.args.a false ≡ true = search rules in
+    through_answered c.args.a calling note_posted (sym c.awaits.ensures ∙ not-true c.awaits.result is)

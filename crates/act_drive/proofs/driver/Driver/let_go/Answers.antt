@@ -1,4 +1,4 @@
-use Rattle.act_drive.proofs.Common.{rules, arith, ◌≡◌, ◌<◌, ◌∙◌, ap, ◌-◌, List, copies_held, copies_in, Handle}
+use Rattle.act_drive.proofs.Common.{rules, arith, ◌≡◌, ◌<◌, ◌∙◌, ap, ◌-◌, copies_held, copies_in}
 use Rattle.act_drive.proofs.Closing.{winds_trans, one_gone}
 use Rattle.act_drive.proofs.Tracing.{closing_trans, closing_step}
 use Rattle.act_drive.proofs.driver.Driver.let_go.Goals as goal
@@ -7,7 +7,7 @@ pub loop-gone-preserved : goal.loop-gone-preserved
 loop-gone-preserved g c =
     let before = c.loop-gone.self in
     let less : copies_held (copies_in c.args.a c.release.new.self.owner.handles) ≡ copies_held (copies_in c.args.a before.owner.handles) - 1 =
-    ap (λ (h : List Handle). copies_held (copies_in c.args.a h)) c.in_ok-release.ensures.handles ∙ one_gone before.owner.handles c.args.a in
+    ap (λ h. copies_held (copies_in c.args.a h)) c.in_ok-release.ensures.handles ∙ one_gone before.owner.handles c.args.a in
     let below : c.loop-gone._gone < copies_held (copies_in c.args.a c.args.self.now.owner.handles) = search rules in
     let left = c.loop-gone.invariant.left in
     record {

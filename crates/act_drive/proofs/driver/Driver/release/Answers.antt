@@ -16,12 +16,14 @@ returns-in-Ok-Some g c =
     record {
       calling =
           let is : c.release.new.self ≡ with_handles between.owner (without_copy c.args.a between.owner.handles) = c.in-Ok-Some.ensures.ok in
-          calling_noted c.args.lines.now between _ c.args.a c.in-Ok-Some.note is refl c.clear.ensures.empty c.put.ensures refl last.1 c.release.ensures.given last.0 c.clear.ensures.only_waits.calling;
-      follows = release_follows c.args.lines.now c.args.self.now c.clear.new.self _ c.args.a c.clear.ensures.only_waits.waits c.in-Ok-Some.ensures.ok refl;
-      only_releases = released_winds c.args.self.now c.clear.new.self _ c.args.a c.clear.ensures.only_waits.waits c.in-Ok-Some.ensures.ok refl;
-      noted = λ one. c.put.ensures ∙ ap (λ (n : ReleaseNote). Some (Note n)) (last.1 ∙ note_stays c.args.self.now between c.args.a c.clear.ensures.only_waits.waits);
+          calling_noted between _ c.args.a is refl c.clear.ensures.empty c.put.ensures refl last.1 c.release.ensures.given last.0
+          c.clear.ensures.only_waits.calling;
+      follows = release_follows c.args.lines.now _ c.args.a c.clear.ensures.only_waits.waits c.in-Ok-Some.ensures.ok refl;
+      only_releases = released_winds _ c.args.a c.clear.ensures.only_waits.waits c.in-Ok-Some.ensures.ok refl;
+      note_put = λ one. c.put.ensures ∙ ap (λ n. Some (Note n)) (last.1 ∙ note_stays between c.args.a c.clear.ensures.only_waits.waits);
       handles = ap (λ (o : OwnerView). o.handles) c.in-Ok-Some.ensures.ok ∙ ap (without_copy c.args.a) c.clear.ensures.only_waits.waits.handles;
-      traced = λ start done is. traces_noted c.args.lines.now between _ c.args.a c.in-Ok-Some.note (ok_of _ _ _ told) last.0 (ap (λ (n : ReleaseNote). n.actor) last.1) c.in-Ok-Some.ensures.ok refl c.put.ensures start done (c.clear.ensures.only_waits.traced start done is);
+      traced = λ start done is. traces_noted c.args.lines.now between _ c.args.a (ok_of _ _ told) last.0
+          (ap (λ (n : ReleaseNote). n.actor) last.1) c.in-Ok-Some.ensures.ok refl c.put.ensures start done (c.clear.ensures.only_waits.traced start done is);
       accepted = search rules;
       on_refusal = search rules;
     }
@@ -31,12 +33,14 @@ returns-in-Ok-None g c =
     let between = c.clear.new.self in
     let told : Ok None ≡ release_told between.owner c.args.a = rw c.in-Ok-None.field-0-is at c.in-Ok-None.ensures.value in
     record {
-      calling = calling_step c.args.lines.now between _ (Released c.args.a) c.in-Ok-None.ensures.ok refl refl refl refl c.clear.ensures.only_waits.calling.flags (ended_released between.owner c.args.a) (release_returns between.owner c.args.a (λ one. not_last _ _ told one)) c.clear.ensures.only_waits.calling;
-      follows = release_follows c.args.lines.now c.args.self.now c.clear.new.self _ c.args.a c.clear.ensures.only_waits.waits c.in-Ok-None.ensures.ok refl;
-      only_releases = released_winds c.args.self.now c.clear.new.self _ c.args.a c.clear.ensures.only_waits.waits c.in-Ok-None.ensures.ok refl;
-      noted = λ one. absurd (not_last _ _ told (ap (copies_in c.args.a) c.clear.ensures.only_waits.waits.handles ∙ one));
+      calling = calling_step _ (Released c.args.a) c.in-Ok-None.ensures.ok refl refl refl refl c.clear.ensures.only_waits.calling.flags
+          (ended_released between.owner c.args.a) (release_returns between.owner c.args.a (λ one. not_last _ _ told one)) c.clear.ensures.only_waits.calling;
+      follows = release_follows c.args.lines.now _ c.args.a c.clear.ensures.only_waits.waits c.in-Ok-None.ensures.ok refl;
+      only_releases = released_winds _ c.args.a c.clear.ensures.only_waits.waits c.in-Ok-None.ensures.ok refl;
+      note_put = λ one. absurd (not_last _ _ told (ap (copies_in c.args.a) c.clear.ensures.only_waits.waits.handles ∙ one));
       handles = ap (λ (o : OwnerView). o.handles) c.in-Ok-None.ensures.ok ∙ ap (without_copy c.args.a) c.clear.ensures.only_waits.waits.handles;
-      traced = λ start done is. traces_step c.args.lines.now between _ (Release c.args.a) (Released c.args.a) (λ _ _. refl) refl (ok_of _ _ _ told) c.in-Ok-None.ensures.ok refl refl start done (c.clear.ensures.only_waits.traced start done is);
+      traced = λ start done is. traces_step c.args.lines.now between _ (Release c.args.a) (Released c.args.a) (λ _ _. refl) refl
+          (ok_of _ _ told) c.in-Ok-None.ensures.ok refl refl start done (c.clear.ensures.only_waits.traced start done is);
       accepted = search rules;
       on_refusal = search rules;
     }

@@ -15,7 +15,7 @@ pub returns-in-Err-clause-calling : goal.returns-in-Err-clause-calling
 returns-in-Err-clause-calling g c = c.starve.ensures.calling
 
 pub returns-in-Err-clause-stays : goal.returns-in-Err-clause-stays
-returns-in-Err-clause-stays g c = stays_trans _ _ _ c.in-Err.ensures.stays c.starve.ensures.stays
+returns-in-Err-clause-stays g c = stays_trans c.in-Err.ensures.stays c.starve.ensures.stays
 
 pub returns-in-Err-clause-ended : goal.returns-in-Err-clause-ended
 returns-in-Err-clause-ended g c _ = c.starve.ensures.through

@@ -7,7 +7,7 @@ pub returns-in-Copy : goal.returns-in-Copy
 returns-in-Copy g c = record {
   calling = c.copy.ensures.calling c.args.lines.now c.requires.calling;
   follows = step_of c.copy.result c.args.lines.now c.args.step (Copy c.in-Copy.a) c.args.self.now c.copy.new.self c.in-Copy.is c.copy.ensures.follows;
-  traced = traced_step_of c.copy.result c.args.lines.now c.args.step (Copy c.in-Copy.a) c.args.self.now c.copy.new.self c.in-Copy.is c.copy.ensures.traced;
+  traced = traced_step_of c.copy.result c.args.lines.now c.args.self.now c.copy.new.self c.in-Copy.is c.copy.ensures.traced;
   on_refusal = unchanged c.copy.result c.args.lines.now c.args.self.now c.copy.new.self c.copy.ensures.on_refusal;
   stays = c.copy.ensures.stays;
   awaited = search rules;

@@ -11,9 +11,12 @@ pub returns-in-Ok : goal.returns-in-Ok
 returns-in-Ok g c = record {
   calling = λ lines calling.
       let owner = c.args.self.now.owner in
-      calling_step lines c.args.self.now _ (Submitted c.args.a c.args.method c.args.args) c.in-Ok.ensures.ok refl refl refl refl (submit_flags owner c.args.a c.args.method c.args.args calling.flags) (ended_submitted owner c.args.a c.args.method c.args.args c.in-Ok.ensures.accepted) (submit_returns owner c.args.a c.args.method c.args.args) calling;
+      calling_step _ (Submitted c.args.a c.args.method c.args.args) c.in-Ok.ensures.ok refl refl refl refl
+      (submit_flags owner c.args.a c.args.method c.args.args calling.flags)
+      (ended_submitted owner c.args.a c.args.method c.args.args c.in-Ok.ensures.accepted) (submit_returns owner c.args.a c.args.method c.args.args) calling;
   follows = λ lines. submit_follows lines c.args.self.now _ c.args.a c.args.method c.args.args c.in-Ok.ensures.ok refl;
-  traced = λ lines. traces_step lines c.args.self.now _ (Submit c.args.a c.args.method c.args.args) (Submitted c.args.a c.args.method c.args.args) (λ _ _. refl) refl c.in-Ok.ensures.accepted c.in-Ok.ensures.ok refl refl;
+  traced = λ lines. traces_step lines c.args.self.now _ (Submit c.args.a c.args.method c.args.args) (Submitted c.args.a c.args.method c.args.args)
+      (λ _ _. refl) refl c.in-Ok.ensures.accepted c.in-Ok.ensures.ok refl refl;
   stays = stays_submitted c.args.self.now _ c.args.a c.args.method c.args.args c.in-Ok.ensures.ok refl;
   on_refusal = search rules;
 }

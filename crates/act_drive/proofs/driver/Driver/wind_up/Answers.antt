@@ -6,12 +6,15 @@ use Rattle.act_drive.proofs.driver.Driver.wind_up.Goals as goal
 
 pub returns : goal.returns
 returns g c = record {
-  done = λ actors steps f. done_of c.args.lines.now actors steps c.turn.new.self c.close.new.self c.finish.new.self c.in_ok-close.ensures.only_releases c.in_ok-close.ensures.none c.in_ok-finish.ensures.only_waits.waits c.in_ok-finish.ensures.only_waits.calling c.in_ok-finish.ensures.answered c.in_ok-finish.ensures.empty (follows_waits c.args.lines.now actors steps c.args.self.now c.turn.new.self c.in_ok-turn.ensures.only_waits.waits f);
+  done = λ actors steps f. done_of actors steps c.in_ok-close.ensures.only_releases c.in_ok-close.ensures.none c.in_ok-finish.ensures.only_waits.waits
+      c.in_ok-finish.ensures.only_waits.calling c.in_ok-finish.ensures.answered c.in_ok-finish.ensures.empty
+      (follows_waits c.in_ok-turn.ensures.only_waits.waits f);
   traced = λ start done is.
       let closed = c.in_ok-close.ensures.traced start done (c.in_ok-turn.ensures.only_waits.traced start done is) in
       (closed.0, c.in_ok-finish.ensures.only_waits.traced start _ closed.1);
   calling = c.in_ok-finish.ensures.only_waits.calling;
-  stays = stays_trans _ _ _ (stays_trans _ _ _ c.in_ok-turn.ensures.only_waits.waits.stay c.in_ok-close.ensures.only_releases.stay) c.in_ok-finish.ensures.only_waits.waits.stay;
+  stays = stays_trans
+      (stays_trans c.in_ok-turn.ensures.only_waits.waits.stay c.in_ok-close.ensures.only_releases.stay) c.in_ok-finish.ensures.only_waits.waits.stay;
   calls = c.in_ok-finish.ensures.only_waits.waits.calls ∙ c.in_ok-close.ensures.only_releases.calls ∙ c.in_ok-turn.ensures.only_waits.waits.calls;
 }
 
@@ -25,11 +28,11 @@ pub returns-in_err-close-clause-calling : goal.returns-in_err-close-clause-calli
 returns-in_err-close-clause-calling g c = c.in_err-close.ensures.calling
 
 pub returns-in_err-close-clause-stays : goal.returns-in_err-close-clause-stays
-returns-in_err-close-clause-stays g c = stays_trans _ _ _ c.in_ok-turn.ensures.only_waits.waits.stay c.in_err-close.ensures.only_releases.stay
+returns-in_err-close-clause-stays g c = stays_trans c.in_ok-turn.ensures.only_waits.waits.stay c.in_err-close.ensures.only_releases.stay
 
 pub returns-in_err-finish-clause-calling : goal.returns-in_err-finish-clause-calling
 returns-in_err-finish-clause-calling g c = c.in_err-finish.ensures.only_waits.calling
 
 pub returns-in_err-finish-clause-stays : goal.returns-in_err-finish-clause-stays
 returns-in_err-finish-clause-stays g c =
-    stays_trans _ _ _ (stays_trans _ _ _ c.in_ok-turn.ensures.only_waits.waits.stay c.in_ok-close.ensures.only_releases.stay) c.in_err-finish.ensures.only_waits.waits.stay
+    stays_trans (stays_trans c.in_ok-turn.ensures.only_waits.waits.stay c.in_ok-close.ensures.only_releases.stay) c.in_err-finish.ensures.only_waits.waits.stay

@@ -4,7 +4,7 @@ use Rattle.act_explore.proofs.Putting.{put_first}
 use Rattle.act_explore.proofs.search.Search.open.Goals as goal
 
 nothing : (set : BTreeSet (String Global)) (key : List ℕ) → set.keys ≡ [] → contains_text set key ≡ false
-nothing set key none = ap (list_any (is_at (λ (k : String Global). slice_cmp nat_cmp key (string_bytes k)))) none
+nothing set key none = ap (list_any (is_at (λ k. slice_cmp nat_cmp key (string_bytes k)))) none
 
 pub returns : goal.returns
 returns c =

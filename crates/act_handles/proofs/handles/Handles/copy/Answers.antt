@@ -5,8 +5,8 @@ use Rattle.act_handles.proofs.handles.Handles.copy.Goals as goal
 pub invariant_of-self-2 : goal.invariant_of-self-2
 invariant_of-self-2 c =
     let handle = c.index_mut-handle.result.now in
-    change_fine c.args.actor c.args.self.now c.self.inside.handles.items c.in_ok-place.place handle _ c.self.view_is c.self.invariant c.in_ok-place.ensures.place c.index_mut-handle.ensures.value refl (omega (arith, c.self.invariant.1))
+    change_fine _ c.self.view_is c.self.invariant c.in_ok-place.ensures.place c.index_mut-handle.ensures.value refl (omega (arith, c.self.invariant.1))
 
 pub returns-clause-ok : goal.returns-clause-ok
 returns-clause-ok c =
-    change_is c.args.actor (λ (handle : Handle). record handle { copies = handle.copies + 1 }) c.args.self.now c.self.inside.handles.items c.in_ok-place.place c.index_mut-handle.result.now c.self.view_is c.in_ok-place.ensures.place c.index_mut-handle.ensures.value
+    change_is (λ (handle : Handle). record handle { copies = handle.copies + 1 }) c.self.view_is c.in_ok-place.ensures.place c.index_mut-handle.ensures.value

@@ -6,12 +6,14 @@ pub invariant_of-self : goal.invariant_of-self
 invariant_of-self c =
     let handle = c.index_mut-handle.result.now in
     let given : c.sum-numbers_given.result ≡ given_of_all c.deref.result.now = search rules in
-    change_fine c.args.actor c.args.self.now c.self.inside.handles.items c.in_ok-place.place handle _ c.self.view_is c.self.invariant c.in_ok-place.ensures.place c.index_mut-handle.ensures.value refl (omega (arith, given, ap given_of_all c.deref.ensures.value))
+    change_fine _ c.self.view_is c.self.invariant c.in_ok-place.ensures.place c.index_mut-handle.ensures.value refl
+    (omega (arith, given, ap given_of_all c.deref.ensures.value))
 
 pub returns-clause-ok : goal.returns-clause-ok
 returns-clause-ok c =
-    change_is c.args.actor (λ (handle : Handle). record handle { given = handle.given + 1 }) c.args.self.now c.self.inside.handles.items c.in_ok-place.place c.index_mut-handle.result.now c.self.view_is c.in_ok-place.ensures.place c.index_mut-handle.ensures.value
+    change_is (λ (handle : Handle). record handle { given = handle.given + 1 }) c.self.view_is c.in_ok-place.ensures.place c.index_mut-handle.ensures.value
 
 pub returns-clause-counted : goal.returns-clause-counted
 returns-clause-counted c =
-    counted c.args.self.now c.self.inside.handles.items c.in_ok-place.place c.index_mut-handle.result.now _ c.self.view_is c.in_ok-place.ensures.place.below c.index_mut-handle.ensures.value refl
+    counted c.args.self.now c.self.inside.handles.items c.in_ok-place.place c.index_mut-handle.result.now _ c.self.view_is c.in_ok-place.ensures.place.below
+    c.index_mut-handle.ensures.value refl

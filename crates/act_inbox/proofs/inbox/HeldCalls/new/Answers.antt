@@ -4,5 +4,4 @@ use Rattle.act_inbox.proofs.inbox.HeldCalls.new.Goals as goal
 
 pub invariant_of-result : goal.invariant_of-result
 invariant_of-result c =
-    let one_each : length c.loop.keys.items ≡ 17 = omega (arith, c.loop.invariant.0) in
-    held_at_first _ _ c.new-2.ensures.empty one_each c.loop.invariant.1
+    let one_each : length c.loop.keys.items ≡ 17 = omega (arith, c.loop.invariant.0) in held_at_first _ _ c.new-2.ensures.empty one_each c.loop.invariant.1

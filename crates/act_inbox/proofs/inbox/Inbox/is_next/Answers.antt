@@ -13,6 +13,6 @@ pub returns-then-packet-lt-MAX_CALLS : goal.returns-then-packet-lt-MAX_CALLS
 returns-then-packet-lt-MAX_CALLS c =
     let inbox = the_view c.self.inside in
     let at = rw c.deref.ensures.value at (sym c.place_of_lane.ensures ∙ c.in-Some.is) in
-    let listed = lane_is inbox c.args.packet.now.caller c.in-Some.place at c.index.result.now c.index.ensures in
+    let listed = lane_is inbox c.args.packet.now.caller c.in-Some.place at c.index.ensures in
     let empty : inbox.held ≡ [] = rw (← c.self.view_is) at c.requires in
     rw (← c.self.view_is) (next_decides inbox c.args.packet.now c.index.result.now listed c.if-packet-lt-MAX_CALLS.true empty)

@@ -14,7 +14,7 @@ pub returns-in_err-packet-clause-value : goal.returns-in_err-packet-clause-value
 returns-in_err-packet-clause-value c =
     let inbox = the_view c.self.inside in
     let at = rw c.deref.ensures.value at (sym c.place_of_lane.ensures ∙ c.in_ok-place.was) in
-    let next = listed_next inbox c.args.caller _ (lane_is inbox c.args.caller c.in_ok-place.place at _ c.index.ensures) ∙ sym c.in_err-packet.ensures.value in
+    let next = listed_next inbox c.args.caller (lane_is inbox c.args.caller c.in_ok-place.place at c.index.ensures) ∙ sym c.in_err-packet.ensures.value in
     c.from_residual-in_err-packet.ensures ∙ rw (← c.self.view_is) (sym next)
 
 pub invariant_of-self-2 : goal.invariant_of-self-2
@@ -36,6 +36,6 @@ returns c =
       none = tt;
       taken = rw (← c.self.view_is) (next_taken inbox c.args.caller c.in_ok-place.place _ _ at c.index.ensures found c.self.invariant
           after _ c.index_mut.ensures.value refl c.in_ok-packet.ensures.others (c.remove.ensures.numbered c.self.invariant.numbered) refl);
-      held = λ other number. rw (← c.self.view_is) (held_out inbox c.args.caller c.in_ok-place.place _ c.in_ok-packet.packet at c.index.ensures found c.self.invariant
-          _ c.remove.ensures.gone c.in_ok-packet.ensures.others other number (is_packet_of other number c.in_ok-packet.packet) refl);
+      held = λ other number. rw (← c.self.view_is) (held_out inbox c.args.caller c.in_ok-place.place _ c.in_ok-packet.packet at c.index.ensures found
+          c.self.invariant _ c.remove.ensures.gone c.in_ok-packet.ensures.others other number (is_packet_of other number c.in_ok-packet.packet) refl);
     }

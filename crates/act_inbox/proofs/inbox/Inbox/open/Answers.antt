@@ -14,7 +14,8 @@ loop-caller-preserved c =
 pub invariant_of-result : goal.invariant_of-result
 invariant_of-result c =
     let all = rw (take_all c.loop-caller.caller-index c.args.callers.now c.loop-caller-test.false) at c.loop-caller.invariant in
-    opened_is_inbox _ (record { lanes = c.loop-caller.lanes.items; held = c.in_ok-new.field-0; notes = no_notes 17 }) all.0 c.in_ok-new.ensures refl c.requires.distinct all.1
+    opened_is_inbox _ (record { lanes = c.loop-caller.lanes.items; held = c.in_ok-new.field-0; notes = no_notes 17 }) all.0 c.in_ok-new.ensures refl
+    c.requires.distinct all.1
 
 pub returns : goal.returns
 returns c =

@@ -13,4 +13,4 @@ pub returns : goal.returns
 returns c =
     let inbox = the_view c.self.inside in
     let at = rw c.deref.ensures.value at (sym c.place_of_lane.ensures ∙ c.in_ok-place.was) in
-    rw (← c.self.view_is) (c.get.ensures ∙ sym (listed_next inbox c.args.caller c.index.result.now (lane_is inbox c.args.caller c.in_ok-place.place at c.index.result.now c.index.ensures)))
+    rw (← c.self.view_is) (c.get.ensures ∙ sym (listed_next inbox c.args.caller (lane_is inbox c.args.caller c.in_ok-place.place at c.index.ensures)))

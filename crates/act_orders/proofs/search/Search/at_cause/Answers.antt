@@ -8,8 +8,7 @@ pub mark-mark-requires-clause-room : goal.mark-mark-requires-clause-room
 mark-mark-requires-clause-room c = c.requires.standing.room c.args.cause (c.has_happened.ensures.0 c.if-not-has_happened.false)
 
 pub returns-then-mark-eq0 : goal.returns-then-mark-eq0
-returns-then-mark-eq0 c =
-    (refl, c.has_happened.ensures.0 c.if-not-has_happened.false, sym c.mark-mark.ensures ∙ c.if-mark-eq0.true)
+returns-then-mark-eq0 c = (refl, c.has_happened.ensures.0 c.if-not-has_happened.false, sym c.mark-mark.ensures ∙ c.if-mark-eq0.true)
 
 pub returns-then-mark-lt-DONE : goal.returns-then-mark-lt-DONE
 returns-then-mark-lt-DONE c =
@@ -21,5 +20,4 @@ returns-then-mark-lt-DONE c =
     )
 
 pub returns : goal.returns
-returns c node = c.requires.standing.finished c.args.cause node
-    (omega (arith, c.if-mark-lt-DONE.false, c.mark-mark.ensures, c.mark-mark.type_inv))
+returns c node = c.requires.standing.finished c.args.cause node (omega (arith, c.if-mark-lt-DONE.false, c.mark-mark.ensures, c.mark-mark.type_inv))

@@ -4,8 +4,7 @@ use Rattle.act_orders.proofs.Steps.{enter_root}
 use Rattle.act_orders.proofs.search.Search.visit.Goals as goal
 
 pub enter-requires-clause-few : goal.enter-requires-clause-few
-enter-requires-clause-few c =
-    let w = happened_within c.args.told.now c.args.root c.requires.whole c.requires.happened in omega (arith, w, c.requires.whole.few)
+enter-requires-clause-few c = let w = happened_within c.args.root c.requires.whole c.requires.happened in omega (arith, w, c.requires.whole.few)
 
 pub loop-top-init : goal.loop-top-init
 loop-top-init c =

@@ -5,8 +5,7 @@ use Rattle.act_orders.proofs.told.Told.runs_up_to.Goals as goal
 pub returns : goal.returns
 returns c =
     let told = c.args.self.now in let a = c.args.actor in let runs = c.as_slice-runs.result.now in let k = c.partition_point.result in
-    let nothing : Run = record { actor = 0; call = 0 } in
-    let same : runs ≡ told.runs = c.as_slice-runs.ensures in
+    let nothing : Run = record { actor = 0; call = 0 } in let same : runs ≡ told.runs = c.as_slice-runs.ensures in
     let rises : IsNonDecreasingBy (λ (r : Run). r.actor) runs = subst (IsNonDecreasingBy (λ (r : Run). r.actor)) (sym same)
     (IsNonDecreasingBy-from_default (λ (r : Run). r.actor) told.runs nothing c.requires.run_actors) in
     let point : IsPartitionPoint (λ (r : Run). leb r.actor a ≡ true) (λ (r : Run). leb r.actor a ≡ false) runs k =

@@ -4,12 +4,8 @@ use Rattle.act_owner.proofs.owner.Owner.add.Goals as goal
 
 pub invariant_of-self-3 : goal.invariant_of-self-3
 invariant_of-self-3 c =
-    let inside = c.self.inside in
-    let given = c.unwrap-number.ensures in
-    submitted_fine c.args.a c.unwrap-number.result c.args.method c.args.args c.is_dead-is_dead.result inside.handles c.number.new.self
-    inside.calls.items c.reserve.new.self.items c.push_reserved.new.self.items
-    inside.table.rows c.reserve-2.new.self.rows c.enter-k.new.table.rows
-    inside.resolver.calls c.reserve_one.new.self.calls c.enter_call.new.resolver.calls
+    let inside = c.self.inside in let given = c.unwrap-number.ensures in
+    submitted_fine c.args.a c.args.method c.args.args c.is_dead-is_dead.result c.number.new.self
     c.self.invariant (sym given ∙ c.number.ensures.value) (rw given at c.number.ensures.ok) (rw given at c.number.ensures.counted)
     c.reserve.ensures.items c.reserve-2.ensures.rows c.reserve_one.ensures.calls
     c.push_reserved.ensures.items c.enter-k.ensures.rows c.enter_call.ensures

@@ -4,4 +4,4 @@ use Rattle.act_plan_plays.proofs.plan_play.PlanPlay.is_ended.Goals as goal
 pub returns : goal.returns
 returns g c = λ casts plans at stands.
     let seen = inside g.K.Actor.state casts plans at _ c.args.self.now c.self.view_is stands in
-    c.are_through.ensures casts plans at (stands_in casts plans at _ seen) seen.setups
+    c.are_through.ensures casts plans at (stands_in seen) seen.setups

@@ -5,17 +5,17 @@ use Rattle.act_replies.proofs.table.ReplyTable.keep.Goals as goal
 pub invariant_of-self : goal.invariant_of-self
 invariant_of-self c =
     let below : c.number-place.result < length c.self.inside.rows.items = omega arith in
-    keep_fine c.self.inside.rows.items c.self.inside.waiting.actors c.remove.new.self.actors c.self.inside.unanswered c.args.future c.number-place.result c.args.answer c.index.result.now c.index_mut.result.now
+    keep_fine c.self.inside.rows.items c.self.inside.unanswered c.args.answer c.index_mut.result.now
     c.self.invariant.0 c.self.invariant.1 c.number-place.ensures below c.index.ensures (sym c.is_some.ensures ∙ c.if-is_some.false) c.remove.ensures.actors
 
 pub returns-clause-value : goal.returns-clause-value
 returns-clause-value c =
     let below : c.number-place.result < length c.self.inside.rows.items = omega arith in
-    kept_open c.self.inside.rows.items c.args.self.now.rows c.args.future c.number-place.result c.index.result.now (ap (λ (t : TableView). t.rows) c.self.view_is)
+    kept_open (ap (λ (t : TableView). t.rows) c.self.view_is)
     c.number-place.ensures below c.index.ensures (sym c.is_some.ensures ∙ c.if-is_some.false)
 
 pub returns-clause-rows : goal.returns-clause-rows
 returns-clause-rows c =
     let below : c.number-place.result < length c.self.inside.rows.items = omega arith in
-    keep_open c.self.inside.rows.items c.args.self.now.rows c.args.future c.number-place.result c.args.answer c.index.result.now c.index_mut.result.now (ap (λ (t : TableView). t.rows) c.self.view_is)
+    keep_open c.args.answer (ap (λ (t : TableView). t.rows) c.self.view_is)
     c.number-place.ensures below c.index.ensures (sym c.is_some.ensures ∙ c.if-is_some.false) c.index_mut.ensures.value

@@ -4,8 +4,10 @@ use Rattle.act_resolver.proofs.least.LeastSet.raise.Goals as goal
 
 pub invariant_of-self-2 : goal.invariant_of-self-2
 invariant_of-self-2 c = (
-  above_grown c.self.inside.inner c.grow-2.new.self c.self.inside.leaves c.grow-3.new.self c.self.invariant.0 c.grow-2.ensures.words c.grow-3.ensures.words (omega (arith, c.self.invariant.0.room, c.in_ok-grow-2.ensures.ok, c.grow-3.ensures.at_most, c.div_ceil-inner.ensures)),
-  above_grown c.self.inside.top c.grow.new.self c.self.inside.inner c.grow-2.new.self c.self.invariant.1 c.grow.ensures.words c.grow-2.ensures.words (omega (arith, c.self.invariant.1.room, c.in_ok-grow.ensures.ok, c.grow-2.ensures.at_most, c.div_ceil.ensures)),
+  above_grown c.grow-2.new.self c.grow-3.new.self c.self.invariant.0 c.grow-2.ensures.words c.grow-3.ensures.words
+      (omega (arith, c.self.invariant.0.room, c.in_ok-grow-2.ensures.ok, c.grow-3.ensures.at_most, c.div_ceil-inner.ensures)),
+  above_grown c.grow.new.self c.grow-2.new.self c.self.invariant.1 c.grow.ensures.words c.grow-2.ensures.words
+      (omega (arith, c.self.invariant.1.room, c.in_ok-grow.ensures.ok, c.grow-2.ensures.at_most, c.div_ceil.ensures)),
 )
 
 pub returns-clause-ok : goal.returns-clause-ok
@@ -16,8 +18,7 @@ returns-clause-ok c =
 pub returns-clause-grows : goal.returns-clause-grows
 returns-clause-grows c =
     let size = ap length (sym c.self.view_is) ∙ length-bits_of c.self.inside.leaves in
-    let after = length-bits_of c.grow-3.new.self in
-    omega (arith, size, after, c.grow-3.ensures.grows)
+    let after = length-bits_of c.grow-3.new.self in omega (arith, size, after, c.grow-3.ensures.grows)
 
 pub returns-clause-members : goal.returns-clause-members
 returns-clause-members c k =

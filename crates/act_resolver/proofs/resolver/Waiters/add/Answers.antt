@@ -5,8 +5,7 @@ use Rattle.act_resolver.proofs.resolver.Waiters.add.Goals as goal
 
 pub returns-clause-lists : goal.returns-clause-lists
 returns-clause-lists c =
-    let firsts = c.self.inside.firsts.items in
-    let places = c.self.inside.places.items in
+    let firsts = c.self.inside.firsts.items in let places = c.self.inside.places.items in
     let place : Place = record { call = c.args.call; next = c.index-next.result.now } in
     let k = c.number-future.result in
     let lists : chains_of firsts places ≡ c.args.self.now.lists = ap (λ v. v.lists) c.self.view_is in

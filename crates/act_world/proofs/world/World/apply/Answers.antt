@@ -1,10 +1,9 @@
-use Rattle.act_world.proofs.Common.{world_view}
 use Rattle.act_world.proofs.Applying.{applied}
 use Rattle.act_world.proofs.world.World.apply.Goals as goal
 
 pub returns : goal.returns
 returns g c =
-    let done = applied (world_view g.K.Actor.state) _ _ _ _ c.step.ensures in
+    let done = applied _ _ _ _ c.step.ensures in
     record {
       outcome = rw c.unwrap_or.ensures done.outcome;
       reached = rw c.unwrap_or.ensures done.reached;

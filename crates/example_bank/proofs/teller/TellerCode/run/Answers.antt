@@ -1,8 +1,7 @@
-use Rattle.std.proofs.Common.{rules, ◌≡◌, ℕ, ◌+◌, ◌<◌, ◌≤◌, List, [], ◌∷◌, ◌++◌, length, take, is_some, true, ap, sym, ◌∙◌, subst, arith}
+use Rattle.std.proofs.Common.{rules, ◌≡◌, ◌+◌, ◌<◌, ◌≤◌, [], ◌∷◌, ◌++◌, length, take, is_some, true, ap, sym, ◌∙◌, subst, arith}
 use Rattle.std.specs.Prelude.{All}
 use Rattle.std.proofs.lemmas.List.{take_all, take_more}
 use Rattle.actors.specs.Callers.{kept_at}
-use Rattle.example_bank.specs.declared.request.Request.{Request}
 use Rattle.example_bank.proofs.Asking.{Asking, asks_more, asked}
 use Rattle.example_bank.proofs.teller.TellerCode.run.Goals as goal
 
@@ -15,13 +14,14 @@ loop-request-preserved g c = λ fresh.
     let k = c.in_ok-submit.field-0 in
     let there : i < length requests = omega arith in
     let more : take (i + 1) requests ≡ take i requests ++ request ∷ [] =
-    take_more requests i request there ∙ ap (λ (r : Request). take i requests ++ r ∷ []) (sym c.request-item.is) in
+    take_more requests i request there ∙ ap (λ r. take i requests ++ r ∷ []) (sym c.request-item.is) in
     let pushed : c.push.new.self.items ≡ c.loop-request.futures.items ++ k ∷ [] = search rules in
     let step : Asking (take i requests ++ request ∷ []) new (c.loop-request.futures.items ++ k ∷ []) =
-    asks_more (take i requests) request (g.S.Session.seen c.loop-request.session) new c.loop-request.futures.items k c.method_of-method.result c.in_ok-args.args
+    asks_more request new k
     (c.loop-request.invariant fresh) c.method_of-method.ensures.word c.in_ok-args.ensures c.in_ok-submit.ensures.future c.in_ok-submit.ensures.submits in
-    let futures : Asking (take i requests ++ request ∷ []) new c.push.new.self.items = subst (λ (fs : List ℕ). Asking (take i requests ++ request ∷ []) new fs) (sym pushed) step in
-    subst (λ (done : List Request). Asking done new c.push.new.self.items) (sym more) futures
+    let futures : Asking (take i requests ++ request ∷ []) new c.push.new.self.items =
+    subst (λ fs. Asking (take i requests ++ request ∷ []) new fs) (sym pushed) step in
+    subst (λ done. Asking done new c.push.new.self.items) (sym more) futures
 
 pub returns : goal.returns
 returns g c = λ fresh.
@@ -33,4 +33,4 @@ returns g c = λ fresh.
     let end : length items ≤ c.loop-request.request-index = omega arith in
     let whole : take c.loop-request.request-index items ≡ requests = take_all c.loop-request.request-index items end ∙ c.deref-request-items.ensures.value in
     let all : All (λ k. is_some (kept_at last.kept k) ≡ true) futures = search rules in
-    asked requests seen last futures (subst (λ (done : List Request). Asking done seen futures) whole (c.loop-request.invariant fresh)) c.wait_all.ensures.hears all
+    asked requests seen last futures (subst (λ done. Asking done seen futures) whole (c.loop-request.invariant fresh)) c.wait_all.ensures.hears all

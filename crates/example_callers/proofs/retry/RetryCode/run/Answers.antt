@@ -1,4 +1,5 @@
-use Rattle.example_callers.proofs.Common.{rules, ◌≡◌, ◌<◌, ◌∷◌, [], ℕ, ap, sym, ◌∙◌, false, true, inl, inr, subst, option_copied, Int, Plain, is_lacking, HasFailed}
+use Rattle.example_callers.proofs.Common.{rules, ◌≡◌, ◌<◌, ◌∷◌, [], ap, sym, ◌∙◌, false, true, inl, inr, subst, option_copied, Int, Plain, is_lacking}
+use Rattle.example_callers.proofs.Common.{HasFailed}
 use Rattle.example_callers.proofs.Tries.{fails_more, tried}
 use Rattle.example_callers.proofs.retry.RetryCode.run.Goals as goal
 
@@ -31,4 +32,4 @@ returns-in_default-2 g c = λ fresh.
 pub returns : goal.returns
 returns g c = λ fresh.
     let all : c.loop.counter ≡ c.args.self.now.most = search rules in
-    inl (subst (λ (n : ℕ). HasFailed c.args.self.now n (g.S.Session.seen c.loop.session)) all (c.loop.invariant fresh))
+    inl (subst (λ n. HasFailed c.args.self.now n (g.S.Session.seen c.loop.session)) all (c.loop.invariant fresh))

@@ -4,7 +4,7 @@ use Rattle.example_transfer.proofs.together.Together.is_kept.Goals as goal
 
 pub returns : goal.returns
 returns c = λ casts events reached.
-    kept_if c.args.self.now (history casts events) c.in-Some.one.now c.in-Some-purse_in.other.now c.add_to.result
+    kept_if c.args.self.now c.add_to.result
     (c.in-Some.ensures casts events reached) (c.in-Some-purse_in.ensures casts events reached) c.add_to.ensures
 
 pub returns-in_default : goal.returns-in_default

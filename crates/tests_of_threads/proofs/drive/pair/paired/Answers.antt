@@ -6,5 +6,6 @@ returns-clause-caller c =
     let r = c.requires in
     let differ : c.args.one.control.actor ≢ c.args.two.control.actor = λ same. cc (same, r.actors.0, r.actors.1) in
     let mails : c.args.one.mail.actor ≢ c.args.two.mail.actor = λ same. cc (same, r.mails.0, r.mails.1) in
-    unused_pair _ 1 c.args.one.mail c.args.two.mail c.args.one.control c.args.two.control c.args.replies.0 c.args.one.post c.args.two.post c.args.one.ask c.args.two.ask (1 ∷ 2 ∷ [])
-    r.posts.0 r.posts.1 r.asks.0 r.asks.1 mails differ c.endpoints_at-caller.ensures.letters c.endpoints_at-caller.ensures.kills (c.endpoints_at-caller.ensures.collects ∙ r.collects)
+    unused_pair _ 1 c.args.one.mail c.args.two.mail c.args.one.control c.args.two.control c.args.replies.0 (1 ∷ 2 ∷ [])
+    r.posts.0 r.posts.1 r.asks.0 r.asks.1 mails differ c.endpoints_at-caller.ensures.letters c.endpoints_at-caller.ensures.kills
+    (c.endpoints_at-caller.ensures.collects ∙ r.collects)
