@@ -49,7 +49,8 @@ impl<K, L: RunLog> Model for Live<K, L> {
 
     // Each call that was handed out stands in the log, and the inbox hands out no more than that.
     ghost invariant = { λ live.
-        (length (L.items live.log) ≡ handed_in_all live.inbox) × (length (L.items live.log) ≤ MAX_CALLERS * MAX_CALLS) };
+        (length (L.items live.log) ≡ handed_in_all live.inbox) ×
+        (length (L.items live.log) ≤ MAX_CALLERS * MAX_CALLS) };
 }
 
 /// The item that a packet becomes in the log.
@@ -274,7 +275,8 @@ impl<K: Actor, L: RunLog> Live<K, L> {
     /// Runs the caller's next call, if it came and the actor did not terminate.
     pub fn run(&mut self, caller: CallerId) -> Result<Option<Reply>, NoMemory>
         ensures reply { IfOk result (λ reply.
-            reply ≡ option_map (reply_of_run (live_view K.state self.old)) (next_call self.old.log self.old.inbox caller)) }
+            reply ≡ option_map (reply_of_run (live_view K.state self.old))
+            (next_call self.old.log self.old.inbox caller)) }
         ensures gap { IfOk result (λ reply. IfNone reply (self.new ≡ self.old)) }
         ensures ran { OnOk result (IfSome (next_call self.old.log self.old.inbox caller) (λ packet.
             HasRunCall caller packet (live_view K.state self.old) (live_view K.state self.new))) }

@@ -9,6 +9,7 @@ use Rattle.act_causes.proofs.Made.{marks_are, by_caller, actors_stay}
 use Rattle.act_causes.proofs.Marks.{HasPost}
 use Rattle.act_causes.proofs.Keeping.{Keeps, GoesOn, go_on, cast_is}
 use Rattle.act_causes.proofs.Changing.{actor_small, holder_named, caller_at, owners_after}
+use Rattle.act_world.proofs.Collecting.{told_to}
 
 -- a reply by its parts
 reply_is : (c : ℕ) (reply : Reply) (item : RunItem) → reply.caller ≡ c → item.future ≡ reply.future →
@@ -66,6 +67,3 @@ module _ (casts : List ActorSpec) (deeds : List (Site × Action)) (h : History) 
       collects has.0 (ReplyPost c reply.actor reply.place) (Answered reply) (has.0, refl, has.1) has.1
       (ap (λ o. option_map (told_to c) (reply_at h c reply.actor reply.place o)) ran ∙ ap (λ o. option_map (told_to c) (option_map
       (reply_as c reply.actor reply.place r.item) o)) answered ∙ ap (λ told. Some (told_to c told)) (reply_is c reply r.item r.caller r.future)) tt
-    where
-      told_to : ℕ → Reply → MailedNotice
-      told_to c reply = record { caller = c; notice = Answered reply }

@@ -14,7 +14,7 @@ pub use Rattle.act_inbox.proofs.Taking.{next_taken, sound_then}
 pub use Rattle.act_inbox.specs.Inbox.{InboxView, IsNextTaken, IsOpened, arrival_of, handed_of, is_lane_of, lane_at_first, lane_of, next_of, note_of, with_held}
 pub use Rattle.act_inbox.specs.View.{IsInbox}
 pub use Rattle.act_inbox.specs.declared.inbox.Lane.{Lane}
-pub use Rattle.act_lists.proofs.Lists.{slice_get_pushed}
+pub use Rattle.act_lists.proofs.Lists.{contains_tail, get_set-other, get_set-same, slice_get_pushed}
 pub use Rattle.act_mailbox.specs.Traces.{found_in, steps_in}
 pub use Rattle.act_owner.proofs.Life.{after_all-append, packet_stays_all, places_all, step}
 pub use Rattle.act_owner.proofs.Told.{sent_stays_all}
@@ -31,7 +31,7 @@ pub use Rattle.act_rules.proofs.Finding.{find-None, find-Some, find-tells, posit
 pub use Rattle.act_rules.proofs.Growth.{Grows, added_grows}
 pub use Rattle.act_rules.proofs.Letters.{IsSoundLetter, calls_to-number, has_front, has_last, letter_place}
 pub use Rattle.act_rules.proofs.Lists.{All-two, AllPairs-map, All_at, All_more, more_front, option_map-none, slice_get_front, whole_front}
-pub use Rattle.act_rules.proofs.Posts.{next_item_caller}
+pub use Rattle.act_rules.proofs.Posts.{next_item_caller, ran_on}
 pub use Rattle.act_rules.proofs.RanAll.{AllNamed, named_call}
 pub use Rattle.act_rules.proofs.Retired.{gone_step, times-push}
 pub use Rattle.act_rules.proofs.Steps.{IsKept, outcomes-append}
@@ -80,11 +80,10 @@ pub use Rattle.act_world.proofs.Delivering.{deliver_follows}
 pub use Rattle.act_world.proofs.Frames.{not_owner, still_lives}
 pub use Rattle.act_world.proofs.Killing.{contains-last, kill_follows}
 pub use Rattle.act_world.proofs.Lawful.{IsLawful, IsNamedLetter, lawful_step, named_caller, world_lawful}
-pub use Rattle.act_world.proofs.Lists.{contains-more, get_set-other, get_set-same}
 pub use Rattle.act_world.proofs.NextCall.{item_is, next_is}
 pub use Rattle.act_world.proofs.OneCaller.{needs_holds}
 pub use Rattle.act_world.proofs.OpenedOwners.{nothing_asked, owners_opened}
-pub use Rattle.act_world.proofs.RanOn.{ran_on, runs_here, runs_other}
+pub use Rattle.act_world.proofs.RanOn.{runs_here, runs_other}
 pub use Rattle.act_world.proofs.Releasing.{last_follows, release_follows}
 pub use Rattle.act_world.proofs.Retiring.{retire_follows}
 pub use Rattle.act_world.proofs.Running.{run_follows}

@@ -1,14 +1,10 @@
 -- What is found in the steps of a thread, in two parts and without its stamps.
 use Rattle.act_causes.proofs.Common.{◌≡◌, ℕ, zero, suc, ◌≤◌, ◌<◌, List, [], ◌∷◌, ◌++◌, Option, Some, None, refl, ap, arith, slice_get, AllByRecursion, map}
-use Rattle.act_causes.proofs.Common.{filter_map, option_map, cons_option, filter_map-append, steps_in, found_in}
+use Rattle.act_causes.proofs.Common.{filter_map, option_map, cons_option, steps_in, found_in}
 
 -- no stamp is below m
 abbrev pub IsLeast : {A : Type 0} → ℕ → List (ℕ × A) → Type 0
 IsLeast m deeds = AllByRecursion (λ deed. m ≤ deed.0) deeds
-
--- what is found in two parts is found in one after the other
-pub found_append : {S X : Type 0} (part : S → Option X) (xs ys : List (ℕ × S)) → found_in part (xs ++ ys) ≡ found_in part xs ++ found_in part ys
-found_append part xs ys = filter_map-append (λ x. option_map (λ found. (x.0, found)) (part x.1)) xs ys
 
 -- its stamps are those of the steps
 pub found_from : {S X : Type 0} (part : S → Option X) (m : ℕ) (xs : List (ℕ × S)) → IsLeast m xs → IsLeast m (found_in part xs)

@@ -5,7 +5,8 @@ use Rattle.act_causes.proofs.Common.{RunItem, ActorSpec, History, kept_of, next_
 use Rattle.act_causes.proofs.Common.{is_death_to, Site, Action, owner_by, IsEventOf, IsPlayOfDeeds, run_collected, Actor, Caller, left_by, opened_of, CallRun}
 use Rattle.act_causes.proofs.Common.{CallTaken, NoteTaken, Copied, DeathTold, KillAsked, KillTaken, Released, Retirement, Sent, Submitted, [], AskKill, Collect}
 use Rattle.act_causes.proofs.Common.{Copy, Deliver, Release, Retire, Run, Send, Submit, TakeKill, Tell, CallLetter, NoteLetter, ReplyPost, DeathPost}
-use Rattle.act_causes.proofs.Keeping.{Keeps, told_of, owner_of, is_named}
+use Rattle.act_causes.proofs.Keeping.{Keeps, told_of, owner_of}
+use Rattle.act_rules.proofs.Callers.{is_named}
 
 -- each caller's answers are kept as the deeds leave them, and of each actor that it knows to be dead it collected that
 pub record KeepsAnswers (casts : List ActorSpec) (deeds : List (Site × Action)) (events : List Event) : Type 0 where

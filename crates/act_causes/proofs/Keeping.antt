@@ -1,6 +1,6 @@
 -- What a history keeps of the deeds that its events stand for, and one deed more.
 use Rattle.act_causes.proofs.Common.{◌≡◌, ℕ, ◌≤◌, true, List, ◌∷◌, ◌++◌, length, Option, Some, None, Ok, inl, inr, refl, ap, sym, ◌∙◌, subst, Contains, cond}
-use Rattle.act_causes.proofs.Common.{Bool, false, map, find, slice_get, ◌==◌, cons_option, list_any, enumerate_from, eqb-true, Contains-push_cases}
+use Rattle.act_causes.proofs.Common.{Bool, false, map, find, slice_get, ◌==◌, cons_option, enumerate_from, eqb-true, Contains-push_cases}
 use Rattle.act_causes.proofs.Common.{filter_map-append, Packet, Event, Run, AskKill, Did, WorldRefusal, Letter, RunItem, Submission, AllNamed, IsPrefix}
 use Rattle.act_causes.proofs.Common.{ActorSpec, History, contains, cast_of, names, is_caller, has_letter, next_item, calls_of, kept_of, first_answer}
 use Rattle.act_causes.proofs.Common.{refusal_of, outcome_by, outcome_of, add_event, after_run, after_by, after, whole_front, more_front, added_grows}
@@ -10,6 +10,7 @@ use Rattle.act_causes.proofs.Common.{Caller, action_at, actions_of, left_by, Kil
 use Rattle.act_causes.proofs.Common.{has_front}
 use Rattle.act_causes.proofs.Made.{known_on, sent_on, AreActorsOf}
 use Rattle.act_causes.proofs.Marks.{HasPost, AreReplied, AreNoted, post_stays, replied_step, noted_step}
+use Rattle.act_rules.proofs.Callers.{is_named}
 
 -- ---- what each deed has left
 
@@ -74,9 +75,6 @@ left_stays casts deeds deed h event (Actor a, DeathTold c) has = post_stays h (a
 left_stays casts deeds deed h event one has = tt
 
 -- ---- who is no caller does nothing
-
-abbrev pub is_named : List ActorSpec → ℕ → Bool
-is_named casts c = list_any (λ (cast : ActorSpec). contains c cast.callers) casts
 
 -- a deed of a caller's is that of one which some cast names
 abbrev pub IsByNamed : List ActorSpec → Site × Action → Type 0

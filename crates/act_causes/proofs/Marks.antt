@@ -1,12 +1,13 @@
 -- What every history keeps of replies and notes: each call that ran was replied to, and each last release sent its note.
 use Rattle.act_causes.proofs.Common.{◌≡◌, ℕ, zero, suc, ◌+◌, ◌-◌, ◌<◌, Bool, true, false, cond, List, [], ◌∷◌, ◌++◌, length, Some, None, inl, inr, refl, ap}
 use Rattle.act_causes.proofs.Common.{sym, ◌∙◌, subst, arith, Option, ◌==◌, ◌&&◌, slice_get, option_map, is_some, nat_lt, eqb-true, eq-eqb, ltb-true, and_parts}
-use Rattle.act_causes.proofs.Common.{eqb_tells, Event, Submit, Copy, Release, Send, Deliver, Run, Collect, AskKill, TakeKill, Tell, Retire, Letter, Post}
-use Rattle.act_causes.proofs.Common.{RunItem, NoActor, NoHandle, TooManyCopies, NoCaller, Handle, IsPrefix, calls_to, needs, copies_held, copy_refusal}
-use Rattle.act_causes.proofs.Common.{handle_refusal, ActorSpec, History, opening, is_caller, cast_of, names, count_pairs, calls_of, copies_of, runs_of}
+use Rattle.act_causes.proofs.Common.{eqb_tells, Event, Submit, Copy, Release, Send, Deliver, Run, Collect, AskKill, TakeKill, Tell, Retire, Post}
+use Rattle.act_causes.proofs.Common.{RunItem, NoActor, NoHandle, TooManyCopies, NoCaller, Handle, IsPrefix, needs, copies_held, copy_refusal}
+use Rattle.act_causes.proofs.Common.{handle_refusal, ActorSpec, History, opening, is_caller, cast_of, names, count_pairs, copies_of, runs_of}
 use Rattle.act_causes.proofs.Common.{has_letter, next_item, refusal_of, add_event, after_run, is_last, and_also, slice_get_front, option_map-none, added_grows}
 use Rattle.act_causes.proofs.Common.{IsKept, needs-none, next_item_caller, times-push, gone_step, has_last, ran_on, runs_here, runs_other, slice_get_pushed}
 use Rattle.act_causes.proofs.Common.{has_front, NoteLetter, ReplyPost}
+use Rattle.act_world.proofs.Releasing.{note_letter}
 
 -- ---- each call that ran was replied to
 
@@ -66,19 +67,16 @@ replied_step h (Retire a) replied accepted = replied_stays h (Retire a) refl rep
 
 -- ---- each last release sent its note
 
-abbrev pub last_letter : History → ℕ → ℕ → Letter
-last_letter h c a = NoteLetter c a (length (calls_to a (calls_of c h)))
-
 abbrev pub AreNoted : History → Type 0
-AreNoted h = (c a : ℕ) → copies_of c a h ≡ Some 0 → has_letter (last_letter h c a) h.mail ≡ true
+AreNoted h = (c a : ℕ) → copies_of c a h ≡ Some 0 → has_letter (note_letter h c a) h.mail ≡ true
 
 -- a note that was sent stays, and counts the calls still
 noted_on : (h : History) (event : Event) → refusal_of h event ≡ None → AreNoted h → (c a : ℕ) → copies_of c a h ≡ Some 0 →
-    has_letter (last_letter (add_event h event) c a) (add_event h event).mail ≡ true
+    has_letter (note_letter (add_event h event) c a) (add_event h event).mail ≡ true
 noted_on h event accepted noted c a none =
     let stays = gone_step c a h event (ap copies_held none) accepted in
     subst (λ calls. has_letter (NoteLetter c a (length calls)) (add_event h event).mail ≡ true) (sym stays.calls)
-    (has_front (last_letter h c a) h.mail (add_event h event).mail (added_grows h event).mail (noted c a none))
+    (has_front (note_letter h c a) h.mail (add_event h event).mail (added_grows h event).mail (noted c a none))
 
 -- who may copy or release holds a copy
 copier_holds : (h : History) (c a : ℕ) → refusal_of h (Copy c a) ≡ None → 0 < copies_held (copies_of c a h)
@@ -113,7 +111,7 @@ last_gone false made gone held e = cc
 noted_copy : (h : History) (d b : ℕ) → refusal_of h (Copy d b) ≡ None → AreNoted h → AreNoted (add_event h (Copy d b))
 noted_copy h d b accepted noted c a none = go ((d == c) && (b == a)) refl
   where
-    go : (same : Bool) → ((d == c) && (b == a)) ≡ same → has_letter (last_letter (add_event h (Copy d b)) c a) h.mail ≡ true
+    go : (same : Bool) → ((d == c) && (b == a)) ≡ same → has_letter (note_letter (add_event h (Copy d b)) c a) h.mail ≡ true
     go true e =
         let parts = and_parts (d == c) (b == a) e in
         let held : 0 < copies_held (copies_of c a h) = subst (λ x. 0 < copies_held (copies_of x a h)) (eqb-true d c parts.0)
@@ -129,15 +127,15 @@ noted_copy h d b accepted noted c a none = go ((d == c) && (b == a)) refl
         noted_on h (Copy d b) accepted noted c a (sym (ap (λ n. held_by (names c (cast_of a h)) n (count_pairs c a h.released)) same) ∙ none)
 
 -- the note that a last release sends is there
-note_sent : (h : History) (c a : ℕ) → is_last c a h ≡ true → has_letter (last_letter h c a) (add_event h (Release c a)).mail ≡ true
+note_sent : (h : History) (c a : ℕ) → is_last c a h ≡ true → has_letter (note_letter h c a) (add_event h (Release c a)).mail ≡ true
 note_sent h c a last =
-    ap (λ b. has_letter (last_letter h c a) (and_also h.mail (cond b (Some (last_letter h c a)) None))) last
-    ∙ has_last (last_letter h c a) h.mail
+    ap (λ b. has_letter (note_letter h c a) (and_also h.mail (cond b (Some (note_letter h c a)) None))) last
+    ∙ has_last (note_letter h c a) h.mail
 
 noted_release : (h : History) (d b : ℕ) → refusal_of h (Release d b) ≡ None → AreNoted h → AreNoted (add_event h (Release d b))
 noted_release h d b accepted noted c a none = go ((d == c) && (b == a)) refl
   where
-    go : (same : Bool) → ((d == c) && (b == a)) ≡ same → has_letter (last_letter h c a) (add_event h (Release d b)).mail ≡ true
+    go : (same : Bool) → ((d == c) && (b == a)) ≡ same → has_letter (note_letter h c a) (add_event h (Release d b)).mail ≡ true
     go true e =
         let parts = and_parts (d == c) (b == a) e in let caller : d ≡ c = eqb-true d c parts.0 in let actor : b ≡ a = eqb-true b a parts.1 in
         let held : 0 < copies_held (copies_of c a h) =
@@ -147,8 +145,8 @@ noted_release h d b accepted noted c a none = go ((d == c) && (b == a)) refl
         let one : copies_held (copies_of c a h) ≡ 1 =
         last_gone (names c (cast_of a h)) (count_pairs c a h.copied) (count_pairs c a h.released) held
         (sym (ap (λ n. held_by (names c (cast_of a h)) (count_pairs c a h.copied) n) more) ∙ none) in
-        subst (λ x. has_letter (last_letter h c a) (add_event h (Release x b)).mail ≡ true) (sym caller)
-        (subst (λ y. has_letter (last_letter h c a) (add_event h (Release c y)).mail ≡ true) (sym actor)
+        subst (λ x. has_letter (note_letter h c a) (add_event h (Release x b)).mail ≡ true) (sym caller)
+        (subst (λ y. has_letter (note_letter h c a) (add_event h (Release c y)).mail ≡ true) (sym actor)
         (note_sent h c a (eq-eqb (copies_held (copies_of c a h)) 1 one)))
     go false e =
         let plus : count_pairs c a h.released + 0 ≡ count_pairs c a h.released = omega arith in
@@ -164,7 +162,7 @@ noted_step h (Send d k) noted accepted c a none = noted_on h (Send d k) accepted
 noted_step h (Deliver i) noted accepted c a none = noted_on h (Deliver i) accepted noted c a none
 noted_step h (Run b d) noted accepted c a none = go (next_item b d h) none
   where
-    go : (o : Option RunItem) → copies_of c a (after_run b d h o) ≡ Some 0 → has_letter (last_letter (after_run b d h o) c a) (after_run b d h o).mail ≡ true
+    go : (o : Option RunItem) → copies_of c a (after_run b d h o) ≡ Some 0 → has_letter (note_letter (after_run b d h o) c a) (after_run b d h o).mail ≡ true
     go None e = noted c a e
     go (Some item) e = noted c a e
 noted_step h (Collect j) noted accepted c a none = noted_on h (Collect j) accepted noted c a none

@@ -4,7 +4,8 @@ use Rattle.act_causes.proofs.Common.{arith, map, nat_le, AllPairs, cons_option, 
 use Rattle.act_causes.proofs.Common.{All-from_recursion, recursion_from_All, AllPairs-cons, Site, Caller, Actor, Action, action_at, found_in, Threads}
 use Rattle.act_causes.proofs.Common.{site_number, AreBelow, NeverFall, IsFrontBelow, IsMergeOf, []}
 pub use Rattle.act_causes.proofs.Found.{IsLeast, place_in_front}
-use Rattle.act_causes.proofs.Found.{found_append, found_from}
+use Rattle.act_causes.proofs.Found.{found_from}
+use Rattle.act_mailbox.proofs.Clocks.{found_more}
 use Rattle.act_causes.proofs.Sites.{action_here, action_elsewhere}
 
 -- ---- one step more, before the first with no lower stamp
@@ -126,9 +127,9 @@ module _ (threads : Threads) (site : Site) where
       found_in (action_at site) (as_deeds (Actor n) (threads (Actor n))) ≡ two → found_in (action_at site) (all_deeds threads n) ≡ rest →
       found_in (action_at site) (all_deeds threads (suc n)) ≡ one ++ (two ++ rest)
   found_two n first second behind =
-      found_append (action_at site) (as_deeds (Caller n) (threads (Caller n))) (as_deeds (Actor n) (threads (Actor n)) ++ all_deeds threads n)
+      found_more (action_at site) (as_deeds (Caller n) (threads (Caller n))) (as_deeds (Actor n) (threads (Actor n)) ++ all_deeds threads n)
       ∙ ap (λ l. found_in (action_at site) (as_deeds (Caller n) (threads (Caller n))) ++ l)
-      (found_append (action_at site) (as_deeds (Actor n) (threads (Actor n))) (all_deeds threads n))
+      (found_more (action_at site) (as_deeds (Actor n) (threads (Actor n))) (all_deeds threads n))
       ∙ (λ i. first i ++ (second i ++ behind i))
 
   other_number : (n : ℕ) (other : Site) → site_number other ≡ n → n ≢ site_number site → other ≢ site
@@ -182,7 +183,7 @@ front_below : (site : Site) {merged : List (ℕ × (Site × Action))} (before la
     IsFrontBelow m trace (found_in (action_at site) before)
 front_below site before later m deed order e is = record {
   later = found_in (action_at site) ((m, deed) ∷ later);
-  cut = sym is ∙ ap (found_in (action_at site)) e ∙ found_append (action_at site) before ((m, deed) ∷ later);
+  cut = sym is ∙ ap (found_in (action_at site)) e ∙ found_more (action_at site) before ((m, deed) ∷ later);
   from = All-from_recursion (λ (x : ℕ × Action). m ≤ x.0) (found_in (action_at site) ((m, deed) ∷ later))
       (found_from (action_at site) m ((m, deed) ∷ later) (least_from before later (m, deed) (subst Rises e order)));
 }

@@ -1,6 +1,6 @@
 -- Who did an action.
 use Rattle.act_causes.proofs.Common.{◌≡◌, ◌≢◌, true, false, cond, List, ◌∷◌, ◌⊎◌, Option, Some, None, inl, inr, refl, ap, ◌∙◌, eq-eqb, eqb_tells, sym, zero}
-use Rattle.act_causes.proofs.Common.{suc, arith, cons_option, Contains, contains-more, Site, Caller, Actor, Action, is_site, action_at, actions_of, []}
+use Rattle.act_causes.proofs.Common.{suc, arith, cons_option, Contains, contains_tail, Site, Caller, Actor, Action, is_site, action_at, actions_of, []}
 
 pub same_site : (site : Site) → is_site site site ≡ true
 same_site (Caller c) = eq-eqb c c refl
@@ -38,6 +38,6 @@ deed_of site (deed ∷ deeds) action has = go (action_at site deed) refl (deed_o
   where
     go : (o : Option Action) → action_at site deed ≡ o → (Contains (actions_of site deeds) action → Contains deeds (site, action)) →
         Contains (cons_option o (actions_of site deeds)) action → Contains (deed ∷ deeds) (site, action)
-    go None e rest has = contains-more deeds deed (site, action) (rest has)
+    go None e rest has = contains_tail deed (site, action) deeds (rest has)
     go (Some x) e rest (zero, below, is) = (zero, omega arith, deed_is site deed action (e ∙ ap (λ y. Some y) is))
-    go (Some x) e rest (suc i, below, is) = contains-more deeds deed (site, action) (rest (i, omega arith, is))
+    go (Some x) e rest (suc i, below, is) = contains_tail deed (site, action) deeds (rest (i, omega arith, is))

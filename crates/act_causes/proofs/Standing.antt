@@ -1,11 +1,12 @@
 -- Where an actor stands in the world of the deeds.
-use Rattle.act_causes.proofs.Common.{◌≡◌, ℕ, Bool, true, false, List, Option, Some, None, inl, inr, refl, ap, sym, ◌∙◌, subst, find, slice_get, slice_set}
+use Rattle.act_causes.proofs.Common.{◌≡◌, ℕ, true, false, List, Option, Some, None, inl, inr, refl, ap, sym, ◌∙◌, subst, find, slice_get, slice_set}
 use Rattle.act_causes.proofs.Common.{is_some, eqb_tells, NoActor, Handle, ActorSpec, History, cast_of, names, is_caller, is_dead, is_retired, is_ended}
 use Rattle.act_causes.proofs.Common.{copies_in, ActorView, cast_at, is_owner, naming_refusal, SlotView, Runs, Died, Ended, Vacant, IsLive, IsStage}
 use Rattle.act_causes.proofs.Common.{named_caller, get_set-same, get_set-other, needs_holds, is_named, Site, Action, IsNamed, owner_by, actions_of}
-use Rattle.act_causes.proofs.Common.{has_ended_in, Actor, ◌||◌}
+use Rattle.act_causes.proofs.Common.{has_ended_in, Actor}
 use Rattle.act_causes.proofs.Made.{ended_is}
 use Rattle.act_causes.proofs.Keeping.{HasInbox, Keeps, cast_is, owner_of}
+use Rattle.std.proofs.lemmas.Bool.{or_parts}
 
 -- an actor that has a cast and hasn't ended runs
 pub record Lives (h : History) (slots : List SlotView) (a : ℕ) : Type 0 where
@@ -17,16 +18,12 @@ lives_at : (h : History) (slots : List SlotView) (a : ℕ) → is_some (cast_of 
     Lives h slots a
 lives_at h slots a cast on stage = go (slice_get slots a) refl stage
   where
-    ended : (dead retired : Bool) → (dead || retired) ≡ false → (dead ≡ false) × (retired ≡ false)
-    ended true retired e = cc
-    ended false retired e = (refl, e)
-
     go : (o : Option SlotView) → slice_get slots a ≡ o → IsStage h a o → Lives h slots a
     go None at none = let bad : false ≡ true = sym (ap (λ o. is_some o) none) ∙ cast in cc
     go (Some Vacant) at none = let bad : false ≡ true = sym (ap (λ o. is_some o) none) ∙ cast in cc
     go (Some (Runs live)) at is = record { live = live; at = at; is = is }
-    go (Some (Died dead)) at is = let bad : true ≡ false = sym is.died ∙ (ended (is_dead a h) (is_retired a h) on).0 in cc
-    go (Some (Ended retired)) at is = let bad : true ≡ false = sym is.ended ∙ (ended (is_dead a h) (is_retired a h) on).1 in cc
+    go (Some (Died dead)) at is = let bad : true ≡ false = sym is.died ∙ (or_parts (is_dead a h) (is_retired a h) on).0 in cc
+    go (Some (Ended retired)) at is = let bad : true ≡ false = sym is.ended ∙ (or_parts (is_dead a h) (is_retired a h) on).1 in cc
 
 -- one actor changes, and each inbox is as any inbox is
 pub inboxes_set : (slots : List SlotView) (a : ℕ) {old : SlotView} (new : SlotView) → slice_get slots a ≡ Some old → HasInbox (Some new) →

@@ -12,7 +12,8 @@ use Rattle.act_rules.specs.declared.history.Post.TheVariants.{Reply as ReplyPost
 use Rattle.act_rules.specs.History.{ActorSpec, History, opening, calls_of, kept_of, runs_of, is_dead, is_retired}
 use Rattle.act_rules.specs.Laws.{history}
 use Rattle.act_rules.specs.Rules.{outcomes}
-use Rattle.act_rules.specs.Actions.{Site, Caller, Actor, Action, Copied, Released, Submitted, Sent, Noticed, KillAsked, CallTaken, NoteTaken, CallRun, KillTaken, DeathTold, Retirement, actions_of}
+use Rattle.act_rules.specs.Actions.{Site, Caller, Actor, Action, Copied, Released, Submitted, Sent, Noticed, KillAsked, CallTaken, NoteTaken, CallRun}
+use Rattle.act_rules.specs.Actions.{KillTaken, DeathTold, Retirement, actions_of}
 use Rattle.act_actor.specs.Life.{is_retirement, log_of, has_died_in}
 use Rattle.act_causes.specs.Deeds.{AreCaused, left_by}
 

@@ -2,9 +2,10 @@
 use Rattle.act_console.proofs.Common.{◌≡◌, ℕ, suc, ◌+◌, ◌<◌, ◌==◌, Bool, true, false, not, ◌||◌, if◌then◌else◌, List, [], ◌∷◌, ◌++◌, length, map, Option, Some}
 use Rattle.act_console.proofs.Common.{None, refl, sym, ◌∙◌, ap, arith, eq-eqb, inl, inr, filter, filter_map, find, slice_get, option_map, option_and_then}
 use Rattle.act_console.proofs.Common.{list_any, AllByRecursion, eqb_tells, length-map, filter_agree, or-true, filter_map-same, element, Step, Role, ActorSpec}
-use Rattle.act_console.proofs.Common.{contains, actors_naming, Script, Progress, nothing_done, is_refused, do_step, first_bad, first_bad_from, one_to}
+use Rattle.act_console.proofs.Common.{contains, Script, Progress, nothing_done, is_refused, do_step, first_bad, first_bad_from, one_to}
 use Rattle.act_console.proofs.Common.{actor_spec_of, callers_of_roles, actors_of_roles, plan_in_script, bad_line, bad_lines, plans_in, callers_cast, plan_among}
 use Rattle.act_console.proofs.Common.{bad_step_of, first_bad_plan, steps_of_plan}
+use Rattle.act_rules.proofs.Planned.{actors_of-actor_spec}
 
 -- ---- the first refused step stands in its plan
 
@@ -46,15 +47,6 @@ callers_same : (roles : List Role) → callers_cast (map actor_spec_of roles) �
 callers_same roles = filter_agree (λ c. list_any (λ (cast : ActorSpec). contains c cast.callers) (map actor_spec_of roles))
     (λ c. list_any (λ (role : Role). contains c role.callers) roles) (λ c. any_cast c roles) (one_to 16)
 
-actors_step : (c : ℕ) (role : Role) (roles : List Role) (b : Bool) → contains c role.callers ≡ b →
-    actors_naming c (map actor_spec_of roles) ≡ actors_of_roles c roles → actors_naming c (map actor_spec_of (role ∷ roles)) ≡ actors_of_roles c (role ∷ roles)
-actors_step c role roles true is same = rw is (ap (λ rest. role.actor ∷ rest) same)
-actors_step c role roles false is same = rw is same
-
-actors_same : (c : ℕ) (roles : List Role) → actors_naming c (map actor_spec_of roles) ≡ actors_of_roles c roles
-actors_same c [] = refl
-actors_same c (role ∷ roles) = actors_step c role roles (contains c role.callers) refl (actors_same c roles)
-
 -- a caller and what it plans
 abbrev pair_of : (ℕ → List Step) → ℕ → ℕ × List Step
 pair_of steps c = (c, steps c)
@@ -91,7 +83,7 @@ line_at script c place = option_map (λ (s : ℕ × Step × ℕ). s.2) (slice_ge
 bad_same : (script : Script) (c : ℕ) → contains c (callers_of_roles script.roles) ≡ true →
     bad_step_of (map actor_spec_of script.roles) (plans_in script) c ≡ with_caller c (bad_place script c)
 bad_same script c has =
-    ap (λ actors. with_caller c (first_bad actors (plan_among c (plans_in script)))) (actors_same c script.roles)
+    ap (λ actors. with_caller c (first_bad actors (plan_among c (plans_in script)))) (sym (actors_of-actor_spec c script.roles))
     ∙ ap (λ steps. with_caller c (first_bad (actors_of_roles c script.roles) steps)) (plan_found script c has)
 
 -- all callers in a row

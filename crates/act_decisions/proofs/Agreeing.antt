@@ -1,21 +1,21 @@
 -- Lines that agree with stems, one after the other.
 use Rattle.act_decisions.proofs.Common.{◌≡◌, ℕ, suc, ◌+◌, ◌<◌, ◌≤◌, ◌==◌, Bool, true, false, List, [], ◌∷◌, ◌++◌, length, map, take, inl, inr, Some, Option}
 use Rattle.act_decisions.proofs.Common.{refl, sym, ap, ◌∙◌, subst, arith, append_assoc, append-nil, All, filter, flat_map, flat_map-append, if◌then◌else◌}
-use Rattle.act_decisions.proofs.Common.{eqb-true, get_or, is_skipped, lines_in, map-append, take_more, ◌≢◌, Bor, IfSome, None, not, add-one, codes, AllZip}
+use Rattle.act_decisions.proofs.Common.{get_or, is_skipped, lines_in, map-append, take_more, ◌≢◌, Bor, IfSome, None, not, add-one, codes, AllZip}
 use Rattle.act_decisions.proofs.Common.{length-map, length-take-le, take_all, All-cons, All-head, All-nil, All-tail, filter-append, slice_split_none}
 use Rattle.act_decisions.proofs.Common.{slice_split_at, space, with_spaces, settled_text, Settled, one_to, Stem, End, OfEnd, OfRun, IsReply, Agrees, placed}
-use Rattle.act_decisions.proofs.Common.{stems_of_actor, of_role, lines_told, AgreeUpTo}
+use Rattle.act_decisions.proofs.Common.{stems_of_actor, of_role, lines_told, AgreeUpTo, ne_eqb}
 use Rattle.act_decisions.proofs.Exact.{IsOfOneLine, IsCut}
 
 -- ---- the lines of a text
 
+-- the first byte of one line ends none
+pub other_byte : (b : ℕ) (line : List ℕ) → IsOfOneLine (b ∷ line) → (b == 10) ≡ false
+other_byte b line plain = ne_eqb b 10 (All-head (λ b. b ≢ 10) b line plain)
+
 other_bytes : (text : List ℕ) → IsOfOneLine text → All (λ b. (b == 10) ≡ false) text
 other_bytes [] plain = All-nil (λ b. (b == 10) ≡ false)
-other_bytes (b ∷ text) plain = All-cons (λ b. (b == 10) ≡ false) b text (other (b == 10) refl) (other_bytes text (All-tail (λ b. b ≢ 10) b text plain))
-  where
-    other : (is : Bool) → (b == 10) ≡ is → (b == 10) ≡ false
-    other false e = e
-    other true e = absurd (All-head (λ b. b ≢ 10) b text plain (eqb-true b 10 e))
+other_bytes (b ∷ text) plain = All-cons (λ b. (b == 10) ≡ false) b text (other_byte b text plain) (other_bytes text (All-tail (λ b. b ≢ 10) b text plain))
 
 -- the first line, and those below it
 cut_lines : (text first left : List ℕ) → IsOfOneLine first → IsCut text first left → lines_told text ≡ lines_told first ++ lines_told left

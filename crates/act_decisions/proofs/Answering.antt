@@ -1,10 +1,11 @@
 -- What an actor answers, one call after the other.
-use Rattle.act_decisions.proofs.Common.{◌≡◌, ℕ, zero, suc, ◌+◌, ◌<◌, ◌≤◌, ◌==◌, ◌⊎◌, inl, inr, List, [], ◌∷◌, ◌++◌, length, map, take, get_or, slice_get}
+use Rattle.act_decisions.proofs.Common.{◌≡◌, ℕ, ◌+◌, ◌<◌, ◌≤◌, ◌==◌, ◌⊎◌, inl, inr, List, [], ◌∷◌, ◌++◌, length, map, take, get_or, slice_get}
 use Rattle.act_decisions.proofs.Common.{Option, Some, None, option_map, refl, sym, ap, ◌∙◌, take_more, take_all, map-append, ActorSpec, actor_spec_of, Role}
-use Rattle.act_decisions.proofs.Common.{ToldEnd, find, option_and_then, length-append, same_Some, Answer, after_item, answer_at, answers_from, state_after}
+use Rattle.act_decisions.proofs.Common.{ToldEnd, find, option_and_then, length-append, Answer, after_item, answer_at, answers_from, state_after}
 use Rattle.act_decisions.proofs.Common.{opening_state, find-map, answers_from-append, ToldRun, rans_in, Answered, AreAnswers, item_told, answer_told}
 use Rattle.act_types.specs.KindState.{KindState}
 use Rattle.act_rules.proofs.RunLists.{state_after-push}
+use Rattle.act_lists.proofs.Lists.{slice_get_pushed}
 
 -- the answers to the calls so far, and the state after them
 pub record AreSoFar (start : KindState) (runs : List ToldRun) (i : ℕ) (answers : List Answer) (now : KindState) : Type 0 where
@@ -68,16 +69,6 @@ told_by_some roles end a p {role} is same are =
 
 -- ---- of all actors
 
-at_push : {X : Type 0} (xs : List X) (x y : X) (i : ℕ) → slice_get (xs ++ x ∷ []) i ≡ Some y → (slice_get xs i ≡ Some y) ⊎ ((i ≡ length xs) × (x ≡ y))
-at_push [] x y zero e = inr (refl, same_Some x y e)
-at_push [] x y (suc i) e = cc
-at_push (z ∷ xs) x y zero e = inl e
-at_push (z ∷ xs) x y (suc i) e = go (at_push xs x y i e)
-  where
-    go : (slice_get xs i ≡ Some y) ⊎ ((i ≡ length xs) × (x ≡ y)) → (slice_get xs i ≡ Some y) ⊎ ((suc i ≡ length (z ∷ xs)) × (x ≡ y))
-    go (inl e) = inl e
-    go (inr (here, same)) = inr (ap suc here, same)
-
 -- those of the actors so far
 pub record AreAnswersTo (casts : List ActorSpec) (end : ToldEnd) (n : ℕ) (all : List Answered) : Type 0 where
   pub long : length all ≡ n
@@ -87,7 +78,7 @@ pub one_actor : (casts : List ActorSpec) (end : ToldEnd) (n : ℕ) (all new : Li
     new ≡ all ++ told ∷ [] → ((p : ℕ) → slice_get told.answers.items p ≡ answer_told casts end n p) → AreAnswersTo casts end (n + 1) new
 one_actor casts end n all new told so_far is own = record {
   long = ap (λ l. length l) is ∙ length-append all (told ∷ []) ∙ ap (λ m. m + 1) so_far.long;
-  are = λ a other at p. go a other p (at_push all told other a (ap (λ l. slice_get l a) (sym is) ∙ at));
+  are = λ a other at p. go a other p (slice_get_pushed all told a (ap (λ l. slice_get l a) (sym is) ∙ at));
 }
   where
     go : (a : ℕ) (other : Answered) (p : ℕ) → (slice_get all a ≡ Some other) ⊎ ((a ≡ length all) × (told ≡ other))

@@ -6,6 +6,7 @@ use Rattle.act_decisions.proofs.Common.{call_at, numbered_call, call_of, calls_o
 use Rattle.act_decisions.proofs.Common.{take-append_seam, get_or-take, length-append, length-take, length-take-le, take-append-drop, slice_get_within}
 use Rattle.act_rules.specs.declared.script.Step.TheVariants as step
 use Rattle.act_compare.proofs.Calls.{given, given_back}
+use Rattle.std.proofs.lemmas.List.{nil_from_length}
 
 -- ---- one item more of which something holds
 
@@ -122,11 +123,7 @@ pub submits_none : (c : ℕ) (steps : List (ℕ × Step × ℕ)) {i : ℕ} {s : 
 submits_none c steps {i} {s} within is none =
     let front = calls_of_steps c (take i steps) in let more = calls_of_steps c (drop (i + 1) steps) in
     let empty : length ((front ++ call_of c s) ++ more) ≡ 0 = ap length (sym (calls_around c steps i s within is) ∙ none) in
-    let one = length-append (front ++ call_of c s) more in let two = length-append front (call_of c s) in is_empty (call_of c s) (omega arith)
-  where
-    is_empty : (xs : List Submission) → length xs ≡ 0 → xs ≡ []
-    is_empty [] e = refl
-    is_empty (x ∷ xs) e = absurd (omega arith)
+    let one = length-append (front ++ call_of c s) more in let two = length-append front (call_of c s) in nil_from_length (call_of c s) (omega arith)
 
 -- where the caller has the calls that steps tell, it has those of one step more
 pub begins_more : (c : ℕ) (steps : List (ℕ × Step × ℕ)) {i told : ℕ} {s : ℕ × Step × ℕ} {calls : List Submission} → i < length steps → s ≡ get_or steps i s

@@ -18,11 +18,12 @@ pub use Rattle.act_early.proofs.Common.{ActorDied, Contains, Err, History, IsSou
 pub use Rattle.act_early.proofs.Common.{is_reply, is_retired, is_some, kept_at, kept_of, names, next_item, opening_of, run_needs, runs_of, settle, under-push}
 pub use Rattle.act_early.proofs.Common.{◌&&◌}
 pub use Rattle.act_early.proofs.Replies.{reply_alive, reply_died, reply_some}
-pub use Rattle.act_early.proofs.Worlds.{contains_push, not_so, retire_needs, take_needs}
-pub use Rattle.act_lists.proofs.Lists.{place_in, stands_in}
+pub use Rattle.act_early.proofs.Worlds.{not_so, retire_needs, take_needs}
+pub use Rattle.act_lists.proofs.Lists.{element, map_none, place_in, stands_in}
 pub use Rattle.act_owner.specs.Owner.{call_at, numbered_call}
 pub use Rattle.act_owner.specs.declared.owner.Call.{Call}
 pub use Rattle.act_rules.proofs.Common.{and_parts, is_actor_number, is_caller_number, nat_le}
+pub use Rattle.act_rules.proofs.Ended.{contains_push}
 pub use Rattle.act_rules.proofs.Kept.{answers_from-append, kept_at_is, kept_by, length-answers_from}
 pub use Rattle.act_rules.proofs.Lists.{AllPairs-map, All_at, find-map, length-filter_least}
 pub use Rattle.act_rules.proofs.Sound.{answers_are, consistent, deaths_are}

@@ -1,16 +1,13 @@
 -- What was read, looked up by number, beside the roles of a script.
 use Rattle.act_decisions.proofs.Common.{◌≡◌, ℕ, ◌+◌, ◌<◌, ◌≤◌, ◌==◌, ◌⊎◌, inl, inr, Bool, true, false, List, [], length, map, filter, get_or, Option, Some}
-use Rattle.act_decisions.proofs.Common.{None, leb, leb-true, leb-false, refl, sym, ap, ◌∙◌, subst, arith, option_map, slice_get, slice_get-get_or, ActorSpec}
+use Rattle.act_decisions.proofs.Common.{None, leb, leb-true, leb-false, refl, sym, ap, ◌∙◌, subst, arith, option_map, slice_get, ActorSpec}
 use Rattle.act_decisions.proofs.Common.{actor_spec_of, Role, ToldEnd, ◌≢◌, AllPairs, find, cases_lt, actors_naming, callers_in, contains, AllPairs-map}
 use Rattle.act_decisions.proofs.Common.{find-map, AreFitting, ToldActor, ToldRun, callers_of, rans_in, option_map_or, same_Some, slice_get_past}
 use Rattle.act_decisions.proofs.Common.{slice_get_within}
 use Rattle.std.proofs.lemmas.List.Kept.{AllPairs-filter}
+use Rattle.act_lists.proofs.Lists.{item_at}
 
 -- ---- places
-
--- the item at a place
-pub item_at : {X : Type 0} (xs : List X) (n : ℕ) (x : X) → n < length xs → x ≡ get_or xs n x → slice_get xs n ≡ Some x
-item_at {X = X} xs n x within is = slice_get-get_or xs n x within ∙ ap (λ y. Some y) (sym is)
 
 -- what holds below a place, and there
 pub below_more : (P : ℕ → Type 0) (n : ℕ) → ((i : ℕ) → i < n → P i) → P n → (i : ℕ) → i < n + 1 → P i

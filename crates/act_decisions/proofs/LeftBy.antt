@@ -3,13 +3,23 @@ use Rattle.act_decisions.proofs.Common.{◌≡◌, ◌≢◌, ℕ, ◌≤◌, �
 use Rattle.act_decisions.proofs.Common.{refl, ap, sym, ◌∙◌, subst, slice_get, is_some, Event, RunItem, Submission, Answer, Err, ActorDied, kept_at, under-push}
 use Rattle.act_decisions.proofs.Common.{eqb-true, ActorSpec, History, opening, history, calls_of, runs_of, kept_of, cast_of, is_dead, is_retired, is_reply}
 use Rattle.act_decisions.proofs.Common.{option_map, option_and_then, contains, names, next_item, after_run, has_terminated, run_needs, take_needs, retire_needs}
-use Rattle.act_decisions.proofs.Common.{contains_push, reply_died, IsKept, after_all_keeps, slice_get-map, AllZip, option_map_or, Left, ToldActor, ToldCall}
+use Rattle.act_decisions.proofs.Common.{contains_push, IsKept, after_all_keeps, slice_get-map, AllZip, option_map_or, Left, ToldActor, ToldCall}
 use Rattle.act_decisions.proofs.Common.{ToldCaller, ToldEnd, ToldRun, caller_in, calls_in, bound_of, actor_in, callers_of, rans_in, is_dead_in, is_retired_in}
 use Rattle.act_decisions.proofs.Common.{FitsLeft, IsCallIn, IsRunIn, AllDecided, IsKeptSo, IsRanSo, IsActorSo, FitHistory, kept_told, call_told, calls_told}
-use Rattle.act_decisions.proofs.Common.{ran_told, of_role, end_told, ends_told, IsLeftBy, IsSameRun, TellsLeft, IsOfNumbers}
+use Rattle.act_decisions.proofs.Common.{ran_told, of_role, end_told, ends_told, IsLeftBy, IsSameRun, TellsLeft, IsOfNumbers, of_caller}
 use Rattle.act_rules.specs.declared.event.Event.TheVariants as event
 use Rattle.act_walks.specs.declared.told.Left.TheVariants as left
 use Rattle.act_summaries.specs.Stems.{Call}
+use Rattle.act_told_ends.proofs.Posted.{is_alive}
+
+-- a caller that has a call is one of the data
+pub own_caller : (end : ToldEnd) (c k : ℕ) (call : ToldCall) → IsCallIn end c k call → (caller : ToldCaller) × (caller_in end c ≡ Some caller)
+    × (slice_get caller.calls.items k ≡ Some call)
+own_caller end c k call at = go (caller_in end c) refl
+  where
+    go : (o : Option ToldCaller) → caller_in end c ≡ o → (caller : ToldCaller) × (caller_in end c ≡ Some caller) × (slice_get caller.calls.items k ≡ Some call)
+    go None none = let empty : slice_get (calls_in end c) k ≡ None = rw none refl in let bad : None ≡ Some call = sym empty ∙ at in cc
+    go (Some caller) there = (caller, there, ap (λ l. slice_get l k) (sym (of_caller end c caller there)) ∙ at)
 
 -- ---- where no actor is, nothing ran or ended
 
@@ -88,11 +98,7 @@ uncast casts events a none =
 
 reply_is : (o : Option Answer) → is_some o ≡ true → o ≢ Some (Err ActorDied) → is_reply o ≡ true
 reply_is None some alive = cc
-reply_is (Some answer) some alive = go (is_reply (Some answer)) refl
-  where
-    go : (b : Bool) → is_reply (Some answer) ≡ b → is_reply (Some answer) ≡ true
-    go true e = e
-    go false e = absurd (alive (ap (λ a. Some a) (reply_died answer e)))
+reply_is (Some answer) some alive = is_alive answer (λ died. alive (ap (λ a. Some a) died))
 
 -- so much is kept
 left_is : (l : Left) (o : Option Answer) → IsKeptSo (kept_told l false) o → FitsLeft l o
@@ -208,20 +214,11 @@ module _ (end : ToldEnd) (casts : List ActorSpec) (events : List Event) (within 
       actor : (a : ℕ) → ActorTold end a here
       actor a = actor_told a (none a) (so.ended a)
 
-      own_caller : (c k : ℕ) (call : ToldCall) → IsCallIn end c k call → (caller : ToldCaller) × (caller_in end c ≡ Some caller)
-          × (slice_get caller.calls.items k ≡ Some call)
-      own_caller c k call at = go (caller_in end c) refl
-        where
-          go : (o : Option ToldCaller) → caller_in end c ≡ o → (caller : ToldCaller) × (caller_in end c ≡ Some caller)
-              × (slice_get caller.calls.items k ≡ Some call)
-          go None empty = let past : slice_get (calls_in end c) k ≡ None = rw empty refl in let bad : None ≡ Some call = sym past ∙ at in cc
-          go (Some caller) there = (caller, there, ap (λ l. slice_get l k) (sym (rw there refl)) ∙ at)
-
       left : (c k : ℕ) (call : ToldCall) → IsCallIn end c k call → TellsLeft call (kept_at (kept_of c here) k)
       left c k call at = go (within.callers c)
         where
           own : (caller : ToldCaller) × (caller_in end c ≡ Some caller) × (slice_get caller.calls.items k ≡ Some call)
-          own = own_caller c k call at
+          own = own_caller end c k call at
 
           go : (1 ≤ c) × (c ≤ 16) ⊎ (calls_in end c ≡ []) × (bound_of end c ≡ None) → TellsLeft call (kept_at (kept_of c here) k)
           go (inr (empty, free)) = let past : slice_get (calls_in end c) k ≡ None = ap (λ l. slice_get l k) empty in

@@ -4,18 +4,8 @@ use Rattle.act_decisions.proofs.Common.{arith, ◌⊎◌, inl, inr, AllZip, flat
 use Rattle.act_decisions.proofs.Common.{End, Stem, OfCall, Any, placed, stems_of, stems_of_actor, Agrees, AgreesKept, AreAgreed, IsLeftOpen, open_line}
 use Rattle.act_decisions.proofs.Common.{stands_in}
 use Rattle.act_rules.proofs.AsSubmitted.{filter-slice_get}
+use Rattle.act_rules.proofs.Elements.{IsIn, in_behind, in_front}
 use Rattle.act_summaries.specs.Stems.{Call}
-use Rattle.act_summaries.proofs.Filling.{Stands}
-
--- the element stands at some place
-front : {A : Type 0} (xs ys : List A) (x : A) → Stands xs x → Stands (xs ++ ys) x
-front [] ys x (i, e) = cc
-front (y ∷ xs) ys x (zero, e) = (zero, e)
-front (y ∷ xs) ys x (suc i, e) = let more = front xs ys x (i, e) in (suc more.0, more.1)
-
-back : {A : Type 0} (xs ys : List A) (x : A) → Stands ys x → Stands (xs ++ ys) x
-back [] ys x at = at
-back (y ∷ xs) ys x at = let more = back xs ys x at in (suc more.0, more.1)
 
 last_or_before : (c n : ℕ) → c ≤ suc n → (c ≤ n) ⊎ (c ≡ suc n)
 last_or_before zero n below = inl (omega arith)
@@ -26,23 +16,24 @@ last_or_before (suc c) (suc n) below = go (last_or_before c n (omega (arith, bel
     go (inl e) = inl (omega (arith, e))
     go (inr e) = inr (ap suc e)
 
-of_number : {A : Type 0} (f : ℕ → List A) (n c : ℕ) {x : A} → 1 ≤ c → c ≤ n → Stands (f c) x → Stands (flat_map f (one_to n)) x
+of_number : {A : Type 0} (f : ℕ → List A) (n c : ℕ) {x : A} → 1 ≤ c → c ≤ n → IsIn (f c) x → IsIn (flat_map f (one_to n)) x
 of_number f zero c some few at = absurd (omega (arith, some, few))
 of_number {A = A} f (suc n) c {x} some few at =
-    subst (λ l. Stands l x) (sym (flat_map-append f (one_to n) (suc n ∷ []))) (go (λ e. of_number f n c some e at) (last_or_before c n few))
+    subst (λ l. IsIn l x) (sym (flat_map-append f (one_to n) (suc n ∷ []))) (go (λ e. of_number f n c some e at) (last_or_before c n few))
   where
-    go : (c ≤ n → Stands (flat_map f (one_to n)) x) → (c ≤ n) ⊎ (c ≡ suc n) → Stands (flat_map f (one_to n) ++ flat_map f (suc n ∷ [])) x
-    go before (inl e) = front (flat_map f (one_to n)) (flat_map f (suc n ∷ [])) x (before e)
-    go before (inr e) = back (flat_map f (one_to n)) (flat_map f (suc n ∷ [])) x (front (f (suc n)) [] x (subst (λ m. Stands (f m) x) e at))
+    go : (c ≤ n → IsIn (flat_map f (one_to n)) x) → (c ≤ n) ⊎ (c ≡ suc n) → IsIn (flat_map f (one_to n) ++ flat_map f (suc n ∷ [])) x
+    go before (inl e) = in_front (flat_map f (one_to n) ++ flat_map f (suc n ∷ [])) (flat_map f (suc n ∷ []), refl) (before e)
+    go before (inr e) = in_behind (flat_map f (one_to n)) (flat_map f (suc n ∷ [])) (in_front (f (suc n) ++ []) ([], refl) (subst (λ m. IsIn (f m) x) e at))
 
 put : {X : Type 0} (stem_of : ℕ → X → Stem) (place : ℕ) (xs : List X) (k : ℕ) (x : X) → slice_get xs k ≡ Some x
-    → Stands (placed stem_of place xs) (stem_of (place + k) x)
+    → IsIn (placed stem_of place xs) (stem_of (place + k) x)
 put stem_of place [] k x e = cc
 put stem_of place (y ∷ xs) zero x e =
-    let same : place ≡ place + 0 = omega arith in let is : y ≡ x = cc in (zero, ap (λ s. Some s) (ap (stem_of place) is ∙ ap (λ n. stem_of n x) same))
+    let same : place ≡ place + 0 = omega arith in let is : y ≡ x = cc in
+    record { place = zero; at = ap (λ s. Some s) (ap (stem_of place) is ∙ ap (λ n. stem_of n x) same) }
 put stem_of place (y ∷ xs) (suc k) x e =
     let same : (place + 1) + k ≡ place + suc k = omega arith in let more = put stem_of (place + 1) xs k x e in
-    (suc more.0, more.1 ∙ ap (λ n. Some (stem_of n x)) same)
+    record { place = suc more.place; at = more.at ∙ ap (λ n. Some (stem_of n x)) same }
 
 beside : {A B : Type 0} (R : A → B → Type 0) (xs : List A) (ys : List B) (i : ℕ) (x : A) → AllZip R xs ys → slice_get xs i ≡ Some x → (y : B)
     × (slice_get ys i ≡ Some y) × R x y
@@ -54,19 +45,19 @@ beside R (x ∷ xs) (y ∷ ys) (suc i) z all e = beside R xs ys i z all.1 e
 pub left_open : (calls : ℕ → List Call) (ends : ℕ → Option End) (bytes : List ℕ) (c k : ℕ) {call : Call} → AreAgreed (stems_of calls ends) bytes → 1 ≤ c →
     c ≤ 16 → slice_get (calls c) k ≡ Some call → call.kept ≡ Any → IsLeftOpen bytes c k
 left_open calls ends bytes c k {call} agreed some few at any =
-    let there = filter-slice_get (λ line. not (is_skipped line)) (lines_in bytes) stem.0 line.1 in
+    let there = filter-slice_get (λ line. not (is_skipped line)) (lines_in bytes) stem.place line.1 in
     (call.actor, stands_in (lines_in bytes) there.place (there.at ∙ ap (λ l. Some l) line_is))
   where
     same : 0 + k ≡ k
     same = omega arith
 
-    stem : Stands (stems_of calls ends) (OfCall c k call)
-    stem = subst (λ n. Stands (stems_of calls ends) (OfCall c n call)) same
-        (front (flat_map (λ c. placed (OfCall c) 0 (calls c)) (one_to 16)) (flat_map (λ a. stems_of_actor a (ends a)) (one_to 8)) (OfCall c (0 + k) call)
+    stem : IsIn (stems_of calls ends) (OfCall c k call)
+    stem = subst (λ n. IsIn (stems_of calls ends) (OfCall c n call)) same
+        (in_front (stems_of calls ends) (flat_map (λ a. stems_of_actor a (ends a)) (one_to 8), refl)
         (of_number (λ c. placed (OfCall c) 0 (calls c)) 16 c some few (put (OfCall c) 0 (calls c) k call at)))
 
-    line : (line : List ℕ) × (slice_get (filter (λ line. not (is_skipped line)) (lines_in bytes)) stem.0 ≡ Some line) × Agrees (OfCall c k call) line
-    line = beside Agrees (stems_of calls ends) (filter (λ line. not (is_skipped line)) (lines_in bytes)) stem.0 (OfCall c k call) agreed stem.1
+    line : (line : List ℕ) × (slice_get (filter (λ line. not (is_skipped line)) (lines_in bytes)) stem.place ≡ Some line) × Agrees (OfCall c k call) line
+    line = beside Agrees (stems_of calls ends) (filter (λ line. not (is_skipped line)) (lines_in bytes)) stem.place (OfCall c k call) agreed stem.at
 
     line_is : line.0 ≡ open_line c k call.actor
     line_is = subst (λ kept. AgreesKept kept (future_text c k ++ space ++ actor_text call.actor) line.0) any line.2.1

@@ -20,6 +20,7 @@ use Rattle.act_decisions.proofs.LeftOpen.{left_open}
 use Rattle.act_decisions.proofs.SaidCalls.{data_calls}
 use Rattle.act_decisions.proofs.SaidAnswers.{kept_may_stand, both_true, is_wanted}
 use Rattle.act_decisions.proofs.SaidEnds.{as_told, said, kept_said, some_end}
+use Rattle.std.proofs.lemmas.Simd.{map-map}
 
 module _ (roles : List Role) (steps : List (ℕ × Step × ℕ)) (rest : List ℕ) (end : ToldEnd) (events : List Event)
     (said_roles : IsTrue (list_all is_sayable_role roles)) (sayable : AreSayable events)
@@ -109,11 +110,8 @@ module _ (roles : List Role) (steps : List (ℕ × Step × ℕ)) (rest : List �
     done = decides told_so ends.0 ends.1
 
     same_actors : (c : ℕ) → map (λ (call : Submission). call.actor) (calls_of c come) ≡ map (λ (call : Submission). call.actor) (calls_of c left_now)
-    same_actors c = ap (map (λ (call : Submission). call.actor)) (done.0.calls c) ∙ subs (calls_in end c) ∙ fits.calls c
-      where
-        subs : (xs : List ToldCall) → map (λ (call : Submission). call.actor) (map submission_of_call xs) ≡ map (λ (call : ToldCall). call.actor) xs
-        subs [] = refl
-        subs (x ∷ xs) = ap (λ l. x.actor ∷ l) (subs xs)
+    same_actors c = ap (map (λ (call : Submission). call.actor)) (done.0.calls c)
+        ∙ map-map (λ (call : Submission). call.actor) submission_of_call (calls_in end c) ∙ fits.calls c
 
     -- the answer is the same, or it is left_now open, and the events left_now a death
     answer : (c k : ℕ) → (kept_for c k come ≡ kept_for c k left_now) ⊎ (IsLeftOpen rest c k × KeepsDeath c k left_now × (is_some (kept_for c k come) ≡ true))

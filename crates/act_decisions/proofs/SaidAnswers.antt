@@ -1,20 +1,22 @@
 -- The answers that the data takes for those left open may stand for these.
 use Rattle.act_decisions.proofs.Common.{◌≡◌, ℕ, ◌<◌, ◌≤◌, ◌==◌, ◌&&◌, Bool, true, false, cond, List, [], length, map, Option, Some, None, inl, inr, ◌⊎◌, refl}
-use Rattle.act_decisions.proofs.Common.{ap, sym, ◌∙◌, subst, arith, slice_get, is_some, not, slice_get_within, RunItem, Submission, Step, Answer, Err, Ok}
+use Rattle.act_decisions.proofs.Common.{ap, sym, ◌∙◌, subst, arith, slice_get, is_some, slice_get_within, RunItem, Submission, Step, Answer, Err, Ok}
 use Rattle.act_decisions.proofs.Common.{ActorDied, kept_at, ActorSpec, History, opening, calls_of, runs_of, kept_of, opening_of, cast_of, is_dead, is_reply}
-use Rattle.act_decisions.proofs.Common.{option_map, option_and_then, answer_at, settle, Contains, IsSound, find, zero, suc, ◌∷◌, map-slice_get}
-use Rattle.act_decisions.proofs.Common.{length-answers_from, consistent, deaths_are, All_at, answer_of, answers_from, reply_died, Arg, Good, Bad, slice_get-map}
-use Rattle.act_decisions.proofs.Common.{told_of, with_calls, IsReplyForDeath, MayStandForKept, Left, ToldCall, ToldCaller, ToldEnd, caller_in, calls_in}
-use Rattle.act_decisions.proofs.Common.{is_dead_in, of_caller, HasCalls, AllFitSteps, IsCallIn, RunsArePlaced, StandsThere, IsDecided, AllDecided}
-use Rattle.act_decisions.proofs.Common.{NoValueIsLost, TookFailure, answer_told, IsLeftBy, place_in}
+use Rattle.act_decisions.proofs.Common.{option_map, option_and_then, answer_at, settle, Contains, IsSound, find, map-slice_get, length-answers_from, consistent}
+use Rattle.act_decisions.proofs.Common.{deaths_are, All_at, answer_of, answers_from, reply_died, Arg, Good, Bad, slice_get-map, told_of, with_calls}
+use Rattle.act_decisions.proofs.Common.{IsReplyForDeath, MayStandForKept, Left, ToldCall, ToldCaller, ToldEnd, caller_in, calls_in, is_dead_in}
+use Rattle.act_decisions.proofs.Common.{HasCalls, AllFitSteps, IsCallIn, RunsArePlaced, StandsThere, IsDecided, AllDecided, NoValueIsLost, TookFailure}
+use Rattle.act_decisions.proofs.Common.{answer_told, IsLeftBy, place_in, element}
 use Rattle.act_rules.specs.Consistent.{IsAsSubmitted}
 use Rattle.act_rules.specs.Submissions.{settled_future}
 use Rattle.act_types.specs.declared.call.Arg.TheVariants.{Plain, Fut}
 use Rattle.act_types.specs.declared.call.Value.{Value}
 use Rattle.act_walks.specs.declared.told.Left.TheVariants as left
+use Rattle.act_decisions.proofs.LeftBy.{own_caller}
 use Rattle.act_decisions.proofs.SaidRuns.{item_of_said, said_of_item, said_answer}
 use Rattle.act_decisions.proofs.SaidCalls.{data_calls, ran_item}
 use Rattle.act_decisions.proofs.Chosen.{wants_reply, is_death, reply_there, chosen, chosen_all, chosen_length, chosen_at, chosen_past}
+use Rattle.std.proofs.lemmas.Bool.{not-true}
 
 -- ---- lists
 
@@ -38,11 +40,7 @@ no_failure kept args k value is has =
 
 died : (o : Option Answer) → is_death o ≡ true → o ≡ Some (Err ActorDied)
 died None e = cc
-died (Some answer) e = ap (λ a. Some a) (reply_died answer (alive (is_reply (Some answer)) e))
-  where
-    alive : (b : Bool) → not b ≡ true → b ≡ false
-    alive true e = cc
-    alive false e = refl
+died (Some answer) e = ap (λ a. Some a) (reply_died answer (not-true (is_reply (Some answer)) e))
 
 pub both_true : (x y : Bool) → (x && y) ≡ true → (x ≡ true) × (y ≡ true)
 both_true true true e = (refl, refl)
@@ -61,19 +59,9 @@ module _ (end : ToldEnd) (steps : List (ℕ × Step × ℕ)) (casts : List Actor
   abbrev pub data_kept : ℕ → List (Option Answer)
   data_kept c = chosen_all h (calls_in end c) (kept_of c h)
 
-  -- a caller that has a call is one of the data
-  own_caller : (c k : ℕ) (call : ToldCall) → IsCallIn end c k call → (caller : ToldCaller) × (caller_in end c ≡ Some caller)
-      × (slice_get caller.calls.items k ≡ Some call)
-  own_caller c k call at = go (caller_in end c) refl
-    where
-      go : (o : Option ToldCaller) → caller_in end c ≡ o → (caller : ToldCaller) × (caller_in end c ≡ Some caller)
-          × (slice_get caller.calls.items k ≡ Some call)
-      go None none = let empty : slice_get (calls_in end c) k ≡ None = rw none refl in let bad : None ≡ Some call = sym empty ∙ at in cc
-      go (Some caller) there = (caller, there, ap (λ l. slice_get l k) (sym (of_caller end c caller there)) ∙ at)
-
   pub decides : (c k : ℕ) (call : ToldCall) → IsCallIn end c k call → (caller : ToldCaller) × (caller_in end c ≡ Some caller) ×
       (slice_get caller.calls.items k ≡ Some call) × StandsThere end c k call × IsDecided casts end c k caller call
-  decides c k call at = let own = own_caller c k call at in let is = decided c k own.0 call own.1 own.2 in (own.0, own.1, own.2, is.0, is.1)
+  decides c k call at = let own = own_caller end c k call at in let is = decided c k own.0 call own.1 own.2 in (own.0, own.1, own.2, is.0, is.1)
 
   -- a call whose answer is a value was taken as a failure by none that ran
   pub not_failed : (c k : ℕ) (value : Value) → kept_at (kept_of c h) k ≡ Some (Ok value) → TookFailure end c k → ⊥
@@ -101,13 +89,8 @@ module _ (end : ToldEnd) (steps : List (ℕ × Step × ℕ)) (casts : List Actor
           let long : length (answers_from one.opening (runs_of a h)) ≡ length (runs_of a h) = length-answers_from one.opening (runs_of a h) in
           let within : p < length (runs_of a h) = slice_get_within (runs_of a h) p item ran in
           let inside : p < length (answers_from one.opening (runs_of a h)) = omega (arith, long, within) in
-          let at = there (answers_from one.opening (runs_of a h)) p inside in
+          let at = element (answers_from one.opening (runs_of a h)) p inside in
           (at.0, ap (option_and_then (λ state. answer_at state (runs_of a h) p)) state ∙ at.1)
-        where
-          there : (xs : List Answer) (i : ℕ) → i < length xs → (x : Answer) × (slice_get xs i ≡ Some x)
-          there [] i below = absurd (omega (arith, below))
-          there (x ∷ xs) zero below = (x, refl)
-          there (x ∷ xs) (suc i) below = there xs i (omega (arith, below))
 
   -- what is told of it is what the actor answered
   pub told_is : (a p : ℕ) → answer_told casts end a p ≡ answer_of a p h

@@ -3,8 +3,9 @@ use Rattle.act_decisions.proofs.Common.{◌≡◌, ℕ, ◌≤◌, Bool, true, f
 use Rattle.act_decisions.proofs.Common.{slice_get, RunItem, Submission, Step, ActorSpec, History, calls_of, runs_of, told_of, arg_as_run, IsAsRun, Ran}
 use Rattle.act_decisions.proofs.Common.{StandFor, MayStandFor, ToldCall, ToldCaller, ToldEnd, caller_in, calls_in, bound_of, call_of_item, submission_of_call}
 use Rattle.act_decisions.proofs.Common.{bound_is, of_caller, map-slice_get, calls_of_steps, HasCalls, awaits, steps_of_caller, AllFitSteps, FitsSteps, IsCallIn}
-use Rattle.act_decisions.proofs.Common.{RunsArePlaced, StandsThere, IsDecided, AllDecided, IsLeftBy}
+use Rattle.act_decisions.proofs.Common.{RunsArePlaced, StandsThere, IsDecided, AllDecided, IsLeftBy, map_none}
 use Rattle.act_decisions.proofs.SaidRuns.{same_call, item_of_said, said_of_item}
+use Rattle.std.proofs.lemmas.Simd.{map-map}
 
 -- ---- the calls
 
@@ -23,10 +24,6 @@ pub ran_item : (end : ToldEnd) (h : History) (a p c k : ℕ) (call : ToldCall) �
 ran_item end h a p c k call fits stands at =
     let run = stands a p at in let item = item_of_said end h fits a p run.0 run.1 in (item.0, item.1, sym (same_call run.0 item.0 item.2) ∙ run.2)
 
-none_mapped : {A B : Type 0} (f : A → B) (xs : List A) → map f xs ≡ [] → xs ≡ []
-none_mapped f [] e = refl
-none_mapped f (x ∷ xs) e = cc
-
 -- what the data says of a caller's calls is the history's, or may stand for it
 module _ (end : ToldEnd) (steps : List (ℕ × Step × ℕ)) (h : History) (fits : IsLeftBy end h) (lines : AllFitSteps end steps)
     {casts : List ActorSpec} (placed : RunsArePlaced end) (decided : AllDecided casts end) (numbered : (c : ℕ) → (1 ≤ c) × (c ≤ 16) ⊎ (calls_of c h ≡ []))
@@ -35,19 +32,15 @@ module _ (end : ToldEnd) (steps : List (ℕ × Step × ℕ)) (h : History) (fits
   pub none_there : (c : ℕ) → calls_of c h ≡ [] → data_calls end c ≡ calls_of c h
   none_there c none =
       ap (map submission_of_call)
-      (none_mapped (λ (call : ToldCall). call.actor) (calls_in end c) (fits.calls c ∙ ap (map (λ (call : Submission). call.actor)) none)) ∙ sym none
+      (map_none (λ (call : ToldCall). call.actor) (calls_in end c) (fits.calls c ∙ ap (map (λ (call : Submission). call.actor)) none)) ∙ sym none
 
   -- one whose calls a script tells
   pub told_there : (c : ℕ) → 1 ≤ c → c ≤ 16 → data_calls end c ≡ calls_of_steps c steps → data_calls end c ≡ calls_of c h
   told_there c some few e = go (calls_of_steps c steps) refl
     where
       go : (l : List Submission) → calls_of_steps c steps ≡ l → data_calls end c ≡ calls_of c h
-      go [] is = none_there c (none_mapped (λ (call : Submission). call.actor) (calls_of c h) (sym (fits.calls c) ∙ actors_of (calls_in end c)
-          ∙ ap (map (λ (call : Submission). call.actor)) (e ∙ is)))
-        where
-          actors_of : (xs : List ToldCall) → map (λ (call : ToldCall). call.actor) xs ≡ map (λ (call : Submission). call.actor) (map submission_of_call xs)
-          actors_of [] = refl
-          actors_of (x ∷ xs) = ap (λ l. x.actor ∷ l) (actors_of xs)
+      go [] is = none_there c (map_none (λ (call : Submission). call.actor) (calls_of c h) (sym (fits.calls c)
+          ∙ sym (map-map (λ (call : Submission). call.actor) submission_of_call (calls_in end c)) ∙ ap (map (λ (call : Submission). call.actor)) (e ∙ is)))
       go (sub ∷ subs) is = e ∙ sym (has c some few (λ none. let bad : [] ≡ sub ∷ subs = sym none ∙ is in cc))
 
   -- the call that stands for the caller's call k, if the caller has one
@@ -55,11 +48,7 @@ module _ (end : ToldEnd) (steps : List (ℕ × Step × ℕ)) (h : History) (fits
   Standing c = StandFor (told_of h) c (data_calls end c)
 
   same_actors : (c : ℕ) → map (λ (call : Submission). call.actor) (data_calls end c) ≡ map (λ (call : Submission). call.actor) (calls_of c h)
-  same_actors c = subs (calls_in end c) ∙ fits.calls c
-    where
-      subs : (xs : List ToldCall) → map (λ (call : Submission). call.actor) (map submission_of_call xs) ≡ map (λ (call : ToldCall). call.actor) xs
-      subs [] = refl
-      subs (x ∷ xs) = ap (λ l. x.actor ∷ l) (subs xs)
+  same_actors c = map-map (λ (call : Submission). call.actor) submission_of_call (calls_in end c) ∙ fits.calls c
 
   -- one that no line tells is as it ran
   as_ran : (c a p : ℕ) (caller : ToldCaller) (call : ToldCall) (item : RunItem) → caller_in end c ≡ Some caller → caller.has_lines ≡ false

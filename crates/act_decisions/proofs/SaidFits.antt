@@ -13,6 +13,7 @@ use Rattle.act_decisions.proofs.SaidCalls.{data_calls, ran_item}
 use Rattle.act_decisions.proofs.SaidRuns.{said_of_item, said_runs}
 use Rattle.act_decisions.proofs.Chosen.{wants_reply, is_death, reply_there, chosen_at, chosen_past}
 use Rattle.act_decisions.proofs.SaidAnswers.{data_kept, decides, gave, not_failed, told_is}
+use Rattle.std.proofs.lemmas.Bool.{and_right}
 
 -- ---- answers
 
@@ -23,10 +24,6 @@ no_death (Some answer) some e = go (is_reply (Some answer)) refl e
     go : (b : Bool) → is_reply (Some answer) ≡ b → not b ≡ false → is_reply (Some answer) ≡ true
     go true is e = is
     go false is e = cc
-
-and_false : (x : Bool) {y : Bool} → y ≡ false → (x && y) ≡ false
-and_false true e = e
-and_false false e = refl
 
 module _ (end : ToldEnd) (steps : List (ℕ × Step × ℕ)) (casts : List ActorSpec) (h : History) (fits : IsLeftBy end h) (lines : AllFitSteps end steps)
     (placed : RunsArePlaced end) (decided : AllDecided casts end) (numbered : (c : ℕ) → (1 ≤ c) × (c ≤ 16) ⊎ (calls_of c h ≡ []))
@@ -135,7 +132,7 @@ module _ (end : ToldEnd) (steps : List (ℕ × Step × ℕ)) (casts : List Actor
 
       by : (b : Bool) → call.is_open ≡ b → FitsLeft call.left (kept_at (kept_here c) k)
       by false e = subst (FitsLeft call.left) (sym (kept_same c k call at
-          (ap (λ b. b && wants_reply call.left) (and_false (is_death (kept_at (kept_of c h) k)) e)))) ((fits.left c k call at).0 e)
+          (ap (λ b. b && wants_reply call.left) (and_right (is_death (kept_at (kept_of c h) k)) _ e)))) ((fits.left c k call at).0 e)
       by true e = sort call.left refl
         where
           some : is_some (kept_at (kept_of c h) k) ≡ true
@@ -149,7 +146,7 @@ module _ (end : ToldEnd) (steps : List (ℕ × Step × ℕ)) (casts : List Actor
           sort left.Open l = absurd (is.4.left e l)
           sort left.Reply l = subst (λ l. FitsLeft l (kept_at (kept_here c) k)) (sym l) (open_reply c k call at e l some)
           sort left.Death l =
-              let kept = kept_same c k call at (and_false (is_death (kept_at (kept_of c h) k) && call.is_open) (ap wants_reply l)) in
+              let kept = kept_same c k call at (and_right (is_death (kept_at (kept_of c h) k) && call.is_open) _ (ap wants_reply l)) in
               subst (λ l. FitsLeft l (kept_at (kept_here c) k)) (sym l)
               (ap (λ o. is_some o) kept ∙ some, ap is_reply kept ∙ is_dead_one l call.place refl)
 

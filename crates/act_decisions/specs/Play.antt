@@ -1,5 +1,6 @@
 -- When a list of events ends as a history tells.
-use Rattle.std.specs.Prelude.{◌≡◌, ◌≢◌, ℕ, ◌≤◌, ◌<◌, ◌==◌, ◌&&◌, Bool, true, false, if◌then◌else◌, List, [], ◌∷◌, ◌++◌, length, map, take, slice_get, Some, Ok, IsOk, All}
+use Rattle.std.specs.Prelude.{◌≡◌, ◌≢◌, ℕ, ◌≤◌, ◌<◌, ◌==◌, ◌&&◌, Bool, true, false, if◌then◌else◌, List, [], ◌∷◌, ◌++◌, length, map, take, slice_get, Some, Ok}
+use Rattle.std.specs.Prelude.{IsOk, All}
 use Rattle.std.specs.List.{flat_map, list_any}
 use Rattle.act_types.specs.declared.limits.TheConstants.{MAX_CALLERS, MAX_SCRIPT_BYTES}
 use Rattle.act_types.specs.declared.call.Method.{Method}

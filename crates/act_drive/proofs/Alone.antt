@@ -5,6 +5,7 @@ use Rattle.act_drive.proofs.Common.{Answered, RunItem, IsPrefix, All-two, KindSt
 use Rattle.act_drive.proofs.Common.{HasRunCall, All-push, all_pairs_push, MailView, ControlView, RepliesView, ReplyExecView, IsNoDeath, NamesPlace, PutterView}
 use Rattle.act_drive.proofs.Common.{new_putter, new_taker, Asked, Letter, Endpoint, CallerPasses, IsFreshEndpoint, IsKillEndpoint, AreKillEndpoints}
 use Rattle.act_drive.proofs.Common.{IsUnusedCaller}
+use Rattle.act_rules.proofs.Common.{slice_get_last}
 
 one_kill : (control : ControlView) (c : ℕ) (pass : PutterView Asked ℕ) → pass ≡ new_putter control.line c →
     AreKillEndpoints (control ∷ []) (record { place = 0; pass = pass } ∷ [])
@@ -74,10 +75,6 @@ unused_pair passes c mail mail2 control control2 replies {post} {post2} {ask}
 
 -- ---- an actor's run, and what is given
 
-get_last : (xs : List RunItem) (x : RunItem) → slice_get (xs ++ x ∷ []) (length xs) ≡ Some x
-get_last [] x = refl
-get_last (y ∷ xs) x = get_last xs x
-
 named : (caller : ℕ) (before after : ActorView) (next : Option Packet) (reply : Reply) → Some reply ≡ option_map (reply_of_run before) next →
     IfSome next (λ packet. HasRunCall caller packet before after) →
     (after.id ≡ before.id) × IsPrefix before.log after.log × ((reply.actor ≡ before.id) × NamesPlace after.log (Answered reply))
@@ -86,7 +83,7 @@ named caller before after (Some packet) reply is ran =
     let same : reply ≡ reply_of_run before packet = cc is in
     let at : slice_get after.log reply.place ≡ Some (item_of packet) = subst (λ l. slice_get l reply.place ≡ Some (item_of packet)) (sym ran.log)
     (subst (λ n. slice_get (before.log ++ item_of packet ∷ []) n ≡ Some (item_of packet)) (sym (ap (λ (r : Reply). r.place) same))
-    (get_last before.log (item_of packet))) in (
+    (slice_get_last before.log (item_of packet))) in (
       ran.id,
       (item_of packet ∷ [], sym ran.log),
       (ap (λ (r : Reply). r.actor) same, (item_of packet, at, ap (λ (r : Reply). r.caller) same, ap (λ (r : Reply). r.future) same)),

@@ -4,6 +4,7 @@ use Rattle.act_drive.proofs.Common.{inl, inr, option_map, take_more, eqb_tells, 
 use Rattle.act_drive.proofs.Common.{copies-without_copy, copies-without_copy-other, OwnerView, with_handles, MailView, Driver, CallerPasses, Waits}
 use Rattle.act_drive.proofs.Common.{OnlyReleases}
 use Rattle.act_drive.proofs.Drivers.{stays_same, stays_trans}
+use Rattle.act_handles.proofs.Copies.{held_less}
 
 -- a caller that only lets handles go, and then again, does only that in all
 pub winds_trans : (one two three : Driver) → OnlyReleases one two → OnlyReleases two three → OnlyReleases one three
@@ -54,11 +55,7 @@ released_winds {old} {between} new a waits is passes = record {
 
 -- one copy less
 pub one_gone : (handles : List Handle) (a : ℕ) → copies_held (copies_in a (without_copy a handles)) ≡ copies_held (copies_in a handles) - 1
-one_gone handles a = ap copies_held (copies-without_copy a handles) ∙ go (copies_in a handles)
-  where
-    go : (copies : Option ℕ) → copies_held (option_map (λ n. n - 1) copies) ≡ copies_held copies - 1
-    go None = refl
-    go (Some n) = refl
+one_gone handles a = ap copies_held (copies-without_copy a handles) ∙ held_less (copies_in a handles)
 
 -- no copy is left of one actor more
 pub none_more : (mails : List MailView) {i : ℕ} (a : ℕ) {old new : Driver} → i < length mails → ((d : MailView) → (get_or mails i d).actor ≡ a) →

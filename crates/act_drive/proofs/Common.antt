@@ -34,12 +34,12 @@ pub use Rattle.act_mailbox.specs.declared.mail.Letter.TheVariants.{Call, Note}
 pub use Rattle.act_mailbox.specs.declared.thread.Endpoint.{Endpoint}
 pub use Rattle.act_owner.proofs.Life.{after_all-append, packet_stays, step}
 pub use Rattle.act_owner.proofs.Told.{death_sent, hears_opened, hears_step, reply_sent, sent_stays}
-pub use Rattle.act_owner.proofs.Waiting.{find_true}
 pub use Rattle.act_owner.specs.Life.{CallerMayDo, CallerMayDoAll, Hears, after_action, after_actions, is_known_at, notice_of, notices_in}
 pub use Rattle.act_owner.specs.Owner.{OwnerView, after_collect, after_reply_that, call_waits_for, first_ready, is_known_call, is_known_dead, is_of_call}
 pub use Rattle.act_owner.specs.Owner.{is_ready, is_sent, opened_under, owner_limit, packet_at, packet_for, pending, refusal_to_submit, release_note}
 pub use Rattle.act_owner.specs.Owner.{release_told, sending_refusal, with_death, with_handles, with_sent, with_submission}
 pub use Rattle.act_owner.specs.declared.owner.Collected.TheVariants.{First, Late, Stray}
+pub use Rattle.act_rules.proofs.Elements.{found_passes}
 pub use Rattle.act_rules.proofs.Ended.{needs-none}
 pub use Rattle.act_rules.proofs.Events.{calls_to-length}
 pub use Rattle.act_rules.proofs.Lists.{All-two, option_or-none}

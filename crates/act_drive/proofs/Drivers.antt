@@ -6,7 +6,7 @@ use Rattle.act_drive.proofs.Common.{All-cons, All-head, All-tail, All-push, All-
 use Rattle.act_drive.proofs.Common.{get_or_append_left, length-set, Packet, Reply, Notice, Answered, Death, Submission, RunItem, calls_to, copies_held, kept_at}
 use Rattle.act_drive.proofs.Common.{copies_in, First, Late, Stray, OwnerView, packet_at, packet_for, is_sent, is_of_call, after_reply_that, with_death}
 use Rattle.act_drive.proofs.Common.{after_collect, with_sent, is_ready, first_ready, is_known_call, Action, Sent, Noticed, after_action, is_known_at, Hears}
-use Rattle.act_drive.proofs.Common.{step, packet_stays, find_true, sent_stays, hears_step, reply_sent, death_sent, MailView, PutterView, Letter, Call, Note}
+use Rattle.act_drive.proofs.Common.{step, packet_stays, found_passes, sent_stays, hears_step, reply_sent, death_sent, MailView, PutterView, Letter, Call, Note}
 use Rattle.act_drive.proofs.Common.{Endpoint, CallerLines, Driver, CallerPasses, actor_of_letter, future_of_letter, futures_in, AreTwo, IsSent, MayBeSent}
 use Rattle.act_drive.proofs.Common.{IsPosting, IsEndpoint, AreKillEndpoints, IsCalling, Stays, Waits, OwnerGoesOn, bare_post, bare_ask, IsIdle, IsKeeping}
 use Rattle.act_drive.proofs.Common.{is_note_letter, AreNoted, OnlyWaits, []}
@@ -280,7 +280,7 @@ pub calling_taken : {lines : CallerLines} {old : Driver} (new : Driver) (k : ℕ
 calling_taken {lines} {old} new k packet ready at empty is passes outbox flags calling =
     let owner = old.owner in let sent : OwnerView = with_sent owner k in
     let tells = three (is_known_call owner (slice_get owner.calls k)) (is_sent owner k) (is_some (kept_at owner.kept k))
-    (find_true (is_ready owner) (range_with_len 0 (length owner.calls)) k ready) in
+    (found_passes (is_ready owner) (range_with_len 0 (length owner.calls)) ready) in
     let parts = packet_parts owner k (slice_get owner.calls k) at in
     let on : OwnerGoesOn owner sent = change_on owner (Sent k) calling.places (λ a none. (none, refl)) in
     let below : k < length owner.sent = omega (arith, calling.flags, known_call owner k (slice_get owner.calls k) refl tells.0) in

@@ -5,11 +5,11 @@ use Rattle.act_drive.proofs.Common.{OnOk, OnErr, AllZip, flat_map, range_with_le
 use Rattle.act_drive.proofs.Common.{Contains-push, all_zipped_more, Notice, Packet, ReleaseNote, RunItem, Step, Release, Kill, Await, Submission, NotReady}
 use Rattle.act_drive.proofs.Common.{needs, kept_at, copies_held, handle_refusal, send_refusal, copies_in, without_copy, copies-without_copy, OwnerView}
 use Rattle.act_drive.proofs.Common.{sending_refusal, with_sent, with_handles, after_collect, is_known_call, is_sent, is_ready, first_ready, is_known_dead, Sent}
-use Rattle.act_drive.proofs.Common.{Released, Noticed, after_action, find_true, greatest, steps_in, found_in, AreTakenLater, PutterView, TakerView, ControlView}
+use Rattle.act_drive.proofs.Common.{Released, Noticed, after_action, greatest, steps_in, found_in, AreTakenLater, PutterView, TakerView, ControlView}
 use Rattle.act_drive.proofs.Common.{Asked, Letter, Call, Note, Endpoint, CallerLines, CallerPasses, Driver, Action, KillAsked, notice_of, after_actions}
 use Rattle.act_drive.proofs.Common.{CallerMayDo, CallerMayDoAll, caller_clock, IsPostedAfter, IsAskedAfter, IsCallerTrace, DoesStep, DoesPlan, HasDonePlan}
 use Rattle.act_drive.proofs.Common.{IsTracing, IsTracingClosed, Traces, TracesStep, TracesClosing, IsFreshCaller, IsFreshEndpoint, all_zip_weaker, steps_more}
-use Rattle.act_drive.proofs.Common.{timed_later, timed_push, part_one, part_none, later_one, later_none, [], after_all-append, ◌||◌}
+use Rattle.act_drive.proofs.Common.{timed_later, timed_push, part_one, part_none, later_one, later_none, [], after_all-append, ◌||◌, found_passes}
 use Rattle.act_rules.specs.declared.outcome.SendRefusal.TheVariants.{Answered}
 use Rattle.act_drive.proofs.PlanTraces.{meanwhile_more, plan_more}
 use Rattle.act_drive.proofs.Clocks.{greatest_grows, greatest_pushed, greatest_set, clock_grows, clock_taken, timed_none, zip_none}
@@ -200,7 +200,7 @@ may_send owner k sent (Some call) ready = free (is_known_call owner (Some call))
 -- nothing refuses the sending of a call that is ready
 pub ready_sends : (owner : OwnerView) (k : ℕ) → first_ready owner ≡ Some k → sending_refusal owner k ≡ None
 ready_sends owner k ready =
-    may_send owner k (is_sent owner k) (slice_get owner.calls k) (find_true (is_ready owner) (range_with_len 0 (length owner.calls)) k ready)
+    may_send owner k (is_sent owner k) (slice_get owner.calls k) (found_passes (is_ready owner) (range_with_len 0 (length owner.calls)) ready)
 
 -- a call is sent, and its packet is in the outbox
 pub traces_taken : (lines : CallerLines) (old new : Driver) (packet : Packet) → sending_refusal old.owner packet.future ≡ None →

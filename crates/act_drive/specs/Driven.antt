@@ -1,5 +1,6 @@
 -- What a caller's thread did so far.
-use Rattle.std.specs.Prelude.{◌≡◌, ◌≢◌, ℕ, ◌<◌, ◌≤◌, ◌⊎◌, Bool, true, false, List, [], ◌∷◌, ◌++◌, length, map, filter_map, slice_get, slice_index_or, option_to_list, flat_map, Option, Some, None, is_some, All, AllPairs, Contains}
+use Rattle.std.specs.Prelude.{◌≡◌, ◌≢◌, ℕ, ◌<◌, ◌≤◌, ◌⊎◌, Bool, true, false, List, [], ◌∷◌, ◌++◌, length, map, filter_map, slice_get, slice_index_or}
+use Rattle.std.specs.Prelude.{option_to_list, flat_map, Option, Some, None, is_some, All, AllPairs, Contains}
 use Rattle.act_types.specs.declared.call.Notice.{Notice}
 use Rattle.act_types.specs.declared.call.Notice.TheVariants.{Death}
 use Rattle.act_rules.specs.declared.history.Submission.{Submission}

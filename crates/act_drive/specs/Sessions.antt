@@ -1,5 +1,6 @@
 -- What a caller's own code sees of its caller, and what contracts say of a session.
-use Rattle.std.specs.Prelude.{◌≡◌, ℕ, ◌+◌, ◌==◌, nat_lt, if◌then◌else◌, Bool, not, ◌&&◌, List, [], ◌∷◌, ◌++◌, length, zip, count_by, find, position, take, replicate, slice_index_or, Option, option_and_then, is_some}
+use Rattle.std.specs.Prelude.{◌≡◌, ℕ, ◌+◌, ◌==◌, nat_lt, if◌then◌else◌, Bool, not, ◌&&◌, List, [], ◌∷◌, ◌++◌, length, zip, count_by, find, position, take}
+use Rattle.std.specs.Prelude.{replicate, slice_index_or, Option, option_and_then, is_some}
 use Rattle.std.specs.List.{list_all}
 use Rattle.std.specs.Option.{option_map_or}
 use Rattle.act_types.specs.declared.call.Arg.{Arg}

@@ -151,10 +151,10 @@ impl Driver {
         self.send_at::<Brand, R>(rt, lines)
     }
 
-    /// The same, where `K` is the letter's stamp.
-    fn send_at<K: Stamped, R: Wait>(&mut self, rt: &R, lines: &CallerLines) -> bool
+    /// The same, where `S` is the letter's stamp.
+    fn send_at<S: Stamped, R: Wait>(&mut self, rt: &R, lines: &CallerLines) -> bool
         requires calling { IsCalling lines.now self.old }
-        requires stamp { K.stamp ≡ caller_clock self.old.passes }
+        requires stamp { S.stamp ≡ caller_clock self.old.passes }
         ensures calling { IsCalling lines.now self.new }
         ensures waits { Waits self.old self.new }
         ensures traced { Traces lines.now self.old self.new }
@@ -162,11 +162,11 @@ impl Driver {
         let Some(letter) = self.outbox.take() else {
             return false;
         };
-        self.post_letter::<K, R>(rt, lines, letter)
+        self.post_letter::<S, R>(rt, lines, letter)
     }
 
     /// Posts a letter as if it were in the outbox, which is empty. A full line has it put there.
-    fn post_letter<K: Stamped, R: Wait>(
+    fn post_letter<S: Stamped, R: Wait>(
         &mut self,
         rt: &R,
         lines: &CallerLines,
@@ -174,7 +174,7 @@ impl Driver {
     ) -> bool
         requires empty { self.old.outbox ≡ None }
         requires calling { IsCalling lines.now (record self.old { outbox = Some letter }) }
-        requires stamp { K.stamp ≡ caller_clock self.old.passes }
+        requires stamp { S.stamp ≡ caller_clock self.old.passes }
         ensures calling { IsCalling lines.now self.new }
         ensures waits { Waits (record self.old { outbox = Some letter }) self.new }
         ensures traced { Traces lines.now (record self.old { outbox = Some letter }) self.new }
@@ -191,7 +191,7 @@ impl Driver {
         let is_note = is_note(&letter);
         let endpoint = &mut self.passes.letters[at];
         let mail = &lines.mails[endpoint.place];
-        match mail.post_at::<K, R>(rt, &mut endpoint.pass, letter) {
+        match mail.post_at::<S, R>(rt, &mut endpoint.pass, letter) {
             Ok(()) => {
                 set_note_posted(&mut self.note_posted, actor, is_note);
                 true

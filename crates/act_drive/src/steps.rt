@@ -190,12 +190,12 @@ impl Driver {
         self.ask_at::<Brand, R>(rt, lines, at, a)
     }
 
-    /// The same, where `K` is the kill's stamp.
-    fn ask_at<K: Stamped, R: Wait>(&mut self, rt: &R, lines: &Lines, at: usize, a: ActorId) -> bool
+    /// The same, where `S` is the kill's stamp.
+    fn ask_at<S: Stamped, R: Wait>(&mut self, rt: &R, lines: &Lines, at: usize, a: ActorId) -> bool
         requires calling { IsCalling lines.now self.old }
         requires below { at < length self.old.passes.kills.items }
         requires place { IsAtKillEndpoint lines.now.controls.now self.old.passes.kills.items at a }
-        requires stamp { K.stamp ≡ caller_clock self.old.passes }
+        requires stamp { S.stamp ≡ caller_clock self.old.passes }
         ensures calling { IsCalling lines.now self.new }
         ensures stays { Stays self.old self.new }
         ensures asked { result ≡ true → AsksMore lines.now.controls.now a self.old self.new }
@@ -209,7 +209,7 @@ impl Driver {
             actor: a,
         };
         let endpoint = &mut self.passes.kills[at];
-        match lines.controls[endpoint.place].ask_at::<K, R>(rt, &mut endpoint.pass, note) {
+        match lines.controls[endpoint.place].ask_at::<S, R>(rt, &mut endpoint.pass, note) {
             Ok(()) => {
                 wake(lines.mails, a);
                 true

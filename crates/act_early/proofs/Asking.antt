@@ -1,9 +1,10 @@
 -- The kills that are asked are those of the steps that callers are done with.
 use Rattle.act_early.proofs.Common.{◌≡◌, ℕ, Bool, true, false, cond, List, [], ◌∷◌, Some, refl, ap, sym, ◌∙◌, subst, ◌==◌, ◌||◌, list_any, eqb-true, eq-eqb}
 use Rattle.act_early.proofs.Common.{list_any-append, Event, Step, Kill, is_kill_of, ActorSpec, History, contains, is_dead, add_event, IsKept, contains_more}
-use Rattle.act_early.proofs.Common.{dead_stays, At, next_step, after_step, taken, IsPlay, Opens, Takes, Skips, Closes, Happens, or_left}
+use Rattle.act_early.proofs.Common.{dead_stays, At, next_step, after_step, taken, IsPlay, Opens, Takes, Skips, Closes, Happens, or_left, contains_push}
+use Rattle.act_early.proofs.Common.{or_right}
 use Rattle.act_rules.specs.declared.event.Event.TheVariants as event
-use Rattle.act_early.proofs.Worlds.{step_keeps, contains_push, either_of, or_second}
+use Rattle.act_early.proofs.Worlds.{step_keeps, either_of}
 use Rattle.act_early.proofs.Counting.{done_steps, done-push}
 use Rattle.act_early.proofs.Progress.{free_idle}
 
@@ -20,7 +21,7 @@ IsAskedOrDead a h = (contains a h.asked || is_dead a h) ≡ true
 asked_or_dead_step : (a : ℕ) → IsKept (IsAskedOrDead a)
 asked_or_dead_step a h other held accepted = either_of (contains a h.asked) (is_dead a h) (IsAskedOrDead a (add_event h other)) held
     (λ e. or_left (contains a (add_event h other).asked) (is_dead a (add_event h other)) (asked_stays a h other e))
-    (λ e. or_second (contains a (add_event h other).asked) (dead_stays a h other accepted e))
+    (λ e. or_right (contains a (add_event h other).asked) _ (dead_stays a h other accepted e))
 
 -- ---- each kill of a step that is done was asked, or its actor is dead
 
@@ -34,7 +35,7 @@ step_asks c d a step h e = go (c == d) step e
   where
     go : (same : Bool) (step : Step) → list_any (is_kill_of a) (cond same (step ∷ []) []) ≡ true → contains a (after_step c step h).asked ≡ true
     go false step e = cc
-    go true (Kill b) e = contains_push a b h.asked ∙ or_second (contains a h.asked) (either_of (b == a) false ((b == a) ≡ true) e (λ x. x) (λ x. cc))
+    go true (Kill b) e = contains_push a b h.asked ∙ or_right (contains a h.asked) _ (either_of (b == a) false ((b == a) ≡ true) e (λ x. x) (λ x. cc))
     go true step e = cc
 
 done_any : (plans : ℕ → List Step) (c d a : ℕ) {step : Step} (at : At) → next_step plans c at ≡ Some step → list_any (is_kill_of a)
@@ -61,7 +62,7 @@ asks_all {casts} {plans} a at (Skips before c b play is named dead) d e =
     either_of (list_any (is_kill_of a) (done_steps plans d before)) (list_any (is_kill_of a) (cond (c == d) (Kill b ∷ []) []))
     (IsAskedOrDead a before.history) (sym (done_any plans c d a before is) ∙ e)
     (λ old. asks_all a before play d old)
-    (λ new. or_second (contains a before.history.asked) (skip_dead c d a b before.history new dead))
+    (λ new. or_right (contains a before.history.asked) _ (skip_dead c d a b before.history new dead))
 asks_all {casts} {plans} a at (Closes before c b play none may) d e = asked_or_dead_step a before.history (event.Release c b) (asks_all a before play d e) may
 asks_all {casts} {plans} a at (Happens before other play free may) d e = asked_or_dead_step a before.history other (asks_all a before play d e) may
 
@@ -94,7 +95,7 @@ asked_by casts plans a at (Takes before c step play is may) e =
     (λ old. asked_more plans c a before is (asked_by casts plans a before play old))
     (λ new. (
       c,
-      done_any plans c c a before is ∙ or_second (list_any (is_kill_of a) (done_steps plans c before)) (any_one (c == c) a step (eq-eqb c c refl) new),
+      done_any plans c c a before is ∙ or_right (list_any (is_kill_of a) (done_steps plans c before)) _ (any_one (c == c) a step (eq-eqb c c refl) new),
     ))
 asked_by casts plans a at (Skips before c b play is named dead) e = let more =
     asked_more plans c a before is (asked_by casts plans a before play e) in (more.0, more.1)

@@ -2,12 +2,12 @@
 use Rattle.act_early.proofs.Common.{◌≡◌, ℕ, ◌<◌, Bool, true, false, cond, List, [], ◌∷◌, ◌++◌, length, Option, Some, None, refl, ap, sym, ◌∙◌, subst, arith}
 use Rattle.act_early.proofs.Common.{◌==◌, ◌&&◌, find, filter_map, slice_get, option_map, option_and_then, is_some, cons_option, eqb-true, eq-eqb, and_parts}
 use Rattle.act_early.proofs.Common.{and_from, slice_get_within, KindState, RunItem, Submission, Step, Answer, answers_from, answer_at, kept_at, ActorSpec}
-use Rattle.act_early.proofs.Common.{History, contains, under, names, cast_of, runs_of, calls_of, kept_of, is_item_of, answer_of, answer_in, first_answer}
+use Rattle.act_early.proofs.Common.{History, contains, under, cast_of, runs_of, calls_of, kept_of, is_item_of, answer_of, answer_in, first_answer}
 use Rattle.act_early.proofs.Common.{next_item, refusal_of, and_also, slice_get_front, slice_get_last, element, Grows, added_grows, runs_grow, calls_grow}
 use Rattle.act_early.proofs.Common.{run_needs, run_stands, length-answers_from, answer_alive, one_place, At, with_event, Happens, IsPlay, is_reply, choices_of}
-use Rattle.act_early.proofs.Common.{HasRunMore, HasTakenMore, ReplyPost}
+use Rattle.act_early.proofs.Common.{HasRunMore, HasTakenMore, ReplyPost, contains_push, some_cast}
 use Rattle.act_rules.specs.declared.event.Event.TheVariants as event
-use Rattle.act_early.proofs.Worlds.{world, contains_push}
+use Rattle.act_early.proofs.Worlds.{world}
 use Rattle.act_early.proofs.Replies.{reply_died}
 use Rattle.act_early.proofs.Choices.{first_more, kept_first, heard_quiet, heard_more, choices_same}
 use Rattle.act_early.proofs.Listed.{IsOpen}
@@ -127,11 +127,6 @@ lost_play specs plans a c p item begun may e =
       ((λ b. lost_more a b c p.history q.history item r), λ b. ap (contains b) r.killed),
     )
 
--- a cast that names a caller is there
-pub cast_known : (o : Option ActorSpec) (c : ℕ) → names c o ≡ true → is_some o ≡ true
-cast_known None c e = cc
-cast_known (Some cast) c e = refl
-
 -- what a run adds to the choices whose reply is collected at once
 pub run_more : (casts : List ActorSpec) (plans : ℕ → List Step) (a c : ℕ) (p : At) (item : RunItem) → IsPlay casts plans p →
     refusal_of p.history (event.Run a c) ≡ None → next_item a c p.history ≡ Some item →
@@ -148,7 +143,7 @@ run_more casts plans a c p item play may e =
       ran = refl;
       collected = ap (and_also g.collected) place;
       casts = refl;
-      known = ap (λ l. is_some (find (λ (cast : ActorSpec). cast.actor == a) l)) r.casts ∙ cast_known (cast_of a h) c (run_needs h a c may).1;
+      known = ap (λ l. is_some (find (λ (cast : ActorSpec). cast.actor == a) l)) r.casts ∙ some_cast c (cast_of a h) (run_needs h a c may).1;
     } in
     ((λ b. heard_more_choices a b c h g k item replied), λ b. ap (contains b) r.killed)
 

@@ -7,20 +7,22 @@ pub use Rattle.act_early.specs.Plays.{At, Closes, Happens, IsPlay, MayTake, Open
 pub use Rattle.act_early.specs.Plays.{taken, with_event}
 pub use Rattle.act_early.specs.Quiescence.{IsEarly, IsSameEnd, RunsMore, Starts, TakesMore}
 pub use Rattle.act_early.specs.Told.{told_at_rest}
-pub use Rattle.act_lists.proofs.Lists.{element, slice_get_last}
+pub use Rattle.act_lists.proofs.Lists.{element, slice_get_last, take_next}
 pub use Rattle.act_rules.proofs.AsSubmitted.{calls_to-at}
 pub use Rattle.act_rules.proofs.Callers.{named_among}
-pub use Rattle.act_rules.proofs.Ended.{NothingFollows, contains_more, dead_stays, ended_stays, needs-none, nothing_follows_step, run_needs, under-push}
+pub use Rattle.act_rules.proofs.Ended.{NothingFollows, contains_more, contains_push, dead_stays, ended_stays, needs-none, nothing_follows_step, run_needs}
+pub use Rattle.act_rules.proofs.Ended.{under-push}
 pub use Rattle.act_rules.proofs.Events.{all_from_each, history_more, some_cast}
 pub use Rattle.act_rules.proofs.Growth.{Grows, added_grows, calls_grow, calls_to_grow, runs_grow}
 pub use Rattle.act_rules.proofs.Kept.{KeepsAnswer, answer_at-front, answer_in_stays, kept_at_is, kept_by, kept_step, length-answers_from}
 pub use Rattle.act_rules.proofs.KindFaults.{answer_alive}
 pub use Rattle.act_rules.proofs.Letters.{IsSoundLetter, has_front, has_last, has_letter-sound, kept_extends, letter_place}
 pub use Rattle.act_rules.proofs.Limits.{fewer, limit_of-same}
-pub use Rattle.act_rules.proofs.Lists.{All_at, All_more, All_weaker, filter_map-same, front_next, front_trans, front_whole, numbers_alike, option_map-none}
-pub use Rattle.act_rules.proofs.Lists.{option_or-none, option_or-none_second, slice_get-enumerate_from, slice_get-filter, slice_get_front, whole_front}
+pub use Rattle.act_rules.proofs.Lists.{All_at, All_more, All_weaker, any_front, any_push, filter_map-same, front_next, front_trans, front_whole, numbers_alike}
+pub use Rattle.act_rules.proofs.Lists.{option_map-none, option_or-none, option_or-none_second, slice_get-enumerate_from, slice_get-filter, slice_get_front}
+pub use Rattle.act_rules.proofs.Lists.{whole_front}
 pub use Rattle.act_rules.proofs.Order.{IsNext, next_item_is, numbered, numbers}
-pub use Rattle.act_rules.proofs.Posts.{IsSoundPost, PostsAreSound, next_item_caller, run_stands}
+pub use Rattle.act_rules.proofs.Posts.{IsSoundPost, PostsAreSound, next_item_caller, ran_on, run_stands}
 pub use Rattle.act_rules.proofs.RanAll.{AllNamed, Retires, copies_named, named_call, ran_all, retires_step, world_retires}
 pub use Rattle.act_rules.proofs.Retired.{gone_step, times-push}
 pub use Rattle.act_rules.proofs.Settling.{Extends, arguments_stay}

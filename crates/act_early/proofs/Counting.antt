@@ -1,7 +1,7 @@
 -- How many steps a caller is done with, and which.
-use Rattle.act_early.proofs.Common.{◌≡◌, ℕ, zero, suc, ◌+◌, ◌≤◌, Bool, true, false, cond, List, [], ◌∷◌, ◌++◌, length, Some, None, refl, ap, sym, ◌∙◌, subst}
+use Rattle.act_early.proofs.Common.{◌≡◌, ℕ, zero, suc, ◌+◌, ◌≤◌, Bool, true, false, cond, List, [], ◌∷◌, ◌++◌, length, Some, refl, ap, sym, ◌∙◌, subst}
 use Rattle.act_early.proofs.Common.{arith, length-append, ◌==◌, slice_get, take, eqb-true, append-nil, filter-append, Step, occurrences, IsPrefix, At, steps_of}
-use Rattle.act_early.proofs.Common.{next_step, take_all}
+use Rattle.act_early.proofs.Common.{next_step, take_all, take_next}
 
 -- a pushed list has a number as often as before, and once more where that is the number pushed
 pub occurrences-push : (d c : ℕ) (xs : List ℕ) → occurrences d (xs ++ c ∷ []) ≡ occurrences d xs + cond (c == d) 1 0
@@ -11,14 +11,9 @@ occurrences-push d c xs = rw (filter-append (λ b. b == d) xs (c ∷ []), length
     go true = refl
     go false = refl
 
-take-next : {A : Type 0} (xs : List A) (n : ℕ) (x : A) → slice_get xs n ≡ Some x → take (suc n) xs ≡ take n xs ++ x ∷ []
-take-next [] n x e = cc
-take-next {A = A} (y ∷ xs) zero x e = let same : y ≡ x = cc in ap (λ z. z ∷ []) same
-take-next {A = A} (y ∷ xs) (suc n) x e = ap (λ l. y ∷ l) (take-next xs n x e)
-
 -- the first n + 1 items of a list are the first n, and then the one at place n
 pub take-at : {A : Type 0} (xs : List A) (n : ℕ) {x : A} → slice_get xs n ≡ Some x → take (n + 1) xs ≡ take n xs ++ x ∷ []
-take-at {A = A} xs n {x} e = let one : n + 1 ≡ suc n = omega arith in ap (λ m. take m xs) one ∙ take-next xs n x e
+take-at {A = A} xs n {x} e = let one : n + 1 ≡ suc n = omega arith in ap (λ m. take m xs) one ∙ take_next xs n e
 
 -- the steps that a caller is done with
 abbrev pub done_steps : (ℕ → List Step) → ℕ → At → List Step
@@ -46,12 +41,6 @@ take-prefix [] (suc m) zero le = ([], refl)
 take-prefix [] (suc m) (suc n) le = ([], refl)
 take-prefix (x ∷ xs) (suc m) zero le = absurd (omega arith)
 take-prefix {A = A} (x ∷ xs) (suc m) (suc n) le = let rest = take-prefix xs m n (omega arith) in (rest.0, ap (λ l. x ∷ l) rest.1)
-
--- a place at which a list has no item isn't below its length
-pub past_none : {A : Type 0} (xs : List A) (k : ℕ) → slice_get xs k ≡ None → length xs ≤ k
-past_none [] k e = omega arith
-past_none (x ∷ xs) zero e = cc
-past_none (x ∷ xs) (suc k) e = let n = past_none xs k e in omega (arith, n)
 
 -- the first n items of a list that has no more than n are all of it
 pub take-past : {A : Type 0} (xs : List A) (n : ℕ) → length xs ≤ n → take n xs ≡ xs

@@ -1,9 +1,8 @@
 -- Early plays have all ends.
 use Rattle.act_early.proofs.Common.{◌≡◌, ℕ, Bool, true, false, List, [], Option, Some, None, refl, ap, sym, ◌∙◌, is_some, RunItem, Step, ActorSpec, History}
 use Rattle.act_early.proofs.Common.{under, contains, runs_of, next_item, refusal_of, At, opened, IsPlay, Opens, choices_of, IsQuiescent, HasRunMore}
-use Rattle.act_early.proofs.Common.{HasTakenMore, IsWholeSearch, IsEnded, EndsAlike, HaveSameChoices, IsEarly, Starts, RunsMore, TakesMore}
+use Rattle.act_early.proofs.Common.{HasTakenMore, IsWholeSearch, IsEnded, EndsAlike, HaveSameChoices, IsEarly, Starts, RunsMore, TakesMore, or_right}
 use Rattle.act_rules.specs.declared.event.Event.TheVariants as event
-use Rattle.act_early.proofs.Worlds.{or_second}
 use Rattle.act_early.proofs.Ending.{enough}
 use Rattle.act_early.proofs.Listed.{IsOpen}
 use Rattle.act_early.proofs.Quiescent.{quiesce}
@@ -82,4 +81,4 @@ all_early casts plans = record {
 pub early_ends : (casts : List ActorSpec) (plans : ℕ → List Step) (late : At) → IsPlay casts plans late → IsEnded plans late
     → (early : At) × IsEarly casts plans early × EndsAlike plans early late.history
 early_ends casts plans late play ended =
-    enough casts plans (λ a. true) (IsEarly casts plans) late (all_early casts plans) play ended (λ a place item at. or_second _ {y = true} refl)
+    enough casts plans (λ a. true) (IsEarly casts plans) late (all_early casts plans) play ended (λ a place item at. or_right _ true refl)

@@ -1,16 +1,18 @@
 -- Where the late play is ended, the one that was seen ends alike.
-use Rattle.act_early.proofs.Common.{◌≡◌, ℕ, suc, ◌+◌, ◌≤◌, Bool, true, false, List, [], ◌∷◌, length, Option, Some, None, refl, ap, sym, ◌∙◌, subst, arith, ◌==◌}
-use Rattle.act_early.proofs.Common.{◌||◌, find, filter_map, slice_get, is_some, enumerate_from, length-map, slice_get_past, RunItem, Submission, Step, Answer}
+use Rattle.act_early.proofs.Common.{◌≡◌, ℕ, suc, ◌≤◌, Bool, true, false, List, [], ◌∷◌, length, Option, Some, None, refl, ap, sym, ◌∙◌, subst, arith, ◌==◌}
+use Rattle.act_early.proofs.Common.{◌||◌, find, filter_map, slice_get, is_some, length-map, slice_get_past, RunItem, Submission, Step, Answer}
 use Rattle.act_early.proofs.Common.{items_of, calls_to, kept_at, ActorSpec, History, contains, callers_in, cast_of, runs_of, calls_of, kept_of, is_retired}
-use Rattle.act_early.proofs.Common.{is_ended, has_letter, ran_count, is_done, is_drained, first_answer, refusal_of, kept_at_is, kept_by, ran_all, At, steps_of}
+use Rattle.act_early.proofs.Common.{is_ended, has_letter, ran_count, is_done, is_drained, refusal_of, kept_at_is, kept_by, ran_all, At, steps_of}
 use Rattle.act_early.proofs.Common.{next_step, IsPlay, IsWholeSearch, IsEnded, LosesOnly, EndsAlike, all_from_each, NoteLetter}
 use Rattle.act_rules.specs.declared.event.Event.TheVariants as event
-use Rattle.act_early.proofs.Counting.{past_none, take-past}
+use Rattle.act_early.proofs.Counting.{take-past}
+use Rattle.act_lists.proofs.Lists.{past_none}
 use Rattle.act_early.proofs.Progress.{Follows, follows, submission_in}
 use Rattle.act_early.proofs.Earlier.{earlier_same}
 use Rattle.act_early.proofs.Ahead.{AreBoth}
 use Rattle.act_early.proofs.Possible.{IsReached}
 use Rattle.act_early.proofs.Searching.{is_seen, both_of, reached}
+use Rattle.act_rules.proofs.Kept.{kept_size}
 
 -- ---- lists
 
@@ -21,14 +23,6 @@ same_kept [] (y ∷ ys) long at = absurd (omega (arith, long))
 same_kept (x ∷ xs) [] long at = absurd (omega (arith, long))
 same_kept (x ∷ xs) (y ∷ ys) long at =
     let first : x ≡ y = at 0 in let rest = same_kept xs ys (omega (arith, long)) (λ k. at (suc k)) in ap (λ z. z ∷ xs) first ∙ ap (λ l. y ∷ l) rest
-
-length-enumerate_from : {A : Type 0} (n : ℕ) (xs : List A) → length (enumerate_from n xs) ≡ length xs
-length-enumerate_from n [] = refl
-length-enumerate_from n (x ∷ xs) = ap suc (length-enumerate_from (n + 1) xs)
-
--- each call has a place in the table of answers
-pub kept_size : (c : ℕ) (h : History) → length (kept_of c h) ≡ length (calls_of c h)
-kept_size c h = length-map (enumerate_from 0 (calls_of c h)) (first_answer h c) ∙ length-enumerate_from 0 (calls_of c h)
 
 -- where a caller made the same calls in two histories, its lists of kept answers are of one length
 pub kept_long : (c : ℕ) (h g : History) → calls_of c h ≡ calls_of c g → length (kept_of c h) ≡ length (kept_of c g)

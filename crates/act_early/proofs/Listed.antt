@@ -1,6 +1,6 @@
 -- Lists of all callers and all actors, and going on for each of them.
-use Rattle.act_early.proofs.Common.{◌≡◌, ℕ, Bool, true, false, cond, List, [], ◌∷◌, ◌++◌, Some, refl, ◌∙◌, subst, ◌==◌, ◌||◌, map, find, AllByRecursion}
-use Rattle.act_early.proofs.Common.{list_any, eqb-true, list_any-append, Step, ActorSpec, contains, names, All_weaker, At, IsPlay, some_cast, is_some}
+use Rattle.act_early.proofs.Common.{◌≡◌, ℕ, Bool, true, false, cond, List, [], ◌∷◌, ◌++◌, Some, refl, ◌∙◌, ◌==◌, ◌||◌, map, find, AllByRecursion}
+use Rattle.act_early.proofs.Common.{list_any, list_any-append, Step, ActorSpec, contains, names, All_weaker, At, IsPlay, some_cast, is_some}
 
 -- ---- all callers and all actors
 
@@ -42,15 +42,6 @@ cast_listed a (cast ∷ casts) e = go (cast.actor == a) (cast_listed a casts) e
 pub actor_listed : (c a : ℕ) (casts : List ActorSpec) → names c (find (λ (cast : ActorSpec). cast.actor == a) casts) ≡ true
     → contains a (all_actors casts) ≡ true
 actor_listed c a casts e = cast_listed a casts (some_cast c (find (λ (cast : ActorSpec). cast.actor == a) casts) e)
-
--- what holds of each number of a list holds of any number that the list contains
-pub all_listed : (P : ℕ → Type 0) (xs : List ℕ) (x : ℕ) → AllByRecursion P xs → contains x xs ≡ true → P x
-all_listed P [] x all e = cc
-all_listed P (y ∷ xs) x all e = go (y == x) refl (all_listed P xs x all.1) e
-  where
-    go : (b : Bool) → (y == x) ≡ b → (contains x xs ≡ true → P x) → (b || contains x xs) ≡ true → P x
-    go true same rest e = subst P (eqb-true y x same) all.0
-    go false other rest e = rest e
 
 -- ---- going on for each of a list
 

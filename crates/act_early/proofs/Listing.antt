@@ -7,10 +7,11 @@ use Rattle.act_early.proofs.Common.{is_step_by, DoesStepBy, DoesStepsBy, KeepsTo
 use Rattle.act_rules.specs.declared.event.Event.TheVariants as event
 use Rattle.act_early.proofs.Worlds.{world}
 use Rattle.act_early.proofs.Deaths.{collected_death}
-use Rattle.act_early.proofs.Listed.{all_callers, all_listed}
+use Rattle.act_early.proofs.Listed.{all_callers}
 use Rattle.act_early.proofs.Quiescent.{may_listed, named_as_listed}
 use Rattle.act_early.proofs.Shifting.{shift}
 use Rattle.act_early.proofs.Owning.{drop_none, closings, Left, next_is, rest_is, awaits, leaves_out, after_one, IsOwn, does_own, IsSilent}
+use Rattle.act_rules.proofs.Elements.{all_listed}
 
 -- ---- after the last event
 

@@ -4,9 +4,9 @@ use Rattle.act_early.proofs.Common.{sym, ◌∙◌, subst, arith, ◌||◌, not,
 use Rattle.act_early.proofs.Common.{Letter, Submission, Step, Submit, Answer, NoCaller, Sending, calls_to, kept_at, is_known, needs, send_refusal, ActorSpec}
 use Rattle.act_early.proofs.Common.{History, under, is_caller, calls_of, copies_of, kept_of, is_ended, has_letter, refusal_of, add_event, and_also}
 use Rattle.act_early.proofs.Common.{letter_actor, call_letter, was_sent, deliver_refusal, slice_get_last, added_grows, At, MayTake, with_event, Happens}
-use Rattle.act_early.proofs.Common.{NoteLetter, named_among, has_front, has_last, letter_place, named_call}
+use Rattle.act_early.proofs.Common.{NoteLetter, named_among, has_front, has_last, letter_place, named_call, or_right}
 use Rattle.act_rules.specs.declared.event.Event.TheVariants as event
-use Rattle.act_early.proofs.Worlds.{world, or_second}
+use Rattle.act_early.proofs.Worlds.{world}
 use Rattle.act_early.proofs.Quiesces.{Quiesces, quiesces_same, quiesces_trans, quiet_quiesces}
 use Rattle.act_early.proofs.Listed.{all_callers, all_actors, IsOpen, IsWay, Comes, for_each, for_all}
 use Rattle.act_early.proofs.Stepping.{IsStuck}
@@ -135,7 +135,7 @@ send_one specs plans p begun c k = go (slice_get (calls_of c h) k) refl
         → list_all (is_known (kept_of c h)) call.args ≡ true
         → kept_at (kept_of c h) k ≡ None → needs b NoCaller (option_map Sending (send_refusal (kept_of c h) k sent o)) ≡ None =
         λ b sent o call caller at known none. let free : (sent || not (is_some (kept_at (kept_of c h) k))) ≡ true =
-        or_second sent (ap (λ o. not (is_some o)) none) in
+        or_right sent _ (ap (λ o. not (is_some o)) none) in
         rw (caller, at, known, free) refl in
         let caller : is_caller c h ≡ true = named_among c call.actor h.casts (named_call h c k (world specs plans p begun.play).retires.named at) in
         let letter = call_letter c k call h in

@@ -3,8 +3,8 @@ use Rattle.act_early.proofs.Common.{◌≡◌, ℕ, ◌≤◌, Bool, true, false
 use Rattle.act_early.proofs.Common.{slice_get, option_map, option_and_then, find, Err, filter_map-append, slice_get-map, KindState, ActorDied, RunItem}
 use Rattle.act_early.proofs.Common.{Submission, Step, Answer, answer_at, has_terminated, kept_at, ActorSpec, History, contains, runs_of, calls_of, kept_of}
 use Rattle.act_early.proofs.Common.{opening_of, is_dead, IsPrefix, slice_get_front, answer_at-front, Extends, answers_are, deaths_are, or_left, held_submission}
-use Rattle.act_early.proofs.Common.{At, steps_of, is_reply, is_heard, choices_of, IsQuiescent, false_from_ne_true, front_whole, named_call}
-use Rattle.act_early.proofs.Worlds.{IsWorld, either_of, or_second, not_so}
+use Rattle.act_early.proofs.Common.{At, steps_of, is_reply, is_heard, choices_of, IsQuiescent, false_from_ne_true, front_whole, named_call, or_right}
+use Rattle.act_early.proofs.Worlds.{IsWorld, either_of, not_so}
 use Rattle.act_early.proofs.Counting.{take-prefix}
 use Rattle.act_early.proofs.Progress.{Follows, submission_in}
 use Rattle.act_early.proofs.Replies.{reply_some, reply_alive, reply_died, death_answers}
@@ -45,7 +45,7 @@ pub dead_ahead : (a : ℕ) (play early late : At) → Matches play.history early
 dead_ahead a play early late m ahead dead =
     either_of (contains a play.history.killed) (has_terminated (runs_of a play.history)) (is_dead a early.history ≡ true) dead
     (λ killed. or_left (contains a early.history.killed) (has_terminated (runs_of a early.history)) (m.killed a killed))
-    (λ ended. or_second (contains a early.history.killed) (ap has_terminated (sym (dead_runs a play early late m ahead dead)) ∙ ended))
+    (λ ended. or_right (contains a early.history.killed) _ (ap has_terminated (sym (dead_runs a play early late m ahead dead)) ∙ ended))
 
 -- ---- what was heard
 

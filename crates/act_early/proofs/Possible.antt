@@ -1,9 +1,9 @@
 -- What the late play may choose, a quiescent play with the same choices so far may choose.
-use Rattle.act_early.proofs.Common.{◌≡◌, ℕ, ◌≤◌, Bool, true, false, List, length, Some, None, refl, ap, sym, ◌∙◌, subst, ◌==◌, find, map, slice_get, is_some}
-use Rattle.act_early.proofs.Common.{list_all, list_any, list_any-append, Settled, RunItem, Submission, Step, is_kill_of, calls_to, number_of, kept_at, is_known}
+use Rattle.act_early.proofs.Common.{◌≡◌, ℕ, ◌≤◌, true, false, List, length, Some, None, refl, ap, sym, ◌∙◌, subst, ◌==◌, find, map, slice_get, is_some}
+use Rattle.act_early.proofs.Common.{list_all, list_any, Settled, RunItem, Submission, Step, is_kill_of, calls_to, number_of, kept_at, is_known}
 use Rattle.act_early.proofs.Common.{settle, ActorSpec, contains, names, is_caller, cast_of, runs_of, calls_of, kept_of, is_dead, is_retired, is_ended}
 use Rattle.act_early.proofs.Common.{has_letter, ran_count, next_item, refusal_of, call_letter, items_of, IsPrefix, or_from, slice_get_front, calls_to_grow}
-use Rattle.act_early.proofs.Common.{run_needs, Extends, arguments_stay, calls_to-at, At, steps_of, IsPlay, IsQuiescent, IsSound, or_left, CallLetter}
+use Rattle.act_early.proofs.Common.{run_needs, Extends, arguments_stay, calls_to-at, At, steps_of, IsPlay, IsQuiescent, IsSound, CallLetter, any_front}
 use Rattle.act_rules.specs.declared.event.Event.TheVariants as event
 use Rattle.act_early.proofs.Worlds.{take_needs, either_of, not_so, not_dead}
 use Rattle.act_early.proofs.Counting.{done_steps, take-prefix}
@@ -65,9 +65,6 @@ runs_alike plans a c {play} {early} sound r quiescent live is =
     rw (same_count, arrived, at) (ap (λ i. Some i) (ap with_args (settled_args.1)) ∙ ap (λ i. Some i) is.next.is)
 
 -- ---- a kill
-
-any_front : (p : Step → Bool) (xs ys : List Step) → IsPrefix xs ys → list_any p xs ≡ true → list_any p ys ≡ true
-any_front p xs ys f e = subst (λ l. list_any p l ≡ true) f.1 (list_any-append p xs f.0 ∙ or_left (list_any p xs) (list_any p f.0) e)
 
 -- an actor whose kill isn't refused in the play isn't refused it in a quiescent play that has reached it there
 pub may_kill : (specs : List ActorSpec) (plans : ℕ → List Step) (a : ℕ) {play early : At} → IsPlay specs plans play → IsPlay specs plans early →

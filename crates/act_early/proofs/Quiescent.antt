@@ -4,11 +4,12 @@ use Rattle.act_early.proofs.Common.{kept_at, ActorSpec, History, contains, names
 use Rattle.act_early.proofs.Common.{IsQuiescent, NoCaller, named_among, named_call}
 use Rattle.act_early.proofs.Worlds.{IsWorld, world}
 use Rattle.act_early.proofs.Quiesces.{Quiesces, quiesces_trans}
-use Rattle.act_early.proofs.Listed.{all_callers, all_actors, caller_listed, actor_listed, all_listed, IsOpen}
+use Rattle.act_early.proofs.Listed.{all_callers, all_actors, caller_listed, actor_listed, IsOpen}
 use Rattle.act_early.proofs.Telling.{IsTold, told_stays, quiescence, tell_all}
 use Rattle.act_early.proofs.Stepping.{IsStuck, going_on, step_all}
 use Rattle.act_early.proofs.Closing.{IsClosed, closing_on, close_all}
 use Rattle.act_early.proofs.Mailing.{IsSent, IsNoted, mailing, send_all, note_all}
+use Rattle.act_rules.proofs.Elements.{all_listed}
 
 -- ---- who does anything is listed
 

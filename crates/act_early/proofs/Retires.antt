@@ -1,10 +1,11 @@
 -- Where a quiescent play ends as an ended one did, its actors can retire.
 use Rattle.act_early.proofs.Common.{◌≡◌, ℕ, Bool, true, false, List, [], ◌∷◌, ◌++◌, None, refl, ap, sym, ◌∙◌, subst, ◌==◌, ◌||◌, find, slice_get, is_some}
 use Rattle.act_early.proofs.Common.{AllByRecursion, eqb-true, eq-eqb, Step, kept_at, ActorSpec, contains, cast_of, is_dead, is_retired, is_ended, refusal_of}
-use Rattle.act_early.proofs.Common.{At, IsPlay, Happens, IsQuiescent, IsEnded, EndsAlike, IsSameEnd, or_left, both_ways}
+use Rattle.act_early.proofs.Common.{At, IsPlay, Happens, IsQuiescent, IsEnded, EndsAlike, IsSameEnd, or_left, both_ways, contains_push, or_right}
 use Rattle.act_rules.specs.declared.event.Event.TheVariants as event
-use Rattle.act_early.proofs.Worlds.{IsWorld, world, contains_push, either_of, or_second, not_dead, retire_needs}
-use Rattle.act_early.proofs.Listed.{all_actors, all_listed, cast_listed}
+use Rattle.act_early.proofs.Worlds.{IsWorld, world, either_of, not_dead, retire_needs}
+use Rattle.act_early.proofs.Listed.{all_actors, cast_listed}
+use Rattle.act_rules.proofs.Elements.{all_listed}
 
 -- the play, with these actors retired
 abbrev pub with_retired : At → List ℕ → At
@@ -38,7 +39,7 @@ retire_one specs plans early late x before ends play only = go (is_retired x lat
           only = λ a e. either_of (contains a before) (x == a) (is_retired a late.history ≡ true) (sym (contains_push a x before) ∙ e) (only a)
               (λ same. subst (λ y. is_retired y late.history ≡ true) (eqb-true x a same) is);
           stay = λ a e. contains_push a x before ∙ or_left (contains a before) (x == a) e;
-          all = ((λ _. contains_push x x before ∙ or_second (contains x before) (eq-eqb x x refl)), tt);
+          all = ((λ _. contains_push x x before ∙ or_right (contains x before) _ (eq-eqb x x refl)), tt);
         }
 
 retire_all : (specs : List ActorSpec) (plans : ℕ → List Step) (early late : At) (xs before : List ℕ) → EndsAlike plans early late.history → IsPlay specs plans

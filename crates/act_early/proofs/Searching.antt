@@ -4,9 +4,9 @@ use Rattle.act_early.proofs.Common.{arith, ◌==◌, ◌||◌, map, drop, slice_
 use Rattle.act_early.proofs.Common.{take-append-drop, Event, RunItem, Step, has_terminated, ActorSpec, History, under, contains, runs_of, next_item, refusal_of}
 use Rattle.act_early.proofs.Common.{add_event, after_run, IsPrefix, slice_get_front, under-push, run_needs, run_stands, next_item_caller, At, taken, skipped}
 use Rattle.act_early.proofs.Common.{with_event, IsPlay, Opens, Takes, Skips, Closes, Happens, is_heard, choices_of, HasRunMore, IsWholeSearch, LosesOnly}
-use Rattle.act_early.proofs.Common.{front_whole}
+use Rattle.act_early.proofs.Common.{front_whole, contains_push}
 use Rattle.act_rules.specs.declared.event.Event.TheVariants as event
-use Rattle.act_early.proofs.Worlds.{world, contains_push}
+use Rattle.act_early.proofs.Worlds.{world}
 use Rattle.act_early.proofs.Counting.{take-at}
 use Rattle.act_early.proofs.Progress.{follows}
 use Rattle.act_early.proofs.Replies.{front_short}

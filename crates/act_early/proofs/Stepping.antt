@@ -92,18 +92,19 @@ may_or_not : (c : ℕ) (step : Step) (h : History) → MayTake c step h ⊎ (May
 may_or_not c (Await k) h = true_or (is_some (kept_at (kept_of c h) k))
 may_or_not c step h = is_none_or (refusal_of h (event_of c step))
 
+-- a step of a plan ends no actor
+pub step_dead : (c a : ℕ) (step : Step) (h : History) → is_dead a (after_step c step h) ≡ is_dead a h
+step_dead c a (Submit b method args) h = refl
+step_dead c a step h = refl
+
 -- another caller that waits goes on waiting
 others_wait : (plans : ℕ → List Step) (c d : ℕ) (step : Step) (p : At) → IsSound p.history → (c == d) ≡ false → IsStuck plans d p
     → IsStuck plans d (taken c step p)
 others_wait plans c d step p sound e s = record {
   waits = λ later next may. s.waits later (sym (other_next plans c d p e) ∙ next) (may_before c d step later p.history sound e may);
-  needs = λ a next named. dead c step p.history a ∙ s.needs a (sym (other_next plans c d p e) ∙ next)
+  needs = λ a next named. step_dead c a step p.history ∙ s.needs a (sym (other_next plans c d p e) ∙ next)
       (ap (λ l. names d (find (λ (cast : ActorSpec). cast.actor == a) l)) (sym (step_casts c step p.history)) ∙ named);
 }
-  where
-    dead : (c : ℕ) (step : Step) (h : History) (a : ℕ) → is_dead a (after_step c step h) ≡ is_dead a h
-    dead c (Submit b method args) h a = refl
-    dead c step h a = refl
 
 others_wait_on : (plans : ℕ → List Step) (c d : ℕ) (p : At) → (c == d) ≡ false → IsStuck plans d p → IsStuck plans d (skipped c p)
 others_wait_on plans c d p e s = record {

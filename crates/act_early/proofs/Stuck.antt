@@ -4,9 +4,9 @@ use Rattle.act_early.proofs.Common.{◌∙◌, subst, arith, ◌==◌, ◌||◌,
 use Rattle.act_early.proofs.Common.{length_push, Event, RunItem, Step, has_terminated, ActorSpec, History, under, contains, runs_of, is_dead, next_item}
 use Rattle.act_early.proofs.Common.{refusal_of, add_event, after_run, slice_get_front, under-push, run_needs, run_stands, next_item_caller, At, after_step}
 use Rattle.act_early.proofs.Common.{IsPlay, Opens, Takes, Skips, Closes, Happens, is_heard, choices_of, IsQuiescent, IsFrontOf, Nearer, Whole, MayRun, MayKill}
-use Rattle.act_early.proofs.Common.{front_whole}
+use Rattle.act_early.proofs.Common.{front_whole, contains_push, or_right}
 use Rattle.act_rules.specs.declared.event.Event.TheVariants as event
-use Rattle.act_early.proofs.Worlds.{world, contains_push, either_of, not_dead, take_needs, or_second}
+use Rattle.act_early.proofs.Worlds.{world, either_of, not_dead, take_needs}
 use Rattle.act_early.proofs.Replies.{front_short}
 use Rattle.act_early.proofs.Earlier.{IsEarlier, earlier_same, earlier_trans, earlier_event, earlier_step, step_runs, step_kills}
 use Rattle.act_early.proofs.Matching.{Matches, IsAhead, AreWorlds, calls_ahead, choice_at, kept_ahead}
@@ -127,7 +127,7 @@ kill_near casts plans b before early late both goes is f may was later cov = go 
     h = before.history
 
     taken_here : contains b (h.killed ++ b ∷ []) ≡ true
-    taken_here = contains_push b b h.killed ∙ or_second (contains b h.killed) (eq-eqb b b refl)
+    taken_here = contains_push b b h.killed ∙ or_right (contains b h.killed) _ (eq-eqb b b refl)
 
     dead_after : (contains b (h.killed ++ b ∷ []) || has_terminated (runs_of b h)) ≡ true
     dead_after = ap (λ x. x || has_terminated (runs_of b h)) taken_here

@@ -1,10 +1,11 @@
 -- What is told of ends, part by part.
-use Rattle.act_early.proofs.Common.{◌≡◌, ℕ, ◌≤◌, Bool, true, false, List, ◌++◌, Option, Some, None, refl, ap, sym, ◌∙◌, ◌==◌, ◌||◌, find, map, is_some}
+use Rattle.act_early.proofs.Common.{◌≡◌, ℕ, ◌≤◌, Bool, true, false, List, ◌++◌, Option, Some, None, refl, ap, sym, ◌∙◌, ◌||◌, map, is_some}
 use Rattle.act_early.proofs.Common.{option_map, RunItem, Step, state_after, ActorSpec, History, cast_of, calls_of, kept_of, runs_of, is_dead, is_retired}
 use Rattle.act_early.proofs.Common.{is_ended, flat_map, summary, one_to, future_lines, actor_lines, stage_of, stage_text, At, IsPlay, IsEnded, EndsAlike}
-use Rattle.act_early.proofs.Common.{IsSameEnd, told_at_rest, numbers_alike}
-use Rattle.act_early.proofs.Worlds.{world, or_second}
+use Rattle.act_early.proofs.Common.{IsSameEnd, told_at_rest, numbers_alike, or_right}
+use Rattle.act_early.proofs.Worlds.{world}
 use Rattle.act_early.proofs.Listed.{cast_listed}
+use Rattle.act_rules.proofs.Callers.{cast_of-same}
 
 -- how an actor with this cast stands
 abbrev pub stage_from : Option ActorSpec → Bool → Bool → List RunItem → Option (List ℕ)
@@ -21,13 +22,10 @@ told_alike one other calls kept stages runs =
     (numbers_alike (λ a. actor_lines a (runs_of a one) (stage_of a one)) (λ a. actor_lines a (runs_of a other) (stage_of a other)) 8
     (λ a low high. ap (λ l. actor_lines a l (stage_of a one)) (runs a) ∙ ap (λ o. actor_lines a (runs_of a other) o) (stages a low high)))
 
-cast_alike : (a : ℕ) (one other : History) → one.casts ≡ other.casts → cast_of a one ≡ cast_of a other
-cast_alike a one other same = ap (λ casts. find (λ cast. cast.actor == a) casts) same
-
 stage_alike : (a : ℕ) (one other : History) → one.casts ≡ other.casts → is_dead a one ≡ is_dead a other → is_retired a one ≡ is_retired a other
     → runs_of a one ≡ runs_of a other → stage_of a one ≡ stage_of a other
 stage_alike a one other casts dead retired runs =
-    ap (λ cast. stage_from cast (is_dead a one) (is_retired a one) (runs_of a one)) (cast_alike a one other casts)
+    ap (λ cast. stage_from cast (is_dead a one) (is_retired a one) (runs_of a one)) (cast_of-same other one a casts)
     ∙ ap (λ b. stage_from (cast_of a other) b (is_retired a one) (runs_of a one)) dead
     ∙ ap (λ b. stage_from (cast_of a other) (is_dead a other) b (runs_of a one)) retired
     ∙ ap (λ items. stage_from (cast_of a other) (is_dead a other) (is_retired a other) items) runs
@@ -53,16 +51,16 @@ pub ended_told : (one other : History) → one.casts ≡ other.casts → ((c : �
     → ((a : ℕ) → runs_of a one ≡ runs_of a other) → ((a : ℕ) → is_dead a one ≡ is_dead a other) → AllEnded one → AllEnded other → summary one ≡ summary other
 ended_told one other casts calls kept runs dead first second =
     let stages : (a : ℕ) → 1 ≤ a → a ≤ 8 → stage_of a one ≡ stage_of a other =
-    λ a low high. ap (λ cast. stage_from cast (is_dead a one) (is_retired a one) (runs_of a one)) (cast_alike a one other casts)
+    λ a low high. ap (λ cast. stage_from cast (is_dead a one) (is_retired a one) (runs_of a one)) (cast_of-same other one a casts)
     ∙ ap (λ b. stage_from (cast_of a other) b (is_retired a one) (runs_of a one)) (dead a)
     ∙ ap (λ items. stage_from (cast_of a other) (is_dead a other) (is_retired a one) items) (runs a)
     ∙ ended_stage (cast_of a other) (is_dead a other) (is_retired a one) (is_retired a other) (runs_of a other)
-    (λ there. ap (λ b. b || is_retired a one) (sym (dead a)) ∙ first a low high (ap (λ cast. is_some cast) (cast_alike a one other casts) ∙ there))
+    (λ there. ap (λ b. b || is_retired a one) (sym (dead a)) ∙ first a low high (ap (λ cast. is_some cast) (cast_of-same other one a casts) ∙ there))
     (λ there. second a low high there) in
     told_alike one other calls kept stages runs
 
 pub at_rest : (h : History) → AllEnded (record h { retired = map (λ cast. cast.actor) h.casts })
-at_rest h a low high there = or_second (is_dead a h) (cast_listed a h.casts there)
+at_rest h a low high there = or_right (is_dead a h) _ (cast_listed a h.casts there)
 
 -- where a play ends as an ended one did, the same is told of it, once its actors retired, as of that one
 pub alike_told : (casts : List ActorSpec) {plans : ℕ → List Step} {early : At} (late : At) → IsPlay casts plans early → IsPlay casts plans late →

@@ -1,10 +1,10 @@
 -- What every play of plans leaves is a world: each of its parts fits the others.
 use Rattle.act_early.proofs.Common.{◌≡◌, ℕ, Bool, true, false, List, [], ◌∷◌, ◌++◌, Some, None, refl, sym, ◌∙◌, subst, Option, ◌==◌, ◌||◌, not, is_some}
-use Rattle.act_early.proofs.Common.{eqb-true, not-true, list_any-append, RunItem, Handle, ActorEnded, NoKill, NotDrained, NoActor, Step, Submit, Copy, Release}
+use Rattle.act_early.proofs.Common.{eqb-true, not-true, RunItem, Handle, ActorEnded, NoKill, NotDrained, NoActor, Step, Submit, Copy, Release}
 use Rattle.act_early.proofs.Common.{Kill, Await, has_terminated, needs, ActorSpec, History, opening, contains, runs_of, cast_of, is_dead, is_retired, is_ended}
 use Rattle.act_early.proofs.Common.{is_drained, next_item, refusal_of, add_event, after_run, IsKept, added_grows, needs-none, ended_stays, NothingFollows}
 use Rattle.act_early.proofs.Common.{nothing_follows_step, IsSound, sound_step, world_sound, Retires, retires_step, world_retires, At, after_step, MayTake}
-use Rattle.act_early.proofs.Common.{IsPlay, Opens, Takes, Skips, Closes, Happens, or_parts, Event}
+use Rattle.act_early.proofs.Common.{IsPlay, Opens, Takes, Skips, Closes, Happens, or_parts, Event, or_right, contains_push}
 use Rattle.act_rules.specs.declared.event.Event.TheVariants as event
 
 -- ---- what each event keeps holds of every play
@@ -33,25 +33,10 @@ play_keeps P kept {casts} {plans} at first (Happens before other play free may) 
 
 -- ---- a retired actor isn't dead
 
--- no test more changes nothing
-pub or_last : (x y : Bool) → (x || (y || false)) ≡ (x || y)
-or_last true y = refl
-or_last false true = refl
-or_last false false = refl
-
--- a pushed list contains what it contained before and the number pushed, and no other
-pub contains_push : (a b : ℕ) (xs : List ℕ) → contains a (xs ++ b ∷ []) ≡ (contains a xs || (b == a))
-contains_push a b xs = list_any-append (λ m. m == a) xs (b ∷ []) ∙ or_last (contains a xs) (b == a)
-
 -- what follows of each of two tests holds where one of them passes
 pub either_of : (x y : Bool) (P : Type 0) → (x || y) ≡ true → (x ≡ true → P) → (y ≡ true → P) → P
 either_of true y P e f g = f refl
 either_of false y P e f g = g e
-
--- one of two tests passes where the second does
-pub or_second : (x : Bool) {y : Bool} → y ≡ true → (x || y) ≡ true
-or_second true e = refl
-or_second false e = e
 
 -- no test comes out both ways
 pub not_so : {b : Bool} → b ≡ true → b ≡ false → ⊥
@@ -86,7 +71,7 @@ retired_run h b c live accepted a retired = go (next_item b c h) refl retired
     go : (o : Option RunItem) → next_item b c h ≡ o → is_retired a (after_run b c h o) ≡ true → is_dead a (after_run b c h o) ≡ false
     go None e r = live a r
     go (Some item) e r =
-        let ended : is_ended a h ≡ true = or_second (is_dead a h) r in
+        let ended : is_ended a h ≡ true = or_right (is_dead a h) _ r in
         let same = (ended_stays a (runs_of a h) h (event.Run b c) (record { ended = ended; same = refl }) accepted).same in
         let same' : runs_of a (after_run b c h (Some item)) ≡ runs_of a h =
         subst (λ o. runs_of a (after_run b c h o) ≡ runs_of a h) e same in
@@ -98,7 +83,7 @@ retired_live_step h (event.TakeKill b) live accepted a retired = go (b == a) ref
   where
     go : (same : Bool) → (b == a) ≡ same → (contains a (h.killed ++ b ∷ []) || has_terminated (runs_of a h)) ≡ false
     go true e =
-        let is : b ≡ a = eqb-true b a e in let ended : is_ended a h ≡ true = or_second (is_dead a h) retired in
+        let is : b ≡ a = eqb-true b a e in let ended : is_ended a h ≡ true = or_right (is_dead a h) _ retired in
         let lives : is_ended a h ≡ false = subst (λ x. is_ended x h ≡ false) is (take_needs h b accepted).1 in
         let bad : true ≡ false = sym ended ∙ lives in cc
     go false e = let lives = or_parts (contains a h.killed) (has_terminated (runs_of a h)) (live a retired) in

@@ -1,5 +1,6 @@
 -- Early is enough: what a search comes to that does all as early as it can, but for the choices.
-use Rattle.std.specs.Prelude.{◌≡◌, ℕ, ◌==◌, ◌||◌, Bool, true, false, if◌then◌else◌, List, [], ◌∷◌, ◌++◌, map, length, slice_get, Option, Some, None, is_some, Ok, Err, Contains}
+use Rattle.std.specs.Prelude.{◌≡◌, ℕ, ◌==◌, ◌||◌, Bool, true, false, if◌then◌else◌, List, [], ◌∷◌, ◌++◌, map, length, slice_get, Option, Some, None, is_some}
+use Rattle.std.specs.Prelude.{Ok, Err, Contains}
 use Rattle.std.specs.List.{list_all}
 use Rattle.act_types.specs.declared.call.Fault.TheVariants.{ActorDied}
 use Rattle.act_rules.specs.declared.event.Event.TheVariants.{Run, TakeKill, Retire}
@@ -9,7 +10,8 @@ use Rattle.act_rules.specs.declared.history.RunItem.{RunItem}
 use Rattle.act_rules.specs.declared.history.Submission.{Submission}
 use Rattle.act_rules.specs.declared.script.Step.{Step}
 use Rattle.act_rules.specs.declared.script.Step.TheVariants.{Kill}
-use Rattle.act_rules.specs.History.{ActorSpec, History, contains, cast_of, names, calls_of, copies_of, runs_of, kept_of, is_dead, is_retired, is_ended, has_letter, next_item}
+use Rattle.act_rules.specs.History.{ActorSpec, History, contains, cast_of, names, calls_of, copies_of, runs_of, kept_of, is_dead, is_retired, is_ended}
+use Rattle.act_rules.specs.History.{has_letter, next_item}
 use Rattle.act_rules.specs.RunList.{Answer}
 use Rattle.act_rules.specs.Rules.{refusal_of, call_letter}
 use Rattle.act_rules.specs.Submissions.{calls_to, kept_at, is_known}

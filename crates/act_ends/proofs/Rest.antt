@@ -1,7 +1,7 @@
 -- Actors that retire, one after another.
 use Rattle.act_ends.proofs.Common.{◌≡◌, ℕ, ◌+◌, ◌≤◌, arith, Bool, true, false, List, [], ◌∷◌, ◌++◌, Option, Some, None, Ok, refl, ap, sym, ◌∙◌, ◌||◌, ◌==◌}
 use Rattle.act_ends.proofs.Common.{is_some, map, ActorSpec, History, contains, cast_of, is_dead, history, WorldView, world_summary, IsResting}
-use Rattle.std.proofs.lemmas.Bool.{eqb-true, eqb-false, eq-eqb}
+use Rattle.std.proofs.lemmas.Bool.{eqb-true, eqb-false, eq-eqb, or_right}
 use Rattle.act_rules.specs.declared.event.Event.{Event}
 use Rattle.act_rules.specs.declared.event.Event.TheVariants as event
 use Rattle.act_rules.specs.declared.outcome.Did.{Did}
@@ -11,9 +11,9 @@ use Rattle.act_rules.specs.Rules.{outcome_by, outcome_of, refusal_of, add_event,
 use Rattle.act_world.specs.IsReachedBy.{IsReachedBy}
 use Rattle.act_early.specs.Told.{told_at_rest}
 use Rattle.act_early.proofs.Told.{ended_told, at_rest}
-use Rattle.act_early.proofs.Worlds.{contains_push, or_second}
 use Rattle.act_console.proofs.Shown.{summary_is}
 use Rattle.act_rules.proofs.Events.{history_more}
+use Rattle.act_rules.proofs.Ended.{contains_push}
 
 accepted : (h : History) (event : Event) (refusal : Option WorldRefusal) (did : Did) → Ok did ≡ outcome_by h event refusal → refusal ≡ None
 accepted h event None did e = refl
@@ -50,8 +50,8 @@ rest_more casts h {n} {a} new did next told reached is = record {
 
     go : (b : ℕ) → 1 ≤ b → (c : Bool) → (b == a) ≡ c → b ≤ n + 1 → Rests b
     go b low true same high there =
-        or_second (is_dead b h)
-        (contains_push b a is.retired ∙ or_second (contains b is.retired) (eq-eqb a b (sym (eqb-true b a same))))
+        or_right (is_dead b h) _
+        (contains_push b a is.retired ∙ or_right (contains b is.retired) _ (eq-eqb a b (sym (eqb-true b a same))))
     go b low false other high there =
         let differs : b ≡ a → ⊥ = eqb-false b a other in
         ap (λ x. is_dead b h || x) (contains_push b a is.retired)

@@ -7,7 +7,7 @@ pub use Rattle.act_actor.specs.Life.{ActorMayDo, ActorMayDoAll, call_run, has_di
 pub use Rattle.act_actor.specs.View.{LiveView}
 pub use Rattle.act_actor.specs.declared.cast.Cast.{Cast}
 pub use Rattle.act_causes.proofs.Example.{all_one}
-pub use Rattle.act_causes.proofs.Found.{found_append, found_from, found_is as found_alone, place_in_front}
+pub use Rattle.act_causes.proofs.Found.{found_from, found_is as found_alone, place_in_front}
 pub use Rattle.act_causes.proofs.Fronts.{EachFront, IsStepwisePlay, KeepsAnswers, letter_of, post_of}
 pub use Rattle.act_causes.proofs.Merging.{merge_of}
 pub use Rattle.act_causes.proofs.Replaying.{play_of}
@@ -57,6 +57,7 @@ pub use Rattle.act_handles.specs.Handles.{actors_in, copies_in, with_copy, witho
 pub use Rattle.act_handles.specs.declared.handles.Handle.{Handle}
 pub use Rattle.act_lists.proofs.Lists.{all_from_places, element}
 pub use Rattle.act_lists.proofs.Options.{cond_gives}
+pub use Rattle.act_mailbox.proofs.Clocks.{found_more}
 pub use Rattle.act_mailbox.specs.Controls.{ControlExecView, ControlView, asker_of, starter}
 pub use Rattle.act_mailbox.specs.Lines.{items_from, items_from as items_put}
 pub use Rattle.act_mailbox.specs.Mails.{MailView, caller_of}

@@ -1,5 +1,6 @@
 -- What the threads of a run leave, once their lines were audited.
-use Rattle.std.specs.Prelude.{◌≡◌, ◌≢◌, ℕ, ◌<◌, true, false, List, [], ◌∷◌, ◌++◌, length, map, zip, slice_get, slice_index_or, Some, is_some, All, AllPairs, Contains}
+use Rattle.std.specs.Prelude.{◌≡◌, ◌≢◌, ℕ, ◌<◌, true, false, List, [], ◌∷◌, ◌++◌, length, map, zip, slice_get, slice_index_or, Some, is_some, All, AllPairs}
+use Rattle.std.specs.Prelude.{Contains}
 use Rattle.act_types.specs.declared.limits.TheConstants.{MAX_ACTORS, MAX_CALLERS}
 use Rattle.act_rules.specs.declared.script.Step.{Step}
 use Rattle.act_rules.specs.RunList.{NothingFollowsAnEnd}

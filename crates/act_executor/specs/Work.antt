@@ -111,7 +111,14 @@ driving_start driving = record {
 }
 
 abbrev pub setup_start : {D : Type 0} → Lines → (ℕ → D) → CallerSetup × Endpoint CallerPasses → CallerStart D
-setup_start lines conduct_of given = record { owner = opened_under given.0.limits.items given.0.caller given.0.actors.items; plan = given.0.plan.items; conduct = conduct_of given.0.caller; passes = given.1.pass; mails = lines.mails.items; controls = lines.controls.items }
+setup_start lines conduct_of given = record {
+  owner = opened_under given.0.limits.items given.0.caller given.0.actors.items;
+  plan = given.0.plan.items;
+  conduct = conduct_of given.0.caller;
+  passes = given.1.pass;
+  mails = lines.mails.items;
+  controls = lines.controls.items;
+}
 
 -- the starter's pass at its place of the control lines, with which nothing was asked
 pub record IsUnusedStarter (controls : List ControlView) (endpoint : Endpoint (PutterView Asked ℕ)) : Type 0 where

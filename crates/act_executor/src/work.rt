@@ -148,7 +148,8 @@ fn add_serving<'a, K: Actor, G, N: Notes + Drop, L: RunLog>(
     ensures ready { IfOk result (λ _. All CanServe servings.new.items) }
     ensures starts { IfOk result (λ _.
         map (serving_start K.state) servings.new.items ≡
-        map (serving_start K.state) servings.old.items ++ cast_start K.state lines.now.replies.items (cast, exec) ∷ []) }
+        map (serving_start K.state) servings.old.items ++
+        cast_start K.state lines.now.replies.items (cast, exec) ∷ []) }
 {
     let Cast {
         actor,

@@ -1,9 +1,10 @@
 -- When nothing waits any more, the search was whole.
-use Rattle.act_explore.proofs.Common.{◌≡◌, ◌⊎◌, ℕ, ◌||◌, Bool, true, false, List, [], ◌∷◌, ◌++◌, refl, sym, subst, arith, inl, inr, Contains, All-contains}
+use Rattle.act_explore.proofs.Common.{◌≡◌, ◌⊎◌, ℕ, true, false, List, [], ◌∷◌, ◌++◌, sym, subst, arith, inl, inr, Contains, All-contains}
 use Rattle.act_explore.proofs.Common.{All-nil, All-weaker, Event, Step, ActorSpec, runs_of, At, HasRunMore, IsWholeSearch, Choice, Run, Take, HasChosen, IsDone}
-use Rattle.act_explore.proofs.Common.{HasPassed, HasMade, HasNumber, key_of, Left, IsKnown, Waits, IsLookedAt, IsSeen, HasSearched, HasSearchedAll}
+use Rattle.act_explore.proofs.Common.{HasPassed, HasMade, HasNumber, key_of, Left, IsKnown, Waits, IsLookedAt, IsSeen, HasSearched, HasSearchedAll, ◌∙◌}
 use Rattle.act_explore.proofs.Keys.{same_key}
 use Rattle.act_explore.proofs.Paths.{made_same, chosen_more, none_ran, none_killed}
+use Rattle.std.proofs.Math.Bool.{or-false}
 
 module _ (casts : List ActorSpec) (plans : ℕ → List Step) (Passed : List Event → Type 0) (left : Left) (seen : List At)
     (searched : HasSearched casts plans Passed left seen) (nothing : left.waiting ≡ []) where
@@ -45,10 +46,6 @@ module _ (casts : List ActorSpec) (plans : ℕ → List Step) (Passed : List Eve
       let first = maker [] (record { numbers = All-nil HasNumber; known = searched.first }) in
       (first.0, first.1.seen_at, λ a. none_ran first.0.history a first.1.made, none_killed first.1.made)
 
-  kept : (heard : Bool) → (heard || false) ≡ true → heard ≡ true
-  kept true e = refl
-  kept false e = e
-
   pub whole : IsWholeSearch casts plans (λ a. false) (Contains seen)
   whole = record {
     plays = λ at here. (looked at here).stands.play;
@@ -56,7 +53,7 @@ module _ (casts : List ActorSpec) (plans : ℕ → List Step) (Passed : List Eve
     start = start;
     runs = λ at a c heard here may some is.
         let next = next_of at (Run a c) here ((looked at here).next.runs a c may some) in
-        (next.0, next.1, subst (λ t. HasRunMore a c t at.history next.0.history) (sym (kept heard is)) next.2);
+        (next.0, next.1, subst (λ t. HasRunMore a c t at.history next.0.history) (sym is ∙ or-false heard) next.2);
     takes = λ at a here may. next_of at (Take a) here ((looked at here).next.takes a may);
   }
 

@@ -2,7 +2,7 @@
 pub use Rattle.act_actor.specs.Casts.{actor_spec}
 pub use Rattle.act_actor.specs.declared.cast.Cast.{Cast}
 pub use Rattle.act_early.proofs.Ending.{enough}
-pub use Rattle.act_rules.proofs.Callers.{named_among}
+pub use Rattle.act_rules.proofs.Callers.{is_named, named_among}
 pub use Rattle.act_early.proofs.Worlds.{world}
 pub use Rattle.act_early.specs.Early.{EndsAlike, HasRunMore, IsQuiescent, IsWholeSearch, is_heard}
 pub use Rattle.act_early.specs.Plays.{At, IsPlay}
@@ -42,7 +42,7 @@ pub use Rattle.act_serve.specs.Served.{EndView}
 pub use Rattle.act_thread_ends.proofs.Ends.{seen_end}
 pub use Rattle.act_thread_ends.proofs.Fitting.{of_a_run}
 pub use Rattle.act_thread_ends.proofs.Left.{owner_left}
-pub use Rattle.act_thread_ends.proofs.Plans.{is_named, no_plan}
+pub use Rattle.act_thread_ends.proofs.Plans.{no_plan}
 pub use Rattle.act_thread_ends.specs.ThreadEnds.{AreOfARun, EndsAsThreads}
 pub use Rattle.act_types.specs.KindState.{KindState}
 pub use Rattle.act_types.specs.declared.limits.TheConstants.{MAX_CALLERS}

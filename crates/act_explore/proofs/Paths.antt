@@ -1,10 +1,13 @@
 -- One choice more on a path, and in the history that it made.
 use Rattle.act_explore.proofs.Common.{◌≡◌, ℕ, ◌+◌, ◌<◌, ◌==◌, ◌||◌, Bool, true, false, List, [], ◌∷◌, ◌++◌, map, take, length, get_or, option_to_list}
-use Rattle.act_explore.proofs.Common.{if◌then◌else◌, Option, Some, None, refl, sym, ap, ◌∙◌, append-nil, append_assoc, eq-eqb, filter_map, map-append}
-use Rattle.act_explore.proofs.Common.{take_more, filter_map-append, list_any-append, RunItem, History, contains, runs_of, is_heard, Choice, Run, Take}
+use Rattle.act_explore.proofs.Common.{if◌then◌else◌, Option, Some, None, refl, sym, ap, ◌∙◌, append-nil, append_assoc, filter_map, map-append}
+use Rattle.act_explore.proofs.Common.{take_more, filter_map-append, RunItem, History, contains, runs_of, is_heard, Choice, Run, Take}
 use Rattle.act_explore.proofs.Common.{HasChosen, run_at, is_take, runs_in, takes_in, HasMade, letter_of}
 use Rattle.act_explore.proofs.Keys.{AreSame}
-use Rattle.act_plan_plays.proofs.Opened.{map_none}
+use Rattle.act_plan_plays.proofs.Common.{map_none}
+use Rattle.act_plan_plays.proofs.Opened.{contained_none}
+use Rattle.act_rules.proofs.Lists.{any_push}
+use Rattle.std.proofs.Math.Bool.{or-false}
 
 abbrev heard : ℕ → ℕ × Bool
 heard c = (c, true)
@@ -22,15 +25,7 @@ pub runs_more : (a : ℕ) (path : List Choice) (choice : Choice) → runs_in a (
 runs_more a path choice = filter_map-append (run_at a) path (choice ∷ []) ∙ ap (λ l. runs_in a path ++ l) (single a choice)
 
 pub takes_more : (a : ℕ) (path : List Choice) (choice : Choice) → takes_in a (path ++ choice ∷ []) ≡ (takes_in a path || is_take a choice)
-takes_more a path choice = list_any-append (is_take a) path (choice ∷ []) ∙ ap (λ t. takes_in a path || t) (alone (is_take a choice))
-  where
-    alone : (t : Bool) → (t || false) ≡ t
-    alone true = refl
-    alone false = refl
-
-or_false : (t : Bool) → (t || false) ≡ t
-or_false true = refl
-or_false false = refl
+takes_more a path choice = any_push (is_take a) path choice
 
 one_more : (t : Bool) (c : ℕ) → map heard (option_to_list (if t then Some c else None)) ≡ (if t then (c, true) ∷ [] else [])
 one_more true c = refl
@@ -41,7 +36,7 @@ pub made_more : (path : List Choice) (choice : Choice) {h : History} (g : Histor
 made_more path (Run a c) g made chosen = record {
   choices = λ b. chosen.0 b ∙ ap (λ l. l ++ (if a == b then (c, true) ∷ [] else [])) (made.choices b) ∙ ap (λ l. map heard (runs_in b path) ++ l)
       (sym (one_more (a == b) c)) ∙ sym (ap (map heard) (runs_more b path (Run a c)) ∙ map-append heard (runs_in b path) (option_to_list (run_at b (Run a c))));
-  killed = λ b. chosen.1 b ∙ made.killed b ∙ sym (takes_more b path (Run a c) ∙ or_false (takes_in b path));
+  killed = λ b. chosen.1 b ∙ made.killed b ∙ sym (takes_more b path (Run a c) ∙ or-false (takes_in b path));
 }
 made_more path (Take a) g made chosen = record {
   choices = λ b. chosen.0 b ∙ made.choices b ∙ sym (ap (map heard) (runs_more b path (Take a) ∙ append-nil (runs_in b path)));
@@ -53,7 +48,7 @@ pub chosen_more : (path : List Choice) (choice : Choice) {h g : History} → Has
 chosen_more path (Run a c) made more = (
   λ b. more.choices b ∙ ap (map heard) (runs_more b path (Run a c)) ∙ map-append heard (runs_in b path) (option_to_list (run_at b (Run a c))) ∙
       ap (λ l. map heard (runs_in b path) ++ l) (one_more (a == b) c) ∙ ap (λ l. l ++ (if a == b then (c, true) ∷ [] else [])) (sym (made.choices b)),
-  λ b. more.killed b ∙ takes_more b path (Run a c) ∙ or_false (takes_in b path) ∙ sym (made.killed b),
+  λ b. more.killed b ∙ takes_more b path (Run a c) ∙ or-false (takes_in b path) ∙ sym (made.killed b),
 )
 chosen_more path (Take a) made more = (
   λ b. more.choices b ∙ ap (map heard) (runs_more b path (Take a) ∙ append-nil (runs_in b path)) ∙ sym (made.choices b),
@@ -68,15 +63,8 @@ made_same q same made = record { choices = λ a. made.choices a ∙ ap (map hear
 pub none_ran : (h : History) (a : ℕ) → HasMade [] h → runs_of a h ≡ []
 none_ran h a made = map_none (λ (i : RunItem). (i.caller, is_heard h i)) (runs_of a h) (made.choices a)
 
-contains_head : (x : ℕ) (xs : List ℕ) → contains x (x ∷ xs) ≡ true
-contains_head x xs = ap (λ t. t || contains x xs) (eq-eqb x x refl)
-
 pub none_killed : {h : History} → HasMade [] h → h.killed ≡ []
-none_killed {h} made = go h.killed made.killed
-  where
-    go : (killed : List ℕ) → ((a : ℕ) → contains a killed ≡ false) → killed ≡ []
-    go [] none = refl
-    go (x ∷ xs) none = let here = contains_head x xs in let no_more = none x in cc
+none_killed {h} made = contained_none h.killed made.killed
 
 pub made_none : (h : History) → ((a : ℕ) → runs_of a h ≡ []) → h.killed ≡ [] → HasMade [] h
 made_none h runs killed = record { choices = λ a. ap (map (λ (i : RunItem). (i.caller, is_heard h i))) (runs a); killed = λ a. ap (contains a) killed }

@@ -15,6 +15,11 @@ positive n is none = absurd (cc (sym is ∙ ap (nat_lt 0) none))
 pub copy_holds : (copies : Option ℕ) → copy_refusal copies ≡ None → copies_held copies ≢ 0
 copy_holds copies is = positive (copies_held copies) (needs-none _ _ _ (needs-none _ _ _ is).1).0
 
+-- a release leaves one copy less
+pub held_less : (copies : Option ℕ) → copies_held (option_map (λ n. n - 1) copies) ≡ copies_held copies - 1
+held_less None = refl
+held_less (Some n) = refl
+
 occurs_more : (a : ℕ) (xs : List ℕ) → occurrences a (xs ++ a ∷ []) ≡ occurrences a xs + 1
 occurs_more a xs =
     ap (λ l. length l) (filter-append (λ b. b == a) xs (a ∷ []))

@@ -1,16 +1,9 @@
 -- Where the lines of what was left begin, line by line.
-use Rattle.act_histories.proofs.Common.{◌≡◌, ◌≢◌, inl, inr, ℕ, ◌==◌, cond, Bool, true, false, List, [], ◌∷◌, ◌++◌, refl, sym, ap, ◌∙◌, append_assoc, tells_left}
+use Rattle.act_histories.proofs.Common.{◌≡◌, ◌≢◌, inl, inr, ℕ, ◌==◌, cond, true, false, List, [], ◌∷◌, ◌++◌, refl, sym, ap, ◌∙◌, append_assoc, tells_left}
 use Rattle.act_histories.proofs.Common.{told_part}
-use Rattle.std.proofs.lemmas.Bool.{eqb-true}
-use Rattle.std.proofs.lemmas.List.Elements.{All-head, All-tail}
+use Rattle.std.proofs.lemmas.List.Elements.{All-tail}
+use Rattle.act_decisions.proofs.Agreeing.{other_byte}
 use Rattle.act_decisions.proofs.Exact.{IsOfOneLine, IsCut}
-
-other_byte : (b : ℕ) (line : List ℕ) → IsOfOneLine (b ∷ line) → (b == 10) ≡ false
-other_byte b line plain = go (b == 10) refl
-  where
-    go : (is : Bool) → (b == 10) ≡ is → (b == 10) ≡ false
-    go false e = e
-    go true e = absurd (All-head (λ b. b ≢ 10) b line plain (eqb-true b 10 e))
 
 -- within a line nothing begins
 inside : (line below : List ℕ) → IsOfOneLine line → told_part false (line ++ 10 ∷ below) ≡ told_part true below

@@ -4,7 +4,8 @@ use Rattle.act_inbox.proofs.Common.{subst, arith, get_or, set, slice_get, inl, i
 use Rattle.act_inbox.proofs.Common.{slice_get-get_or, slice_get_within, get_or_from_slice_get, Slab, get, values, Updates, Packet, key_of, IsHeld, is_packet_of}
 use Rattle.act_inbox.proofs.Common.{key_in}
 use Rattle.act_inbox.proofs.Packets.{both_equal, is_call_tells}
-use Rattle.act_inbox.proofs.Slots.{find-slot, find-no_slot, All-filled, slot-All, slice_get-set_same, slice_get-set_other}
+use Rattle.act_inbox.proofs.Slots.{find-slot, find-no_slot, All-filled, slot-All}
+use Rattle.act_rules.proofs.Common.{get_set-other, get_set-same}
 
 -- what a caller's index tells
 pub key_at : (keys : List (List ℕ)) {place : ℕ} {index : List ℕ} → place < length keys → index ≡ get_or keys place index → {caller : ℕ} (number : ℕ) →
@@ -26,10 +27,10 @@ module _ (keys : List (List ℕ)) (place : ℕ) (old new : List ℕ) (within : p
     | inl t ↦
         let here : slice_get keys caller ≡ Some old = ap (slice_get keys) (sym t.1) ∙ slice_get-get_or keys place old within ∙ ap Some (sym reached) in
         let there : slice_get (set keys place new) caller ≡ Some new =
-        ap (slice_get (set keys place new)) (sym t.1) ∙ slice_get-set_same keys place new within in
+        ap (slice_get (set keys place new)) (sym t.1) ∙ get_set-same keys place new (slice_get-get_or keys place old within) in
         rw (t.0, here, there) (updates count)
     | inr f ↦
-        let same : slice_get (set keys place new) caller ≡ slice_get keys caller = slice_get-set_other keys place caller new (λ e. f.1 (sym e)) in
+        let same : slice_get (set keys place new) caller ≡ slice_get keys caller = get_set-other keys place caller new f.1 in
         rw (f.0, same) refl
   ]
 
@@ -39,9 +40,9 @@ module _ (keys : List (List ℕ)) (place : ℕ) (old new : List ℕ) (within : p
     | inl t ↦
         let here : slice_get keys caller ≡ Some old = ap (slice_get keys) (sym t.1) ∙ slice_get-get_or keys place old within ∙ ap Some (sym reached) in
         let there : slice_get (set keys place new) caller ≡ Some new =
-        ap (slice_get (set keys place new)) (sym t.1) ∙ slice_get-set_same keys place new within in
+        ap (slice_get (set keys place new)) (sym t.1) ∙ get_set-same keys place new (slice_get-get_or keys place old within) in
         rw (here, there) (ap (λ index. key_in index count) unchanged)
-    | inr f ↦ ap (option_and_then (λ index. key_in index count)) (slice_get-set_other keys place caller new (λ e. f.1 (sym e)))
+    | inr f ↦ ap (option_and_then (λ index. key_in index count)) (get_set-other keys place caller new f.1)
   ]
 
 both_same : {a : ℕ} (b : ℕ) {c : ℕ} (d : ℕ) → a ≡ b → c ≡ d → ((a == b) && (c == d)) ≡ true

@@ -1,8 +1,8 @@
 -- What a table of places tells, once one place changes or more are added.
-use Rattle.act_inbox.proofs.Common.{◌≡◌, ℕ, zero, suc, ◌<◌, ◌≤◌, ◌==◌, List, [], ◌∷◌, length, None, if◌then◌else◌, refl, sym, set, replicate, inl, inr}
+use Rattle.act_inbox.proofs.Common.{◌≡◌, ℕ, zero, suc, ◌<◌, ◌≤◌, ◌==◌, List, [], ◌∷◌, length, None, if◌then◌else◌, refl, set, replicate, inl, inr}
 use Rattle.act_inbox.proofs.Common.{eqb_tells, take, take_all, key_in, told_key}
 use Rattle.std.specs.Prelude.{◌++◌, ◌-◌}
-use Rattle.act_inbox.proofs.Slots.{slice_get-set_same, slice_get-set_other}
+use Rattle.act_rules.proofs.Common.{element, get_set-other, get_set-same}
 
 zeros : (m count : ℕ) → key_in (replicate m 0) count ≡ None
 zeros zero count = refl
@@ -17,8 +17,8 @@ key_in_more (p ∷ ps) m (suc count) = key_in_more ps m count
 pub key_in_set : (index : List ℕ) (number place : ℕ) → number < length index → (count : ℕ) →
     key_in (set index number place) count ≡ (if number == count then told_key place else key_in index count)
 key_in_set index number place within count = elim (eqb_tells number count) [
-  | inl t ↦ rw (t.0, ← t.1, slice_get-set_same index number place within) refl
-  | inr f ↦ rw (f.0, slice_get-set_other index number count place (λ e. f.1 (sym e))) refl
+  | inl t ↦ rw (t.0, ← t.1, get_set-same index number place (element index number within).1) refl
+  | inr f ↦ rw (f.0, get_set-other index number count place f.1) refl
 ]
 
 -- a table that is filled up to a length

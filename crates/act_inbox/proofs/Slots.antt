@@ -1,6 +1,6 @@
 -- What the slots of a slab tell of the list of its values.
-use Rattle.act_inbox.proofs.Common.{◌≡◌, ◌≢◌, ℕ, zero, suc, ◌<◌, List, [], ◌∷◌, length, Option, Some, None, Bool, true, false, cond, refl, ap, subst, arith}
-use Rattle.act_inbox.proofs.Common.{get_or, set, slice_get, find, filter_map, All, is_some, ◌==◌, sym, ◌∙◌, eq-eqb, count_by, Decides, eqb-true}
+use Rattle.act_inbox.proofs.Common.{◌≡◌, ℕ, zero, suc, List, [], ◌∷◌, length, Option, Some, None, Bool, true, false, cond, refl, ap, subst}
+use Rattle.act_inbox.proofs.Common.{get_or, find, filter_map, All, is_some, ◌==◌, sym, ◌∙◌, eq-eqb, count_by, Decides, eqb-true}
 use Rattle.act_inbox.proofs.Common.{nil_from_length, length-values, All-nil, All-cons, All-head, All-tail}
 
 module _ {X : Type 0} where
@@ -41,20 +41,6 @@ module _ {X : Type 0} where
   slot-All P (None ∷ rest) all (suc key) x at = slot-All P rest all key x at
   slot-All P (Some y ∷ rest) all zero x at = let same : y ≡ x = cc in subst P same (All-head P y (filled rest) all)
   slot-All P (Some y ∷ rest) all (suc key) x at = slot-All P rest (All-tail P y (filled rest) all) key x at
-
-  -- an item that is written
-  pub slice_get-set_same : (xs : List X) (place : ℕ) (x : X) → place < length xs → slice_get (set xs place x) place ≡ Some x
-  slice_get-set_same [] place x within = absurd (omega arith)
-  slice_get-set_same (y ∷ xs) zero x within = refl
-  slice_get-set_same (y ∷ xs) (suc place) x within = slice_get-set_same xs place x (omega arith)
-
-  -- the items at other places stay
-  pub slice_get-set_other : (xs : List X) (place other : ℕ) (x : X) → other ≢ place → slice_get (set xs place x) other ≡ slice_get xs other
-  slice_get-set_other [] place other x differs = refl
-  slice_get-set_other (y ∷ xs) zero zero x differs = absurd (differs refl)
-  slice_get-set_other (y ∷ xs) zero (suc other) x differs = refl
-  slice_get-set_other (y ∷ xs) (suc place) zero x differs = refl
-  slice_get-set_other (y ∷ xs) (suc place) (suc other) x differs = slice_get-set_other xs place other x (λ same. differs (ap suc same))
 
   -- where no slot counts, there are no values
   pub none_decides : (slots : List (Option X)) {empty : Bool} → empty ≡ (count_by is_some slots == 0) → Decides empty (filled slots ≡ [])

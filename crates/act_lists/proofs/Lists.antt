@@ -1,6 +1,6 @@
 -- What stands in a list, what holds of all of it, and lists that are mapped and filtered.
-use Rattle.std.proofs.Common.{◌≡◌, ◌≢◌, ℕ, zero, suc, ◌+◌, ◌<◌, ◌⊎◌, inl, inr, Bool, true, false, if◌then◌else◌, List, [], ◌∷◌, ◌++◌, length, Option, Some}
-use Rattle.std.proofs.Common.{refl, ap, ◌∙◌, arith, AllPairs, Contains, map, filter, filter_map, take, drop, slice_get}
+use Rattle.std.proofs.Common.{◌≡◌, ◌≢◌, ℕ, zero, suc, ◌+◌, ◌<◌, ◌≤◌, ◌⊎◌, inl, inr, Bool, true, false, if◌then◌else◌, List, [], ◌∷◌, ◌++◌, length, Option, Some}
+use Rattle.std.proofs.Common.{refl, ap, sym, ◌∙◌, arith, AllPairs, Contains, map, filter, filter_map, take, drop, slice_get, slice_set, get_or, None}
 use Rattle.std.specs.List.{AllByRecursion, cons_option, enumerate_from, list_all}
 use Rattle.std.proofs.lemmas.Bool.{and_from, and_parts}
 use Rattle.std.proofs.lemmas.List.{append-nil, drop_all, take_all}
@@ -33,13 +33,47 @@ element [] i lt = absurd (omega (arith, lt))
 element (x ∷ xs) zero lt = (x, refl)
 element (x ∷ xs) (suc i) lt = element xs i (omega arith)
 
+-- a place at which a list has no item isn't below its length
+pub past_none : {A : Type 0} (xs : List A) (k : ℕ) → slice_get xs k ≡ None → length xs ≤ k
+past_none [] k e = omega arith
+past_none (x ∷ xs) zero e = cc
+past_none (x ∷ xs) (suc k) e = let n = past_none xs k e in omega (arith, n)
+
+-- what is written at a place of a list stands there
+pub get_set-same : {A : Type 0} (xs : List A) (i : ℕ) {x : A} (y : A) → slice_get xs i ≡ Some x → slice_get (slice_set xs i y) i ≡ Some y
+get_set-same [] i y e = cc
+get_set-same (z ∷ xs) zero y e = refl
+get_set-same (z ∷ xs) (suc i) {x} y e = get_set-same xs i y e
+
+-- what is written at one place leaves what stands at another
+pub get_set-other : {A : Type 0} (xs : List A) (i j : ℕ) (y : A) → i ≢ j → slice_get (slice_set xs i y) j ≡ slice_get xs j
+get_set-other [] i j y apart = refl
+get_set-other (z ∷ xs) zero zero y apart = absurd (apart refl)
+get_set-other (z ∷ xs) zero (suc j) y apart = refl
+get_set-other (z ∷ xs) (suc i) zero y apart = refl
+get_set-other (z ∷ xs) (suc i) (suc j) y apart = get_set-other xs i j y (λ e. apart (ap suc e))
+
+-- the item that is read at a place within the list stands there
+pub item_at : {A : Type 0} (xs : List A) (n : ℕ) (x : A) → n < length xs → x ≡ get_or xs n x → slice_get xs n ≡ Some x
+item_at xs n x within is = slice_get-get_or xs n x within ∙ ap Some (sym is)
+
 -- what a list contains has a place in it
 pub place_in : {A : Type 0} (xs : List A) (x : A) → Contains xs x → (k : ℕ) × (slice_get xs k ≡ Some x)
 place_in xs x has = (has.0, slice_get-get_or xs has.0 x has.1 ∙ ap Some has.2)
 
+-- what a list contains, it contains with one more before it
+pub contains_tail : {A : Type 0} (x y : A) (xs : List A) → Contains xs y → Contains (x ∷ xs) y
+contains_tail x y xs has = (suc has.0, omega (arith, has.1), has.2)
+
 -- what stands at a place is contained
 pub stands_in : {A : Type 0} (xs : List A) (k : ℕ) {x : A} → slice_get xs k ≡ Some x → Contains xs x
 stands_in xs k {x} at = (k, slice_get_within xs k x at, get_or_from_slice_get xs k x x at)
+
+-- the first items up to a place are those before it, and what stands there
+pub take_next : {A : Type 0} (xs : List A) (n : ℕ) {x : A} → slice_get xs n ≡ Some x → take (suc n) xs ≡ take n xs ++ x ∷ []
+take_next [] n e = cc
+take_next {A = A} (y ∷ xs) zero {x} e = let same : y ≡ x = cc in ap (λ z. z ∷ []) same
+take_next {A = A} (y ∷ xs) (suc n) {x} e = ap (λ l. y ∷ l) (take_next xs n e)
 
 -- ---- what holds of all
 
@@ -59,6 +93,11 @@ pub tail_apart : (x : ℕ) (xs : List ℕ) → AllPairs (λ one other. one ≢ o
 tail_apart x xs apart i j d lt below = apart (suc i) (suc j) d (omega arith) (omega arith)
 
 -- ---- mapped and filtered lists
+
+-- what maps to nothing is nothing
+pub map_none : {A B : Type 0} (f : A → B) (xs : List A) → map f xs ≡ [] → xs ≡ []
+map_none f [] e = refl
+map_none f (x ∷ xs) e = cc
 
 -- functions that always agree map a list to the same
 pub map_alike : {A B : Type 0} (f g : A → B) (xs : List A) → ((x : A) → f x ≡ g x) → map f xs ≡ map g xs

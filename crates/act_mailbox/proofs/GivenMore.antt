@@ -1,5 +1,5 @@
 -- One more notice, given under the conditions of giving.
-use Rattle.std.proofs.Common.{◌≡◌, ℕ, zero, suc, List, [], ◌∷◌, ◌++◌, Some, Result, Ok, Err, OnOk, OnErr, slice_get, sym, refl, subst, arith, All}
+use Rattle.std.proofs.Common.{◌≡◌, ℕ, List, [], ◌∷◌, ◌++◌, Some, Result, Ok, Err, OnOk, OnErr, slice_get, sym, refl, subst, arith, All}
 use Rattle.std.proofs.lemmas.Grind.{common_steps}
 use Rattle.std.proofs.lemmas.List.Elements.{All-push, All-weaker}
 use Rattle.act_rules.specs.Consistent.{IsPrefix}
@@ -8,11 +8,7 @@ use Rattle.act_types.specs.declared.call.Notice.{Notice}
 use Rattle.act_types.specs.declared.call.Notice.TheVariants.{Answered, Death}
 use Rattle.act_mailbox.specs.Passes.{PutterView}
 use Rattle.act_mailbox.specs.Notices.{notice_actor, IsNoDeath, NamesPlace, IsGiven}
-
-get_grown : (xs ys : List RunItem) (k : ℕ) (x : RunItem) → slice_get xs k ≡ Some x → slice_get (xs ++ ys) k ≡ Some x
-get_grown [] ys k x e = grind (arith, common_steps)
-get_grown (z ∷ xs) ys zero x e = grind (arith, common_steps)
-get_grown (z ∷ xs) ys (suc k) x e = grind (arith, common_steps, get_grown xs ys k x)
+use Rattle.act_rules.proofs.Common.{slice_get_more}
 
 init_is : (xs ys : List Notice) (x y : Notice) → xs ++ x ∷ [] ≡ ys ++ y ∷ [] → xs ≡ ys
 init_is [] [] x y e = refl
@@ -22,7 +18,7 @@ init_is (a ∷ xs) (b ∷ ys) x y e = grind (arith, init_is xs ys x y)
 
 -- a place of a log is the same place of a longer one
 place_stays : (seen log : List RunItem) (notice : Notice) → IsPrefix seen log → NamesPlace seen notice → NamesPlace log notice
-place_stays seen log (Answered reply) p h = (h.0, subst (λ l. slice_get l reply.place ≡ Some h.0) p.1 (get_grown seen p.0 reply.place h.0 h.1), h.2, h.3)
+place_stays seen log (Answered reply) p h = (h.0, subst (λ l. slice_get l reply.place ≡ Some h.0) p.1 (slice_get_more seen p.0 reply.place h.1), h.2, h.3)
 place_stays seen log (Death actor) p h = tt
 
 given_more : (actor : ℕ) (seen log : List RunItem) (given : List Notice) (notice : Notice) → IsGiven actor seen given → notice_actor notice ≡ actor →

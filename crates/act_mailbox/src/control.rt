@@ -106,8 +106,8 @@ impl Control {
         self.ask_at::<Brand, R>(rt, pass, note)
     }
 
-    /// The same, where `K` is the kill's stamp.
-    pub fn ask_at<K: Stamped, R: Wait>(
+    /// The same, where `S` is the kill's stamp.
+    pub fn ask_at<S: Stamped, R: Wait>(
         &self,
         rt: &R,
         pass: &mut ControlCaller,
@@ -116,14 +116,14 @@ impl Control {
         requires pass { pass.old.line ≡ self.now.line }
         ensures ok { OnOk result (pass.new ≡ record pass.old {
           put = pass.old.put ++ kill_by pass.old.number note ∷ [];
-          stamps = pass.old.stamps ++ K.stamp ∷ [];
+          stamps = pass.old.stamps ++ S.stamp ∷ [];
         }) }
         ensures err { OnErr result (pass.new ≡ pass.old) }
         ensures back { IfErr result (λ back. back ≡ note) }
     {
         let asker = pass.number();
         self.line
-            .put::<Brand, K, R>(rt, pass, Asked { asker, note })
+            .put::<Brand, S, R>(rt, pass, Asked { asker, note })
             .map_err(|kill| kill.note)
     }
 
@@ -148,7 +148,7 @@ impl Control {
         Some(kill.note)
     }
 
-    /// Takes a kill, and `K` notes the length.
+    /// Takes a kill, and `L` is the taker's label from then on.
     fn take_at<L: Labelled<u64>, R: Wait>(
         &self,
         rt: &R,

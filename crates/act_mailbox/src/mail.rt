@@ -87,8 +87,8 @@ impl Mail {
         self.post_at::<Brand, R>(rt, pass, letter)
     }
 
-    /// The same, where `K` is the letter's stamp.
-    pub fn post_at<K: Stamped, R: Wait>(
+    /// The same, where `S` is the letter's stamp.
+    pub fn post_at<S: Stamped, R: Wait>(
         &self,
         rt: &R,
         pass: &mut MailCaller,
@@ -98,12 +98,12 @@ impl Mail {
         requires caller { caller_of letter ≡ pass.old.number }
         ensures ok { OnOk result (pass.new ≡ record pass.old {
           put = pass.old.put ++ letter ∷ [];
-          stamps = pass.old.stamps ++ K.stamp ∷ [];
+          stamps = pass.old.stamps ++ S.stamp ∷ [];
         }) }
         ensures err { OnErr result (pass.new ≡ pass.old) }
         ensures back { IfErr result (λ back. back ≡ letter) }
     {
-        self.line.put::<Brand, K, R>(rt, pass, letter)
+        self.line.put::<Brand, S, R>(rt, pass, letter)
     }
 
     /// `None` where the line is empty.

@@ -112,8 +112,8 @@ impl Replies {
         self.give_showing::<Brand, Brand, R, &[RunItem]>(rt, pass, &log, notice)
     }
 
-    /// The same, where `K` is the notice's stamp, and the log may be one that a run doesn't keep.
-    pub fn give_at<K: Stamped, R: Wait, L: RunLog>(
+    /// The same, where `S` is the notice's stamp, and the log may be one that a run doesn't keep.
+    pub fn give_at<S: Stamped, R: Wait, L: RunLog>(
         &self,
         rt: &R,
         pass: &mut ReplyExec,
@@ -127,18 +127,18 @@ impl Replies {
         requires alive { All IsNoDeath pass.old.given }
         ensures ok { OnOk result (pass.new ≡ record pass.old {
           given = pass.old.given ++ notice ∷ [];
-          stamps = pass.old.stamps ++ K.stamp ∷ [];
+          stamps = pass.old.stamps ++ S.stamp ∷ [];
           seen = L.items log.now;
         }) }
         ensures err { OnErr result (pass.new ≡ pass.old) }
         ensures back { IfErr result (λ back. back ≡ notice) }
     {
-        self.give_showing::<Brand, K, R, L>(rt, pass, log, notice)
+        self.give_showing::<Brand, S, R, L>(rt, pass, log, notice)
     }
 
-    /// Gives a notice with the stamp `K`, and `N` is the log that the pass has seen from then on. It is
+    /// Gives a notice with the stamp `S`, and `N` is the log that the pass has seen from then on. It is
     /// picked by what is lent as the log.
-    fn give_showing<N: Labelled<RunItem>, K: Stamped, R: Wait, L>(
+    fn give_showing<N: Labelled<RunItem>, S: Stamped, R: Wait, L>(
         &self,
         rt: &R,
         pass: &mut ReplyExec,
@@ -152,13 +152,13 @@ impl Replies {
         requires alive { All IsNoDeath pass.old.given }
         ensures ok { OnOk result (pass.new ≡ record pass.old {
           given = pass.old.given ++ notice ∷ [];
-          stamps = pass.old.stamps ++ K.stamp ∷ [];
+          stamps = pass.old.stamps ++ S.stamp ∷ [];
           seen = N.label;
         }) }
         ensures err { OnErr result (pass.new ≡ pass.old) }
         ensures back { IfErr result (λ back. back ≡ notice) }
     {
-        self.line.put::<N, K, R>(rt, &mut pass.pass, notice)
+        self.line.put::<N, S, R>(rt, &mut pass.pass, notice)
     }
 
     /// `None` where the line is empty.

@@ -1,35 +1,10 @@
 -- The actors of the play: who may call whom.
-use Rattle.act_order_plays.proofs.Common.{◌≡◌, ℕ, zero, suc, ◌+◌, ◌<◌, ◌==◌, ◌||◌, inl, inr, Bool, true, false, List, [], ◌∷◌, length, find, Some, None}
-use Rattle.act_order_plays.proofs.Common.{slice_get, refl, ap, subst, ◌∙◌, arith, option_map, Contains, enumerate_from, list_any, eqb-true, eq-eqb, ne_eqb}
+use Rattle.act_order_plays.proofs.Common.{◌≡◌, ℕ, zero, suc, ◌+◌, ◌<◌, ◌==◌, inl, inr, true, List, [], ◌∷◌, length, find, Some, None}
+use Rattle.act_order_plays.proofs.Common.{slice_get, refl, ap, subst, ◌∙◌, arith, option_map, Contains, enumerate_from, eq-eqb, ne_eqb}
 use Rattle.act_order_plays.proofs.Common.{get_or_past, slice_get-map, slice_get-get_or, OwnAt, ActorSpec, History, contains, cast_of, names, is_caller}
-use Rattle.act_order_plays.proofs.Common.{find-map, slice_get-enumerate_from, Actor, Told, actor_of, answers, cast_of_actor, casts_of, or_right}
-use Rattle.act_order_plays.proofs.Lists.{Has, cases_le}
-
--- what holds of one item holds of some
-pub list_any_has : {A : Type 0} (p : A → Bool) (xs : List A) {x : A} → Has xs x → p x ≡ true → list_any p xs ≡ true
-list_any_has {A = A} p xs {x} has is = go xs has.0 has.1
-  where
-    go : (xs : List A) (i : ℕ) → slice_get xs i ≡ Some x → list_any p xs ≡ true
-    go [] i e = absurd (cc)
-    go (y ∷ ys) zero e = let same : y ≡ x = cc in let there : p y ≡ true = ap p same ∙ is in rw there refl
-    go (y ∷ ys) (suc i) e = or_right (p y) (list_any p ys) (go ys i e)
-
-pub any_has : {A : Type 0} (p : A → Bool) (xs : List A) → list_any p xs ≡ true → (x : A) × Has xs x × (p x ≡ true)
-any_has p [] e = absurd (cc)
-any_has {A = A} p (y ∷ ys) e = go (p y) refl (any_has p ys) e
-  where
-    go : (b : Bool) → p y ≡ b → (list_any p ys ≡ true → (x : A) × Has ys x × (p x ≡ true)) → (b || list_any p ys) ≡ true →
-        (x : A) × Has (y ∷ ys) x × (p x ≡ true)
-    go true is rest e = (y, (zero, refl), is)
-    go false is rest e = let r = rest e in (r.0, (suc r.1.0, r.1.1), r.2)
-
--- the test whether a list contains a number is true of a number that the list has
-pub contains_has : (xs : List ℕ) {n : ℕ} → Has xs n → contains n xs ≡ true
-contains_has xs {n} has = list_any_has (λ (m : ℕ). m == n) xs has (eq-eqb n n refl)
-
--- a list has a number where the test whether it contains it is true
-pub has_contains : (xs : List ℕ) (n : ℕ) → contains n xs ≡ true → Has xs n
-has_contains xs n e = let r = any_has (λ (m : ℕ). m == n) xs e in subst (λ k. Has xs k) (eqb-true r.0 n r.2) r.1
+use Rattle.act_order_plays.proofs.Common.{find-map, slice_get-enumerate_from, Actor, Told, actor_of, answers, cast_of_actor, casts_of, IsIn, any_in}
+use Rattle.act_order_plays.proofs.Common.{is_contained}
+use Rattle.act_order_plays.proofs.Lists.{cases_le}
 
 -- ---- the cast of an actor
 
@@ -62,23 +37,23 @@ pub cast_of_is : (told : Told) (h : History) {a : ℕ} → h.casts ≡ casts_of 
 cast_of_is told h {a} casts lt = ap (λ all. find (λ (cast : ActorSpec). cast.actor == a) all) casts ∙ find_cast told a lt
 
 -- in a history with the casts of what is told, the casts of its actors name the callers that may call them
-pub names_is : (told : Told) (h : History) (c a : ℕ) → h.casts ≡ casts_of told → a < length told.actors → Has (actor_of told a).callers c →
+pub names_is : (told : Told) (h : History) (c a : ℕ) → h.casts ≡ casts_of told → a < length told.actors → IsIn (actor_of told a).callers c →
     names c (cast_of a h) ≡ true
-names_is told h c a casts lt has = rw (cast_of_is told h casts lt) (contains_has (actor_of told a).callers has)
+names_is told h c a casts lt has = rw (cast_of_is told h casts lt) (is_contained c (actor_of told a).callers has)
 
-casts_has : (told : Told) (a : ℕ) → a < length told.actors → Has (casts_of told) (cast_at told a)
+casts_has : (told : Told) (a : ℕ) → a < length told.actors → IsIn (casts_of told) (cast_at told a)
 casts_has told a lt =
     let z : 0 + a ≡ a = omega arith in let f : ℕ × Actor → ActorSpec = cast_of_actor in
     let there : slice_get (enumerate_from 0 told.actors) a ≡ Some (a, actor_of told a) =
     slice_get-enumerate_from 0 told.actors a ∙ ap (option_map (λ x. (0 + a, x))) (actor_at told a lt)
     ∙ ap (λ (m : ℕ). Some (m, actor_of told a)) z in
-    (a, slice_get-map f (enumerate_from 0 told.actors) a ∙ ap (option_map f) there)
+    record { place = a; at = slice_get-map f (enumerate_from 0 told.actors) a ∙ ap (option_map f) there }
 
 -- in a history with the casts of what is told, who may call an actor that is told is a caller
-pub is_caller_is : (told : Told) (h : History) {c a : ℕ} → h.casts ≡ casts_of told → a < length told.actors → Has (actor_of told a).callers c →
+pub is_caller_is : (told : Told) (h : History) {c a : ℕ} → h.casts ≡ casts_of told → a < length told.actors → IsIn (actor_of told a).callers c →
     is_caller c h ≡ true
 is_caller_is told h {c} {a} casts lt has =
-    rw casts (list_any_has (λ (cast : ActorSpec). contains c cast.callers) (casts_of told) (casts_has told a lt) (contains_has (actor_of told a).callers has))
+    rw casts (any_in (λ (cast : ActorSpec). contains c cast.callers) (casts_has told a lt) (is_contained c (actor_of told a).callers has))
 
 -- no caller may call what is no actor
 pub role_actor : (told : Told) (c a : ℕ) → Contains (actor_of told a).callers c → a < length told.actors

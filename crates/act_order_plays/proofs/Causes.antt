@@ -2,27 +2,28 @@
 use Rattle.act_order_plays.proofs.Common.{◌≡◌, ◌≢◌, ℕ, zero, suc, ◌+◌, ◌-◌, ◌<◌, ◌≤◌, ◌⊎◌, inl, inr, Bool, true, false, cond, List, [], ◌∷◌, ◌++◌, length}
 use Rattle.act_order_plays.proofs.Common.{filter, Some, slice_get, refl, sym, ap, subst, ◌∙◌, arith, eqb-true, eqb_tells, append-nil, filter-append}
 use Rattle.act_order_plays.proofs.Common.{filter_map-append, slice_get_within, IsPrefix, element, Happening, Submitted, Ran, Answered, Died, Run, Told, call_of}
-use Rattle.act_order_plays.proofs.Common.{SameCaller, RunsInTurn, Happened, RunsBefore, IsCause, calls_by, future_of, runs_by}
+use Rattle.act_order_plays.proofs.Common.{SameCaller, RunsInTurn, Happened, RunsBefore, IsCause, calls_by, future_of, runs_by, IsIn, in_none}
 use Rattle.act_order_plays.proofs.Premises.{Premises}
-use Rattle.act_order_plays.proofs.Lists.{Has, has_more, has_pushed, cases_le, front_grows}
+use Rattle.act_order_plays.proofs.Lists.{has_pushed, cases_le, front_grows, has_more}
 use Rattle.act_order_plays.proofs.Fronts.{submits, rans, is_by, is_to, subs_of, rans_of, has_subs_of, subs_of_has, rans_of_has, has_rans_of, call_at}
 use Rattle.act_order_plays.proofs.Fronts.{call_before, calls_differ, IsRunAt, run_at, rank, run_ranks, run_before, runs_differ}
+use Rattle.act_orders.proofs.Lasting.{NoneOf}
 
 -- each cause of what happened did
 abbrev pub Closed : Told → List Happening → Type 0
-Closed told before = (x cause : Happening) → Has before x → IsCause told cause x → Has before cause
+Closed told before = (x cause : Happening) → IsIn before x → IsCause told cause x → IsIn before cause
 
 -- what may happen next
 pub record IsNext (told : Told) (before : List Happening) (x : Happening) : Type 0 where
   pub happened : Happened told x
-  pub fresh : Has before x → ⊥
-  pub causes : (cause : Happening) → IsCause told cause x → Has before cause
+  pub fresh : IsIn before x → ⊥
+  pub causes : (cause : Happening) → IsCause told cause x → IsIn before cause
 
 -- ---- chains of causes
 
 -- each lower call of its caller was submitted before a call is
 pub calls_chain : {told : Told} (before : List Happening) (d m n : ℕ) → Premises told → Closed told before → n < length told.calls → m + suc d ≡ n →
-    SameCaller told m n → ((cause : Happening) → IsCause told cause (Submitted n) → Has before cause) → Has before (Submitted m)
+    SameCaller told m n → ((cause : Happening) → IsCause told cause (Submitted n) → IsIn before cause) → IsIn before (Submitted m)
 calls_chain before zero m n fits closed lt e same causes = causes (Submitted m) (omega arith, same)
 calls_chain {told} before (suc d) m n fits closed lt e same causes =
     let p : ℕ = m + suc d in let low = fits.callers m p (omega arith) (omega arith) in let high = fits.callers p n (omega arith) lt in
@@ -30,13 +31,14 @@ calls_chain {told} before (suc d) m n fits closed lt e same causes =
     calls_chain before d m p fits closed (omega arith) refl (same ∙ sym mid) (λ cause is. closed (Submitted p) cause has is)
 
 pub earlier_submitted : {told : Told} (before : List Happening) (m n : ℕ) → Premises told → Closed told before → n < length told.calls → m < n →
-    SameCaller told m n → ((cause : Happening) → IsCause told cause (Submitted n) → Has before cause) → Has before (Submitted m)
+    SameCaller told m n → ((cause : Happening) → IsCause told cause (Submitted n) → IsIn before cause) → IsIn before (Submitted m)
 earlier_submitted {told} before m n fits closed lt less same causes = calls_chain before (n - suc m) m n fits closed lt (omega arith) same causes
 
 -- each earlier run of its actor was before a run
 pub runs_chain : (told : Told) (before : List Happening) (d i j : ℕ) (one next : Run) → Premises told → Closed told before → slice_get told.runs i ≡ Some one →
-    slice_get told.runs j ≡ Some next → i + suc d ≡ j → one.actor ≡ next.actor → ((cause : Happening) → IsCause told cause (Ran next.call) → Has before cause) →
-    Has before (Ran one.call)
+    slice_get told.runs j ≡ Some next → i + suc d ≡ j → one.actor ≡ next.actor →
+    ((cause : Happening) → IsCause told cause (Ran next.call) → IsIn before cause) →
+    IsIn before (Ran one.call)
 runs_chain told before zero i j one next fits closed at there e same causes =
     let step : j ≡ i + 1 = omega arith in
     causes (Ran one.call) (
@@ -61,7 +63,7 @@ runs_chain told before (suc d) i j one next fits closed at there e same causes =
 
 pub earlier_ran : {told : Told} (before : List Happening) {i : ℕ} (j : ℕ) {one next : Run} → Premises told → Closed told before →
     slice_get told.runs i ≡ Some one → slice_get told.runs j ≡ Some next → i < j → one.actor ≡ next.actor →
-    ((cause : Happening) → IsCause told cause (Ran next.call) → Has before cause) → Has before (Ran one.call)
+    ((cause : Happening) → IsCause told cause (Ran next.call) → IsIn before cause) → IsIn before (Ran one.call)
 earlier_ran {told} before {i} j {one} {next} fits closed at there less same causes =
     runs_chain told before (j - suc i) i j one next fits closed at there (omega arith) same causes
 
@@ -74,22 +76,19 @@ record IsLastPlace (runs : List Run) (a p : ℕ) : Type 0 where
   actor : run.actor ≡ a
   last : (i : ℕ) (other : Run) → slice_get runs i ≡ Some other → other.actor ≡ a → i ≤ p
 
-abbrev NoRun : List Run → ℕ → Type 0
-NoRun runs a = (i : ℕ) (run : Run) → slice_get runs i ≡ Some run → run.actor ≡ a → ⊥
-
 last_after : (x : Run) (xs : List Run) (a p : ℕ) → IsLastPlace xs a p → (i : ℕ) (other : Run) → slice_get (x ∷ xs) i ≡ Some other → other.actor ≡ a → i ≤ suc p
 last_after x xs a p l zero other at is = omega arith
 last_after x xs a p l (suc i) other at is = let le = l.last i other at is in omega arith
 
-last_first : (x : Run) (xs : List Run) (a : ℕ) → NoRun xs a → (i : ℕ) (other : Run) → slice_get (x ∷ xs) i ≡ Some other → other.actor ≡ a → i ≤ 0
+last_first : (x : Run) (xs : List Run) (a : ℕ) → NoneOf xs a → (i : ℕ) (other : Run) → slice_get (x ∷ xs) i ≡ Some other → other.actor ≡ a → i ≤ 0
 last_first x xs a none zero other at is = omega arith
 last_first x xs a none (suc i) other at is = absurd (none i other at is)
 
-no_run : (x : Run) (xs : List Run) (a : ℕ) → x.actor ≢ a → NoRun xs a → NoRun (x ∷ xs) a
+no_run : (x : Run) (xs : List Run) (a : ℕ) → x.actor ≢ a → NoneOf xs a → NoneOf (x ∷ xs) a
 no_run x xs a differs none zero run at is = let same : x ≡ run = cc in differs (ap (λ (r : Run). r.actor) same ∙ is)
 no_run x xs a differs none (suc i) run at is = none i run at is
 
-last_place : (runs : List Run) (a : ℕ) → ((p : ℕ) × IsLastPlace runs a p) ⊎ NoRun runs a
+last_place : (runs : List Run) (a : ℕ) → ((p : ℕ) × IsLastPlace runs a p) ⊎ NoneOf runs a
 last_place [] a = inr (λ i run at is. cc)
 last_place (x ∷ xs) a = elim (last_place xs a) [
   | inl l ↦ inl (suc l.0, record { run = l.1.run; at = l.1.at; actor = l.1.actor; last = last_after x xs a l.0 l.1 })
@@ -100,14 +99,14 @@ last_place (x ∷ xs) a = elim (last_place xs a) [
 ]
 
 -- where a death was told, its actor ran all that it runs
-pub died_ran : (told : Told) (before : List Happening) (m i : ℕ) (run : Run) → Premises told → Closed told before → Has before (Answered m) →
-    (call_of told m).outcome ≡ Died → slice_get told.runs i ≡ Some run → run.actor ≡ (call_of told m).actor → Has before (Ran run.call)
+pub died_ran : (told : Told) (before : List Happening) (m i : ℕ) (run : Run) → Premises told → Closed told before → IsIn before (Answered m) →
+    (call_of told m).outcome ≡ Died → slice_get told.runs i ≡ Some run → run.actor ≡ (call_of told m).actor → IsIn before (Ran run.call)
 died_ran told before m i run fits closed has died at is = go (last_place told.runs (call_of told m).actor)
   where
-    go : (((p : ℕ) × IsLastPlace told.runs (call_of told m).actor p) ⊎ NoRun told.runs (call_of told m).actor) → Has before (Ran run.call)
+    go : (((p : ℕ) × IsLastPlace told.runs (call_of told m).actor p) ⊎ NoneOf told.runs (call_of told m).actor) → IsIn before (Ran run.call)
     go (inr none) = absurd (none i run at is)
     go (inl (p, l)) =
-        let before_death : Has before (Ran l.run.call) =
+        let before_death : IsIn before (Ran l.run.call) =
         closed (Answered m) (Ran l.run.call) has
         (subst (λ outcome. RunsBefore told outcome l.run.call m) (sym died)
         (record { place = p; at = subst (λ a. slice_get told.runs p ≡ Some (record { actor = a; call = l.run.call })) l.actor l.at; last = l.last }))
@@ -118,7 +117,7 @@ died_ran told before m i run fits closed has died at is = go (last_place told.ru
               let place : i ≡ p = omega arith in
               let there : slice_get told.runs p ≡ Some run = subst (λ k. slice_get told.runs k ≡ Some run) place at in
               let at_last : slice_get told.runs p ≡ Some l.run = l.at in let same : l.run ≡ run = cc in
-              subst (λ (r : Run). Has before (Ran r.call)) same before_death
+              subst (λ (r : Run). IsIn before (Ran r.call)) same before_death
           | inr b ↦ earlier_ran before p fits closed at l.at b (is ∙ sym l.actor) (λ cause c. closed (Ran l.run.call) cause before_death c)
         ]
 
@@ -126,14 +125,14 @@ died_ran told before m i run fits closed has died at is = go (last_place told.ru
 
 pub record Good (told : Told) (before : List Happening) : Type 0 where
   pub closed : Closed told before
-  pub happened : (x : Happening) → Has before x → Happened told x
+  pub happened : (x : Happening) → IsIn before x → Happened told x
   pub calls : (c : ℕ) → IsPrefix (subs_of told before c) (calls_by told c)
   pub runs : (a : ℕ) → IsPrefix (rans_of told before a) (runs_by told a)
 
 pub good_none : (told : Told) → Good told []
 good_none told = record {
-  closed = λ x cause has is. absurd (let e = has.1 in cc);
-  happened = λ x has. absurd (let e = has.1 in cc);
+  closed = λ x cause has is. absurd (in_none has);
+  happened = λ x has. absurd (in_none has);
   calls = λ c. (calls_by told c, refl);
   runs = λ a. (runs_by told a, refl);
 }
@@ -188,7 +187,7 @@ next_run told before n a fits turn good next = go (is_to told a n) refl
         front_grows (rans_of told before a) (runs_by told a) (rank told a p) n (runs_differ told a turn) (good.runs a) there
         (λ has. next.fresh (has_rans_of told before n a has).0) (λ j y less at_y. let early = run_before told a p j y less at_y in let has =
         earlier_ran before p fits good.closed early.4.at at early.2 (early.3 ∙ sym here) (λ cause is. next.causes cause
-        (subst (λ k. IsCause told cause (Ran k)) place.2.call is)) in rans_of_has told before y a (subst (λ k. Has before (Ran k)) early.4.call has)
+        (subst (λ k. IsCause told cause (Ran k)) place.2.call is)) in rans_of_has told before y a (subst (λ k. IsIn before (Ran k)) early.4.call has)
         (sym (ap (λ k. (call_of told k).actor) early.4.call) ∙ (turn early.0 early.1 early.4.at).here ∙ early.3))
 
 -- in a history that fits and whose runs are in turn, what is good so far stays so with what may happen next

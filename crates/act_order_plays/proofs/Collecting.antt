@@ -3,8 +3,7 @@ use Rattle.act_order_plays.proofs.Common.{◌≡◌, ℕ, ◌<◌, ◌==◌, ◌
 use Rattle.act_order_plays.proofs.Common.{◌∙◌, arith, filter_map, option_and_then, AllByRecursion, eq-eqb, and_from, slice_get_within, ActorDied, OwnAt}
 use Rattle.act_order_plays.proofs.Common.{Collect, Post, Answer, answer_at, answers_from, History, runs_of, is_item_of, answer_of, add_event, and_also, element}
 use Rattle.act_order_plays.proofs.Common.{All_more, length-answers_from, sound_step, Happening, Submitted, Told, call_of, kept_for, answers, future_of}
-use Rattle.act_order_plays.proofs.Common.{collect_unrefused, ReplyPost, DeathPost}
-use Rattle.act_order_plays.proofs.Lists.{Has}
+use Rattle.act_order_plays.proofs.Common.{collect_unrefused, ReplyPost, DeathPost, IsIn}
 use Rattle.act_order_plays.proofs.Fronts.{rans_of}
 use Rattle.act_order_plays.proofs.Causes.{Good}
 use Rattle.act_order_plays.proofs.Answering.{item_of_call}
@@ -32,7 +31,7 @@ shape_collect told before h j post shape at right = record {
 
 -- once a post that answers a call is collected, the call has an answer
 pub collect_answers : (told : Told) (before : List Happening) (h : History) (j n : ℕ) (post : Post) {answer : Answer} → Good told before →
-    Shape told before (add_event h (Collect j)) → Has before (Submitted n) → slice_get h.posts j ≡ Some post →
+    Shape told before (add_event h (Collect j)) → IsIn before (Submitted n) → slice_get h.posts j ≡ Some post →
     answers_to told n (add_event h (Collect j)) post ≡ Some answer → (first : Answer) × (kept_for told n (add_event h (Collect j)) ≡ Some first)
 collect_answers told before h j n post {answer} good shape has at gives =
     let g = add_event h (Collect j) in

@@ -1,9 +1,10 @@
 -- The names of specifications and of the crates below that most proofs here cite, passed on from one place.
-pub use Rattle.act_lists.proofs.Lists.{element, filter_map_alike, list_all-weaker, map-enumerate_from, slice_get_last, slice_get_more, slice_get_pushed}
+pub use Rattle.act_lists.proofs.Lists.{element, filter_map_alike, list_all-weaker, map-enumerate_from, place_in, slice_get_last, slice_get_more}
+pub use Rattle.act_lists.proofs.Lists.{slice_get_pushed, stands_in, take_next}
 pub use Rattle.act_lists.proofs.Options.{cond_gives}
 pub use Rattle.act_order_plays.specs.Plays.{EndsAs, Fits, IsKeptFor, IsPlayOf, LeavesTold, Waited, answer_to, answers, args_of, call_key, calls_by}
 pub use Rattle.act_order_plays.specs.Plays.{cast_of_actor, casts_of, future_of, item_key, kept_for, run_key, runs_by, submission_key}
-pub use Rattle.act_orders.proofs.Lists.{get_taken}
+pub use Rattle.act_orders.proofs.Lists.{get_in_taken, get_taken}
 pub use Rattle.act_orders.specs.Causes.{IsWhole, run_of}
 pub use Rattle.act_orders.specs.Order.{EndsRight, Happened, IsAfter, IsCause, IsInOrder, IsInOrderBy, IsLastRun, IsOrder, RunsBefore, RunsInTurn, RunsNext}
 pub use Rattle.act_orders.specs.Order.{SameCaller, SameWay, actor_of, call_of, calls_run}
@@ -17,13 +18,16 @@ pub use Rattle.act_orders.specs.declared.told.Outcome.TheVariants.{Died, Failed,
 pub use Rattle.act_orders.specs.declared.told.Run.{Run}
 pub use Rattle.act_orders.specs.declared.told.Told.{Told}
 pub use Rattle.act_rules.proofs.AsSubmitted.{calls_to-at, filter-slice_get}
-pub use Rattle.act_rules.proofs.Ended.{HasEnded, contains_more, ended_stays, needs-none, under-push}
+pub use Rattle.act_rules.proofs.Elements.{IsIn, any_in, any_is, contains_from_in, contains_is, in_behind, in_filter, in_from_contains, in_front, in_none}
+pub use Rattle.act_rules.proofs.Elements.{is_contained}
+pub use Rattle.act_rules.proofs.Ended.{HasEnded, contains_more, contains_or, ended_stays, needs-none, under-push}
 pub use Rattle.act_rules.proofs.Events.{calls_to-length, collect_unrefused, history_more, telling_unrefused}
 pub use Rattle.act_rules.proofs.Growth.{Grows, added_grows, after_run_grows, calls_grow, calls_to_grow, runs_grow}
 pub use Rattle.act_rules.proofs.Kept.{kept_at_is, kept_by, kept_stays, length-answers_from}
 pub use Rattle.act_rules.proofs.Letters.{IsSoundLetter, calls_to-number, has_letter-sound}
 pub use Rattle.act_rules.proofs.Lists.{All_at, All_more, All_weaker, IsPrefix-filter, IsPrefix-map, find-map, front_next, front_trans, front_whole}
-pub use Rattle.act_rules.proofs.Lists.{option_map-none, option_or-none, range_push, slice_get-enumerate_from, slice_get-filter, slice_get_front, whole_front}
+pub use Rattle.act_rules.proofs.Lists.{any_front, option_map-none, option_or-none, range_push, slice_get-enumerate_from, slice_get-filter, slice_get_front}
+pub use Rattle.act_rules.proofs.Lists.{whole_front}
 pub use Rattle.act_rules.proofs.Order.{InOrder, IsNext, next_item_is, numbered, numbers}
 pub use Rattle.act_rules.proofs.Posts.{PostsAreSound}
 pub use Rattle.act_rules.proofs.RanAll.{Retires, map-numbered, named_call, ran_all, world_retires}

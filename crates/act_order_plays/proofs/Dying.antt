@@ -3,13 +3,13 @@ use Rattle.act_order_plays.proofs.Common.{◌≡◌, ◌≢◌, ℕ, ◌<◌, �
 use Rattle.act_order_plays.proofs.Common.{sym, ap, subst, ◌∙◌, is_some, ActorDied, Collect, AskKill, TakeKill, Tell, has_terminated, History, contains, cast_of}
 use Rattle.act_order_plays.proofs.Common.{is_caller, copies_of, runs_of, is_dead, is_ended, refusal_of, add_event, slice_get_last, added_grows, sound_step}
 use Rattle.act_order_plays.proofs.Common.{Happening, Submitted, Answered, Outcome, Told, call_of, actor_of, RunsInTurn, kept_for, telling_unrefused, DeathPost}
-use Rattle.act_order_plays.proofs.Common.{collect_unrefused}
+use Rattle.act_order_plays.proofs.Common.{collect_unrefused, IsIn, is_contained, contains_or}
 use Rattle.act_orders.specs.declared.told.Outcome.TheVariants as out
 use Rattle.act_order_plays.proofs.Premises.{Premises}
-use Rattle.act_order_plays.proofs.Lists.{Has, has_more, has_last, has_pushed}
+use Rattle.act_order_plays.proofs.Lists.{has_last, has_more}
 use Rattle.act_order_plays.proofs.Fronts.{rans_of}
 use Rattle.act_order_plays.proofs.Causes.{IsNext, Good, good_more}
-use Rattle.act_order_plays.proofs.Casts.{contains_has, has_contains, cast_of_is, names_is, is_caller_is}
+use Rattle.act_order_plays.proofs.Casts.{cast_of_is, names_is, is_caller_is}
 use Rattle.act_order_plays.proofs.Answering.{IsTaken, none_terminated}
 use Rattle.act_order_plays.proofs.Stands.{Leads, leads_now, leads_by, leads_then, IsDeath, Shape, Keeps, Stands, shape_stays, keeps_stays, runs_are}
 use Rattle.act_order_plays.proofs.Keeping.{kept_gives}
@@ -26,16 +26,12 @@ ask_fine h c a caller copy = rw (caller, copy) refl
 pub take_fine : (h : History) (a : ℕ) → is_some (cast_of a h) ≡ true → is_ended a h ≡ false → contains a h.asked ≡ true → refusal_of h (TakeKill a) ≡ None
 take_fine h a cast lives asked = rw (cast, lives, asked) refl
 
--- where one actor more is killed, each that is killed was so before, or is that one
-pub killed_or : (killed : List ℕ) (a b : ℕ) → contains b (killed ++ a ∷ []) ≡ true → (contains b killed ≡ true) ⊎ (a ≡ b)
-killed_or killed a b is = elim (has_pushed killed a (has_contains (killed ++ a ∷ []) b is)) [ inl h ↦ inl (contains_has killed h) | inr e ↦ inr e ]
-
 died_or_not : (o : Outcome) → (o ≡ out.Died) ⊎ (o ≢ out.Died)
 died_or_not out.Died = inl refl
 died_or_not o = inr (λ e. cc)
 
 module _ (told : Told) (fits : Premises told) (turn : RunsInTurn told) (before : List Happening) (n : ℕ) (good : Good told before)
-    (next : IsNext told before (Answered n)) (role : Has (actor_of told (call_of told n).actor).callers (call_of told n).caller)
+    (next : IsNext told before (Answered n)) (role : IsIn (actor_of told (call_of told n).actor).callers (call_of told n).caller)
     (actor : (call_of told n).actor < length told.actors) where
   abbrev c : ℕ
   c = (call_of told n).caller
@@ -70,9 +66,9 @@ module _ (told : Told) (fits : Premises told) (turn : RunsInTurn told) (before :
         let lasting : has_terminated (runs_of a h1) ≡ false = none_terminated told (runs_of a h1) (rans_of told later a) (runs_are a shape1) in
         let lives : is_ended a h1 ≡ false = rw (unkilled, lasting, shape.retired) refl in
         let cast : is_some (cast_of a h1) ≡ true = ap is_some (cast_of_is told h1 shape1.casts actor) in
-        let asked : contains a h1.asked ≡ true = contains_has h1.asked (has_last h.asked a) in
+        let asked : contains a h1.asked ≡ true = is_contained a h1.asked (has_last h.asked a) in
         let fine1 = take_fine h1 a cast lives asked in let h2 = add_event h1 (TakeKill a) in
-        let dead : contains a h2.killed ≡ true = contains_has h2.killed (has_last h.killed a) in
+        let dead : contains a h2.killed ≡ true = is_contained a h2.killed (has_last h.killed a) in
         leads_by Killed h (AskKill c a) fine (leads_by Killed h1 (TakeKill a) fine1 (leads_now Killed h2 (record {
           shape = record {
             casts = shape.casts;
@@ -82,7 +78,7 @@ module _ (told : Told) (fits : Premises told) (turn : RunsInTurn told) (before :
             submitted = shape.submitted;
             ran = shape.ran;
             collected = shape.collected;
-            killed = λ b is. elim (killed_or h.killed a b is) [ inl old ↦ shape.killed b old | inr e ↦ subst (IsDeath told later) e death ];
+            killed = λ b is. elim (contains_or h.killed b a is) [ inl old ↦ shape.killed b old | inr e ↦ subst (IsDeath told later) e death ];
             sound = sound_step h1 (TakeKill a) shape1.sound fine1;
           };
           keeps = keeps_stays (added_grows h1 (TakeKill a)) shape1.sound.posts (keeps_stays (added_grows h (AskKill c a)) shape.sound.posts keeps);
@@ -109,7 +105,7 @@ module _ (told : Told) (fits : Premises told) (turn : RunsInTurn told) (before :
         let at : slice_get h1.posts j ≡ Some post = slice_get_last h.posts post in
         let g = add_event h1 (Collect j) in
         let after : Shape told later g = shape_collect told later h1 j post shape1 at death in
-        let has : Has later (Submitted n) = has_more before (Answered n ∷ []) (next.causes (Submitted n) refl) in
+        let has : IsIn later (Submitted n) = has_more before (Answered n ∷ []) (next.causes (Submitted n) refl) in
         let first = collect_answers told later h1 j n post good_later after has at (death_answers told g n) in
         let mine : kept_for told n g ≡ Some (Err ActorDied) = elim (kept_gives g n good_later after has actor first.1) [
           | inl r ↦ absurd (subst IsTaken died r.1)

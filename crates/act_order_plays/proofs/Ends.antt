@@ -2,13 +2,13 @@
 use Rattle.act_order_plays.proofs.Common.{◌≡◌, ◌≢◌, ℕ, suc, ◌<◌, ◌≤◌, inl, inr, Bool, true, false, List, [], ◌∷◌, length, Some, refl, sym, ap, subst, ◌∙◌}
 use Rattle.act_order_plays.proofs.Common.{arith, is_some, false_from_ne_true, AskKill, TakeKill, has_terminated, History, contains, cast_of, runs_of}
 use Rattle.act_order_plays.proofs.Common.{count_pairs, copies_of, is_dead, is_retired, is_ended, add_event, element, contains_more, End, Live, Dead, Retired}
-use Rattle.act_order_plays.proofs.Common.{Happening, Told, actor_of, IsInOrderBy, EndsAs, LeavesTold}
+use Rattle.act_order_plays.proofs.Common.{Happening, Told, actor_of, IsInOrderBy, EndsAs, LeavesTold, IsIn, is_contained, contains_or}
 use Rattle.act_order_plays.proofs.Premises.{Premises}
-use Rattle.act_order_plays.proofs.Lists.{Has, has_last, cases_le}
+use Rattle.act_order_plays.proofs.Lists.{has_last, cases_le}
 use Rattle.act_order_plays.proofs.Causes.{Good}
-use Rattle.act_order_plays.proofs.Casts.{contains_has, cast_of_is, names_is, is_caller_is}
+use Rattle.act_order_plays.proofs.Casts.{cast_of_is, names_is, is_caller_is}
 use Rattle.act_order_plays.proofs.Stands.{Leads, leads_now, leads_by, Stands}
-use Rattle.act_order_plays.proofs.Dying.{ask_fine, take_fine, killed_or}
+use Rattle.act_order_plays.proofs.Dying.{ask_fine, take_fine}
 use Rattle.act_order_plays.proofs.Leaving.{Left, left, left_stays}
 
 -- how an actor stands at the end, as it is told
@@ -94,7 +94,8 @@ already_dead told j h stage dies killed = record {
 kill_now : (told : Told) (fits : Premises told) (j : ℕ) (h : History) → j < length told.actors → Stage told j h → end_of told j ≡ Dead →
     contains j h.killed ≡ false → Leads (Stage told (suc j)) h
 kill_now told fits j h lt stage dies unkilled =
-    let one = element (actor_of told j).callers 0 (fits.roles j lt) in let c = one.0 in let role : Has (actor_of told j).callers c = (0, one.1) in
+    let one = element (actor_of told j).callers 0 (fits.roles j lt) in let c = one.0 in
+    let role : IsIn (actor_of told j).callers c = record { place = 0; at = one.1 } in
     let named = names_is told h c j stage.left.casts lt role in let zero_released = stage.held c j (omega arith) in
     let copy : copies_of c j h ≡ Some 1 = rw (named, stage.left.copied, zero_released) refl in
     let fine = ask_fine h c j (is_caller_is told h stage.left.casts lt role) copy in
@@ -103,17 +104,17 @@ kill_now told fits j h lt stage dies unkilled =
     let lasting : has_terminated (runs_of j h1) ≡ false = left1.lasting j in
     let lives : is_ended j h1 ≡ false = rw (unkilled, lasting, not_retired j h stage.ends) refl in
     let cast : is_some (cast_of j h1) ≡ true = ap is_some (cast_of_is told h1 left1.casts lt) in
-    let fine1 = take_fine h1 j cast lives (contains_has h1.asked (has_last h.asked j)) in
+    let fine1 = take_fine h1 j cast lives (is_contained j h1.asked (has_last h.asked j)) in
     let h2 = add_event h1 (TakeKill j) in
     let more : (a : ℕ) → contains a h.killed ≡ true → contains a h2.killed ≡ true =
     λ a is. contains_more a h.killed (j ∷ []) is in
     leads_by (Stage told (suc j)) h (AskKill c j) fine (leads_by (Stage told (suc j)) h1 (TakeKill j) fine1 (leads_now (Stage told (suc j)) h2 (record {
       left = left_stays h1 h2 (record { casts = refl; submitted = refl; ran = refl; collected = refl }) refl left1;
       ends = record {
-        killed = λ a is. elim (killed_or h.killed j a is) [ inl old ↦ stage.ends.killed a old | inr e ↦ subst (λ b. end_of told b ≡ Dead) e dies ];
+        killed = λ a is. elim (contains_or h.killed a j is) [ inl old ↦ stage.ends.killed a old | inr e ↦ subst (λ b. end_of told b ≡ Dead) e dies ];
         retired = λ a is. let r = stage.ends.retired a is in (r.0, omega (arith, r.1));
         dead = up_to (λ a. end_of told a ≡ Dead → contains a h2.killed ≡ true) j (λ a less e. more a (stage.ends.dead a less e))
-            (λ e. contains_has h2.killed (has_last h.killed j));
+            (λ e. is_contained j h2.killed (has_last h.killed j));
         gone = up_to (λ a. end_of told a ≡ Retired → contains a h.retired ≡ true) j stage.ends.gone
             (λ e. let bad : Dead ≡ Retired = sym dies ∙ e in absurd (cc));
       };

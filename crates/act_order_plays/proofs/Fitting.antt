@@ -5,10 +5,9 @@ use Rattle.act_order_plays.proofs.Common.{slice_get-map, slice_get_within, Arg, 
 use Rattle.act_order_plays.proofs.Common.{with_value, values_of, step_of_call, after_item, answer_at, kept_at, settled_future, settle, IsAsSubmitted, ActorSpec}
 use Rattle.act_order_plays.proofs.Common.{History, opening, opening_of, calls_of, runs_of, kept_of, next_item, after_run, after_all, All_more, All_at, IsKept}
 use Rattle.act_order_plays.proofs.Common.{after_all_keeps, filter-slice_get, map-slice_get, IsSound, answers_are, consistent, Outcome, Failed, Died, Open, Told}
-use Rattle.act_order_plays.proofs.Common.{call_of, IsWhole, kept_for, IsKeptFor, LeavesTold, Fits, args_of, future_of, Nothing, Submit, RunNext}
+use Rattle.act_order_plays.proofs.Common.{call_of, IsWhole, kept_for, IsKeptFor, LeavesTold, Fits, args_of, future_of, Nothing, Submit, RunNext, place_in}
 use Rattle.act_rules.proofs.Callers.{submit_fits, few_step}
 use Rattle.act_orders.specs.declared.told.Outcome.TheVariants.{Answered}
-use Rattle.act_order_plays.proofs.Lists.{has_of}
 use Rattle.act_order_plays.proofs.Left.{IsOf, stands, call_there}
 use Rattle.act_order_plays.proofs.Along.{grows_not}
 
@@ -114,7 +113,8 @@ module _ (told : Told) (last : History) (whole : IsWhole told) (sound : IsSound 
   pub takes_answered : (n m : ℕ) → n < length told.calls → (call_of told n).outcome ≡ Answered → Contains (call_of told n).takes m →
       (call_of told m).outcome ≡ Answered
   takes_answered n m lt answered takes =
-      let c = (call_of told n).caller in let k = future_of told m in let good = values_for n lt answered in let place = has_of (call_of told n).takes m takes in
+      let c = (call_of told n).caller in let k = future_of told m in let good = values_for n lt answered in
+      let place = place_in (call_of told n).takes m takes in
       let fut : slice_get (args_of told n) place.0 ≡ Some (Fut k) =
       slice_get-map (λ j. Fut (future_of told j)) (call_of told n).takes place.0 ∙ ap (option_map (λ j. Fut (future_of told j))) place.1 in
       let there : slice_get (settled_for n) place.0 ≡ Some (settle (kept_of c last) (Fut k)) =

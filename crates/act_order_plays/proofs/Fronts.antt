@@ -3,7 +3,8 @@ use Rattle.act_order_plays.proofs.Common.{◌≡◌, ℕ, zero, suc, ◌<◌, �
 use Rattle.act_order_plays.proofs.Common.{None, slice_get, refl, sym, ap, subst, ◌∙◌, arith, filter_map, option_map, Contains, eqb-true, eq-eqb, slice_get-map}
 use Rattle.act_order_plays.proofs.Common.{IsPrefix, element, slice_get_front, slice_get-filter, IsPrefix-filter, filter-slice_get, map-slice_get, Happening}
 use Rattle.act_order_plays.proofs.Common.{Submitted, Ran, Run, Told, call_of, calls_run, SameCaller, RunsInTurn, calls_by, future_of, runs_by, get_taken}
-use Rattle.act_order_plays.proofs.Lists.{Has, has_of, contains_of, has_filter, filter_has, has_filter_map, filter_map_has, Differ, below, below_at, below_has}
+use Rattle.act_order_plays.proofs.Common.{place_in, stands_in, IsIn, in_filter, get_in_taken}
+use Rattle.act_order_plays.proofs.Lists.{filter_has, has_filter_map, filter_map_has, Once, below, below_at, below_has}
 use Rattle.act_order_plays.proofs.Lists.{below_differ, cases_le}
 
 abbrev pub submitted_in : Happening → Option ℕ
@@ -48,33 +49,33 @@ ran_is : (x : Happening) (n : ℕ) → ran_in x ≡ Some n → x ≡ Ran n
 ran_is (Ran m) n e = let same : m ≡ n = cc in ap (λ k. Ran k) same
 ran_is x n e = absurd (cc)
 
-pub submits_has : (before : List Happening) (n : ℕ) → Has before (Submitted n) → Has (submits before) n
+pub submits_has : (before : List Happening) (n : ℕ) → IsIn before (Submitted n) → IsIn (submits before) n
 submits_has before n has = has_filter_map submitted_in before n has refl
 
-pub has_submits : (before : List Happening) (n : ℕ) → Has (submits before) n → Has before (Submitted n)
-has_submits before n has = let r = filter_map_has submitted_in before has in subst (λ x. Has before x) (submitted_is r.0 n r.2) r.1
+pub has_submits : (before : List Happening) (n : ℕ) → IsIn (submits before) n → IsIn before (Submitted n)
+has_submits before n has = let r = filter_map_has submitted_in before has in subst (λ x. IsIn before x) (submitted_is r.0 n r.2) r.1
 
-pub rans_has : (before : List Happening) (n : ℕ) → Has before (Ran n) → Has (rans before) n
+pub rans_has : (before : List Happening) (n : ℕ) → IsIn before (Ran n) → IsIn (rans before) n
 rans_has before n has = has_filter_map ran_in before n has refl
 
-pub has_rans : (before : List Happening) (n : ℕ) → Has (rans before) n → Has before (Ran n)
-has_rans before n has = let r = filter_map_has ran_in before has in subst (λ x. Has before x) (ran_is r.0 n r.2) r.1
+pub has_rans : (before : List Happening) (n : ℕ) → IsIn (rans before) n → IsIn before (Ran n)
+has_rans before n has = let r = filter_map_has ran_in before has in subst (λ x. IsIn before x) (ran_is r.0 n r.2) r.1
 
 -- where a call's submission is among what happened, it stands among those that its caller submitted
-pub subs_of_has : (told : Told) (before : List Happening) (n : ℕ) {c : ℕ} → Has before (Submitted n) → (call_of told n).caller ≡ c →
-    Has (subs_of told before c) n
-subs_of_has told before n {c} has is = has_filter (is_by told c) (submits before) (submits_has before n has) (eq-eqb (call_of told n).caller c is)
+pub subs_of_has : (told : Told) (before : List Happening) (n : ℕ) {c : ℕ} → IsIn before (Submitted n) → (call_of told n).caller ≡ c →
+    IsIn (subs_of told before c) n
+subs_of_has told before n {c} has is = in_filter (is_by told c) (submits_has before n has) (eq-eqb (call_of told n).caller c is)
 
 -- a call that stands among those that a caller submitted has its submission among what happened
-pub has_subs_of : (told : Told) (before : List Happening) (n c : ℕ) → Has (subs_of told before c) n → Has before (Submitted n)
+pub has_subs_of : (told : Told) (before : List Happening) (n c : ℕ) → IsIn (subs_of told before c) n → IsIn before (Submitted n)
 has_subs_of told before n c has = has_submits before n (filter_has (is_by told c) (submits before) has).0
 
 -- where a call's run is among what happened, it stands among those to its actor that ran
-pub rans_of_has : (told : Told) (before : List Happening) (n a : ℕ) → Has before (Ran n) → (call_of told n).actor ≡ a → Has (rans_of told before a) n
-rans_of_has told before n a has is = has_filter (is_to told a) (rans before) (rans_has before n has) (eq-eqb (call_of told n).actor a is)
+pub rans_of_has : (told : Told) (before : List Happening) (n a : ℕ) → IsIn before (Ran n) → (call_of told n).actor ≡ a → IsIn (rans_of told before a) n
+rans_of_has told before n a has is = in_filter (is_to told a) (rans_has before n has) (eq-eqb (call_of told n).actor a is)
 
 -- a call that stands among those to an actor that ran has its run among what happened, and is to that actor
-pub has_rans_of : (told : Told) (before : List Happening) (n a : ℕ) → Has (rans_of told before a) n → Has before (Ran n) × ((call_of told n).actor ≡ a)
+pub has_rans_of : (told : Told) (before : List Happening) (n a : ℕ) → IsIn (rans_of told before a) n → IsIn before (Ran n) × ((call_of told n).actor ≡ a)
 has_rans_of told before n a has = let both = filter_has (is_to told a) (rans before) has in (has_rans before n both.0, eqb-true (call_of told n).actor a both.1)
 
 -- ---- where calls and runs stand
@@ -94,7 +95,7 @@ call_before told n j y lt less at =
     let same : one.0 ≡ y = cc in subst (λ k. (k < n) × SameCaller told k n) same (short, eqb-true (call_of told one.0).caller (call_of told n).caller is.passes)
 
 -- no call stands twice among those of a caller
-pub calls_differ : (told : Told) (c : ℕ) → Differ (calls_by told c)
+pub calls_differ : (told : Told) (c : ℕ) → Once (calls_by told c)
 calls_differ told c = below_differ (is_by told c) (length told.calls)
 
 -- the run of a call
@@ -105,7 +106,7 @@ pub record IsRunAt (told : Told) (n p : ℕ) (run : Run) : Type 0 where
 -- a call that is among those of the run lists has a run there, at a place
 pub run_at : (told : Told) (n : ℕ) → Contains (calls_run told) n → (p : ℕ) × (run : Run) × IsRunAt told n p run
 run_at told n has =
-    let h = has_of (calls_run told) n has in let r = map-slice_get (λ (run : Run). run.call) told.runs h.0 h.1 in (h.0, r.0, record { at = r.1; call = r.2 })
+    let h = place_in (calls_run told) n has in let r = map-slice_get (λ (run : Run). run.call) told.runs h.0 h.1 in (h.0, r.0, record { at = r.1; call = r.2 })
 
 -- whether a run is of this actor
 abbrev pub is_run_of : ℕ → Run → Bool
@@ -168,18 +169,12 @@ apart_filter p (run ∷ runs) apart i j one next at there same = go (p run) i j 
 -- a call in the run lists before a place ran there
 pub ran_earlier : (told : Told) (i n : ℕ) → Contains (take i (calls_run told)) n → (j : ℕ) × (run : Run) × (j < i) × IsRunAt told n j run
 ran_earlier told i n has =
-    let h = has_of (take i (calls_run told)) n has in let early = get_taken i (calls_run told) h.0 h.1 in
+    let h = place_in (take i (calls_run told)) n has in let early = get_taken i (calls_run told) h.0 h.1 in
     let r = map-slice_get (λ (run : Run). run.call) told.runs h.0 early.1 in (h.0, r.0, early.0, record { at = r.1; call = r.2 })
 
 pub runs_earlier : (told : Told) (i j : ℕ) (run : Run) → j < i → slice_get told.runs j ≡ Some run → Contains (take i (calls_run told)) run.call
-runs_earlier told i j run lt at = contains_of (take i (calls_run told))
-    (j, get_in_taken i (calls_run told) j (slice_get-map (λ (r : Run). r.call) told.runs j ∙ ap (option_map (λ (r : Run). r.call)) at) lt)
-  where
-    get_in_taken : {A : Type 0} (i : ℕ) (xs : List A) (k : ℕ) {v : A} → slice_get xs k ≡ Some v → k < i → slice_get (take i xs) k ≡ Some v
-    get_in_taken zero xs k at lt = absurd (omega arith)
-    get_in_taken (suc i) [] k at lt = absurd (cc)
-    get_in_taken (suc i) (x ∷ xs) zero at lt = at
-    get_in_taken (suc i) (x ∷ xs) (suc k) {v} at lt = get_in_taken i xs k at (omega arith)
+runs_earlier told i j run lt at = stands_in (take i (calls_run told)) j
+    (get_in_taken i (calls_run told) j (slice_get-map (λ (r : Run). r.call) told.runs j ∙ ap (option_map (λ (r : Run). r.call)) at) lt)
 
 apart : (told : Told) → RunsInTurn told → Apart told.runs
 apart told turn i j one next at there same = elim (cases_le i j) [
@@ -191,7 +186,7 @@ apart told turn i j one next at there same = elim (cases_le i j) [
 ]
 
 -- where runs are in turn, no call stands twice among those that an actor ran
-pub runs_differ : (told : Told) (a : ℕ) → RunsInTurn told → Differ (runs_by told a)
+pub runs_differ : (told : Told) (a : ℕ) → RunsInTurn told → Once (runs_by told a)
 runs_differ told a turn i j x at there =
     let one = map-slice_get (λ (r : Run). r.call) (filter (is_run_of a) told.runs) i at in
     let next = map-slice_get (λ (r : Run). r.call) (filter (is_run_of a) told.runs) j there in

@@ -1,16 +1,17 @@
 -- What has happened so far in a play, and all that happens.
 use Rattle.act_order_plays.proofs.Common.{◌≡◌, ◌≢◌, ℕ, ◌==◌, ◌&&◌, inl, inr, Bool, true, false, List, [], ◌∷◌, ◌++◌, length, map, nat_lt, Some, None, refl, sym}
-use Rattle.act_order_plays.proofs.Common.{ap, subst, ◌∙◌, arith, append_assoc, Option, is_some, option_map, list_any, ltb-true, lt-ltb, list_any-append}
-use Rattle.act_order_plays.proofs.Common.{slice_get-map, Event, RunItem, Answer, IsPrefix, ActorSpec, History, contains, calls_of, runs_of, after, after_all}
+use Rattle.act_order_plays.proofs.Common.{ap, subst, ◌∙◌, arith, append_assoc, Option, is_some, list_any, ltb-true, lt-ltb}
+use Rattle.act_order_plays.proofs.Common.{Event, RunItem, Answer, ActorSpec, History, contains, calls_of, runs_of, after, after_all}
 use Rattle.act_order_plays.proofs.Common.{history, runs_grow, after_keeps, IsSound, sound_step, map-slice_get, Happening, Submitted, Ran, Answered, Outcome}
-use Rattle.act_order_plays.proofs.Common.{Told, call_of, calls_run, Happened, IsWhole, kept_for, future_of, history_more}
+use Rattle.act_order_plays.proofs.Common.{Told, call_of, calls_run, Happened, IsWhole, kept_for, future_of, history_more, IsIn}
+use Rattle.act_order_plays.proofs.Common.{contains_from_in, contains_is, in_behind, in_from_contains, is_contained, any_front}
 use Rattle.act_orders.specs.declared.told.Outcome.TheVariants as out
-use Rattle.act_order_plays.proofs.Lists.{Has, has_of, contains_of, has_more, below, below_at, below_has, below_differ}
+use Rattle.act_order_plays.proofs.Lists.{below, below_at, below_has, below_differ, Once, has_more}
 use Rattle.act_order_plays.proofs.Fronts.{run_at}
-use Rattle.act_order_plays.proofs.Casts.{contains_has, has_contains}
 use Rattle.act_order_plays.proofs.Left.{run_call}
 use Rattle.act_order_plays.proofs.Along.{Within, within_all, kept_along, calls_along}
-use Rattle.act_order_plays.proofs.Orders.{Once, once_map, once_append, has_later, has_either, last_of, Lasts, Before}
+use Rattle.act_order_plays.proofs.Orders.{once_map, once_append, has_either, last_of, Lasts, Before}
+use Rattle.act_rules.proofs.Elements.{in_map}
 
 -- ---- what has happened
 
@@ -80,60 +81,55 @@ every_once told =
     (once_map (λ n. Submitted n) _ (λ x y e. cc) (below_differ any_call (length told.calls)))
     (once_append (ran_all told) (answered_all told) (once_map (λ n. Ran n) _ (λ x y e. cc) (below_differ (λ n. contains n (calls_run told))
     (length told.calls))) (once_map (λ n. Answered n) _ (λ x y e. cc) (below_differ (λ n. is_told (call_of told n).outcome) (length told.calls)))
-    (λ x one two. let first = map-slice_get (λ n. Ran n) _ one.0 one.1 in let second = map-slice_get (λ n. Answered n) _ two.0 two.1 in
+    (λ x one two.
+    let first = map-slice_get (λ n. Ran n) _ one.place one.at in let second = map-slice_get (λ n. Answered n) _ two.place two.at in
     let bad : Ran first.0 ≡ Answered second.0 = first.2 ∙ sym second.2 in cc))
     (λ x one two.
-    let first = map-slice_get (λ n. Submitted n) _ one.0 one.1 in
+    let first = map-slice_get (λ n. Submitted n) _ one.place one.at in
     elim (has_either (ran_all told) (answered_all told) x two) [
       | inl h ↦
-          let second = map-slice_get (λ n. Ran n) _ h.0 h.1 in let bad : Submitted first.0 ≡ Ran second.0 = first.2 ∙ sym second.2 in cc
+          let second = map-slice_get (λ n. Ran n) _ h.place h.at in let bad : Submitted first.0 ≡ Ran second.0 = first.2 ∙ sym second.2 in cc
       | inr h ↦
-          let second = map-slice_get (λ n. Answered n) _ h.0 h.1 in
+          let second = map-slice_get (λ n. Answered n) _ h.place h.at in
           let bad : Submitted first.0 ≡ Answered second.0 = first.2 ∙ sym second.2 in cc
     ])
 
-has_map : {A B : Type 0} (f : A → B) (xs : List A) (x : A) → Has xs x → Has (map f xs) (f x)
-has_map f xs x has = (has.0, slice_get-map f xs has.0 ∙ ap (option_map f) has.1)
-
-pub every_has : (told : Told) (x : Happening) → IsWhole told → Happened told x → Has (every told) x
+pub every_has : (told : Told) (x : Happening) → IsWhole told → Happened told x → IsIn (every told) x
 every_has told (Submitted n) whole lt =
     has_more (submitted_all told) (ran_all told ++ answered_all told)
-    (has_map (λ n. Submitted n) _ n (_, below_at any_call (length told.calls) n lt refl))
+    (in_map (λ n. Submitted n) (record { place = _; at = below_at any_call (length told.calls) n lt refl }))
 every_has told (Ran n) whole ran =
     let run = run_at told n ran in
-    has_later (submitted_all told) (ran_all told ++ answered_all told) (has_more (ran_all told) (answered_all told)
-    (has_map (λ n. Ran n) _ n (
-      _,
-      below_at (λ n. contains n (calls_run told)) (length told.calls) n (run_call told n run.0 run.1 whole run.2)
-          (contains_has (calls_run told) (has_of (calls_run told) n ran)),
-    )))
+    in_behind (submitted_all told) (ran_all told ++ answered_all told) (has_more (ran_all told) (answered_all told)
+    (in_map (λ n. Ran n) (record {
+      place = _;
+      at = below_at (λ n. contains n (calls_run told)) (length told.calls) n (run_call told n run.0 run.1 whole run.2)
+          (is_contained n (calls_run told) (in_from_contains (calls_run told) n ran));
+    })))
 every_has told (Answered n) whole answered =
-    has_later (submitted_all told) (ran_all told ++ answered_all told) (has_later (ran_all told) (answered_all told)
-    (has_map (λ n. Answered n) _ n (
-      _,
-      below_at (λ n. is_told (call_of told n).outcome) (length told.calls) n answered.0 (is_told_of (call_of told n).outcome answered.1),
-    )))
+    in_behind (submitted_all told) (ran_all told ++ answered_all told) (in_behind (ran_all told) (answered_all told)
+    (in_map (λ n. Answered n) (record {
+      place = _;
+      at = below_at (λ n. is_told (call_of told n).outcome) (length told.calls) n answered.0 (is_told_of (call_of told n).outcome answered.1);
+    })))
 
-pub every_happened : (told : Told) (x : Happening) → Has (every told) x → Happened told x
+pub every_happened : (told : Told) (x : Happening) → IsIn (every told) x → Happened told x
 every_happened told x has = elim (has_either (submitted_all told) (ran_all told ++ answered_all told) x has) [
   | inl h ↦
-      let one = map-slice_get (λ n. Submitted n) _ h.0 h.1 in subst (Happened told) one.2 (below_has any_call (length told.calls) h.0 one.1).less
+      let one = map-slice_get (λ n. Submitted n) _ h.place h.at in subst (Happened told) one.2 (below_has any_call (length told.calls) h.place one.1).less
   | inr rest ↦ elim (has_either (ran_all told) (answered_all told) x rest) [
     | inl h ↦
-        let one = map-slice_get (λ n. Ran n) _ h.0 h.1 in
-        subst (Happened told) one.2 (contains_of (calls_run told) (has_contains (calls_run told) one.0
-        (below_has (λ n. contains n (calls_run told)) (length told.calls) h.0 one.1).passes))
+        let one = map-slice_get (λ n. Ran n) _ h.place h.at in
+        let is = below_has (λ n. contains n (calls_run told)) (length told.calls) h.place one.1 in
+        subst (Happened told) one.2 (contains_from_in (contains_is one.0 (calls_run told) is.passes))
     | inr h ↦
-        let one = map-slice_get (λ n. Answered n) _ h.0 h.1 in
-        let is = below_has (λ n. is_told (call_of told n).outcome) (length told.calls) h.0 one.1 in
+        let one = map-slice_get (λ n. Answered n) _ h.place h.at in
+        let is = below_has (λ n. is_told (call_of told n).outcome) (length told.calls) h.place one.1 in
         subst (Happened told) one.2 (is.less, told_is (call_of told one.0).outcome is.passes)
   ]
 ]
 
 -- ---- what has happened stays so
-
-any_more : {A : Type 0} (p : A → Bool) (xs ys : List A) → IsPrefix xs ys → list_any p xs ≡ true → list_any p ys ≡ true
-any_more p xs ys front is = rw (← front.1, list_any-append p xs front.0, is) refl
 
 pub call_lasts : (told : Told) (h g : History) (n : ℕ) → Within h g → has_call told h n ≡ true → has_call told g n ≡ true
 call_lasts told h g n way has =
@@ -141,7 +137,7 @@ call_lasts told h g n way has =
     lt-ltb (future_of told n) (length (calls_of c g)) (omega arith)
 
 pub run_lasts : (told : Told) (h g : History) (n : ℕ) → Within h g → has_run told h n ≡ true → has_run told g n ≡ true
-run_lasts told h g n way has = let a = (call_of told n).actor in any_more _ (runs_of a h) (runs_of a g) (runs_grow a way.grows) has
+run_lasts told h g n way has = let a = (call_of told n).actor in any_front _ (runs_of a h) (runs_of a g) (runs_grow a way.grows) has
 
 pub answer_lasts : (told : Told) {h : History} (g : History) (n : ℕ) → Within h g → has_answer told h n ≡ true → has_answer told g n ≡ true
 answer_lasts told {h} g n way has = go (kept_for told n h) refl has

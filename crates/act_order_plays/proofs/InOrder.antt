@@ -2,8 +2,7 @@
 use Rattle.act_order_plays.proofs.Common.{◌≡◌, ℕ, ◌<◌, ◌≤◌, inl, inr, true, false, List, [], ◌∷◌, ◌++◌, length, take, nat_lt, Some, slice_get, refl, sym, subst}
 use Rattle.act_order_plays.proofs.Common.{◌∙◌, arith, append_assoc, Contains, ltb-true, Event, ActorSpec, History, opening, calls_of, after, history, IsSound}
 use Rattle.act_order_plays.proofs.Common.{world_sound, world_retires, Happening, Submitted, Ran, Answered, Told, call_of, Happened, IsCause, IsOrder, IsInOrder}
-use Rattle.act_order_plays.proofs.Common.{IsWhole, casts_of, future_of, IsPlayOf, history_more, le-ltb}
-use Rattle.act_order_plays.proofs.Lists.{has_of, contains_of}
+use Rattle.act_order_plays.proofs.Common.{IsWhole, casts_of, future_of, IsPlayOf, history_more, le-ltb, stands_in, contains_from_in, in_from_contains}
 use Rattle.act_order_plays.proofs.Fronts.{run_at}
 use Rattle.act_order_plays.proofs.Left.{run_happened, run_call}
 use Rattle.act_order_plays.proofs.Turns.{runs_in_turn, ends_right}
@@ -102,22 +101,22 @@ module _ (told : Told) (events : List Event) (whole : IsWhole told) (play : IsPl
       subst (λ s. has_in told s x ≡ true) (sym (last_is told (opening casts) events)) (at_the_end told last whole sound play.leaves x happened)
 
   has_happened : (x : Happening) → Contains order x → Happened told x
-  has_happened x has = every_happened told x (order_only (has_in told) (every told) start all x lasts (has_of order x has)).0
+  has_happened x has = every_happened told x (order_only (has_in told) (every told) start all x lasts (in_from_contains order x has)).0
 
   causes_first : (i : ℕ) (x : Happening) → slice_get order i ≡ Some x → (y : Happening) → IsCause told y x → Contains (take i order) y
   causes_first i x at y cause =
-      let happened = has_happened x (contains_of order (i, at)) in
-      contains_of (take i order)
+      let happened = has_happened x (stands_in order i at) in
+      contains_from_in
       (order_after (has_in told) (every told) start all i x y lasts at (all_before told y x casts [] events (caused y x cause happened))
       (every_has told y whole (cause_happened y x cause happened)) (nothing_yet y))
 
   is_order : IsOrder told order
   is_order = record {
-    all = λ x happened. contains_of order
+    all = λ x happened. contains_from_in
         (order_has (has_in told) (every told) start all x (every_has told x whole happened) (nothing_yet x) (in_the_end x happened));
     only = has_happened;
     after = λ i x at. record {
-      once = λ has. order_fresh (has_in told) (every told) start all i x (every_once told) lasts at (has_of (take i order) x has);
+      once = λ has. order_fresh (has_in told) (every told) start all i x (every_once told) lasts at (in_from_contains (take i order) x has);
       causes = causes_first i x at;
     };
   }

@@ -3,10 +3,9 @@ use Rattle.act_order_plays.proofs.Common.{◌≡◌, ◌≢◌, ℕ, ◌+◌, �
 use Rattle.act_order_plays.proofs.Common.{arith, Option, is_some, list_any, Contains, ltb-true, lt-ltb, slice_get_within, Arg, ActorDied, Event, Answer}
 use Rattle.act_order_plays.proofs.Common.{History, calls_of, runs_of, is_dead, is_retired, after, IsSound, kept_from, answers_are, deaths_are, Happening}
 use Rattle.act_order_plays.proofs.Common.{Submitted, Ran, Answered, Outcome, Run, Told, call_of, calls_run, Happened, IsLastRun, RunsBefore, IsCause, IsWhole}
-use Rattle.act_order_plays.proofs.Common.{kept_for, IsKeptFor, LeavesTold, future_of, or_left}
+use Rattle.act_order_plays.proofs.Common.{kept_for, IsKeptFor, LeavesTold, future_of, or_left, any_in, any_is}
 use Rattle.act_orders.specs.declared.told.Outcome.TheVariants as out
 use Rattle.act_order_plays.proofs.Fronts.{rank, run_ranks, run_at}
-use Rattle.act_order_plays.proofs.Casts.{list_any_has, any_has}
 use Rattle.act_order_plays.proofs.Left.{IsOf, ran_by, run_happened, stands, call_there, item_at, run_told, item_here}
 use Rattle.act_order_plays.proofs.Turns.{here, future_less}
 use Rattle.act_order_plays.proofs.Along.{Within, kept_along}
@@ -35,7 +34,7 @@ module _ (told : Told) (last : History) (whole : IsWhole told) (sound : IsSound 
       let is : IsOf told n run.item = record { caller = run.caller; future = run.future } in
       let actor = item_here told last whole sound leaves g run.actor run.place n way.grows way.sound lt run.at is in
       subst (λ b. list_any (is_item (call_of told n).caller (future_of told n)) (runs_of b g) ≡ true) (sym actor)
-      (list_any_has (is_item (call_of told n).caller (future_of told n)) (runs_of run.actor g) (run.place, run.at) (item_is n is))
+      (any_in (is_item (call_of told n).caller (future_of told n)) {xs = runs_of run.actor g} (record { place = run.place; at = run.at }) (item_is n is))
 
   -- each run that is told is in the run list of its actor
   run_left : (i a m : ℕ) → slice_get told.runs i ≡ Some (record { actor = a; call = m }) →
@@ -43,7 +42,7 @@ module _ (told : Told) (last : History) (whole : IsWhole told) (sound : IsSound 
   run_left i a m at =
       let run : Run = record { actor = a; call = m } in
       let item = item_at told last whole sound leaves a (rank told a i) m (run_ranks told i at) in
-      list_any_has (is_item (call_of told m).caller (future_of told m)) (runs_of a last) (rank told a i, item.1) (item_is m item.2)
+      any_in (is_item (call_of told m).caller (future_of told m)) (record { place = rank told a i; at = item.1 }) (item_is m item.2)
 
   -- a death comes after all that the actor ran
   died_ran : (g : History) (n m : ℕ) → Within g last → n < length told.calls → kept_for told n g ≡ Some (Err ActorDied) →
@@ -119,9 +118,9 @@ module _ (told : Told) (last : History) (whole : IsWhole told) (sound : IsSound 
   told_ran : (n : ℕ) → n < length told.calls → has_run told last n ≡ true → Contains (calls_run told) n
   told_ran n lt has =
       let a = (call_of told n).actor in
-      let found = any_has (is_item (call_of told n).caller (future_of told n)) (runs_of a last) has in
-      let at = run_told told last whole sound leaves a found.1.0 n found.0 lt found.1.1 (is_of_item told n found.0 found.2) in
-      let run = ran_by told a found.1.0 n at in run_happened told n run.0 run.3
+      let found = any_is (is_item (call_of told n).caller (future_of told n)) (runs_of a last) has in
+      let at = run_told told last whole sound leaves a found.1.inside.place n found.0 lt found.1.inside.at (is_of_item told n found.0 found.1.passes) in
+      let run = ran_by told a found.1.inside.place n at in run_happened told n run.0 run.3
 
   -- what ran before an answer is told
   pub ran_before : (n m : ℕ) → Within last last → n < length told.calls → (call_of told n).outcome ≢ out.Open → RunsBefore told (call_of told n).outcome m n →

@@ -4,8 +4,9 @@ use Rattle.act_order_plays.proofs.Common.{ap, subst, ◌∙◌, option_map, Cont
 use Rattle.act_order_plays.proofs.Common.{has_terminated, calls_to, History, calls_of, runs_of, ran_count, under, calls_to-at, map-slice_get, Retired}
 use Rattle.act_order_plays.proofs.Common.{Happening, Submitted, Ran, Answered, Outcome, Run, Told, call_of, actor_of, calls_run, IsInOrderBy, kept_for}
 use Rattle.act_order_plays.proofs.Common.{IsKeptFor, submission_key, call_key, item_key, run_key, casts_of, calls_by, runs_by, future_of}
+use Rattle.act_order_plays.proofs.Common.{stands_in, IsIn, in_from_contains}
 use Rattle.act_orders.specs.declared.told.Outcome.TheVariants as out
-use Rattle.act_order_plays.proofs.Lists.{Has, has_of, contains_of, filter_has, front_has_all, below_has}
+use Rattle.act_order_plays.proofs.Lists.{filter_has, front_has_all, below_has}
 use Rattle.act_order_plays.proofs.Fronts.{is_by, subs_of, rans_of, subs_of_has, rans_of_has, calls_differ, runs_differ, is_run_of, call_at}
 use Rattle.act_order_plays.proofs.Causes.{Good}
 use Rattle.act_order_plays.proofs.Answering.{Suits, IsTaken, item_keys, none_terminated}
@@ -56,28 +57,26 @@ suits_kept o kept differs suits = suits
 module _ (told : Told) (order : List Happening) (by : IsInOrderBy told order) (good : Good told order) where
   all_subs : (c : ℕ) → subs_of told order c ≡ calls_by told c
   all_subs c = front_has_all (subs_of told order c) (calls_by told c) (calls_differ told c) (good.calls c) (λ y has.
-      let is = below_has (is_by told c) (length told.calls) has.0 has.1 in
-      subs_of_has told order y (has_of order (Submitted y) (by.causes.all (Submitted y) is.less)) (eqb-true (call_of told y).caller c is.passes))
+      let is = below_has (is_by told c) (length told.calls) has.place has.at in
+      subs_of_has told order y (in_from_contains order (Submitted y) (by.causes.all (Submitted y) is.less)) (eqb-true (call_of told y).caller c is.passes))
 
   all_rans : (a : ℕ) → rans_of told order a ≡ runs_by told a
   all_rans a = front_has_all (rans_of told order a) (runs_by told a) (runs_differ told a by.runs) (good.runs a) (λ y has.
-      let one = map-slice_get (λ (run : Run). run.call) (filter (is_run_of a) told.runs) has.0 has.1 in
-      let run = filter_has (is_run_of a) told.runs (has.0, one.1) in
+      let one = map-slice_get (λ (run : Run). run.call) (filter (is_run_of a) told.runs) has.place has.at in
+      let run = filter_has (is_run_of a) told.runs (record { place = has.place; at = one.1 }) in
       let there : Contains (calls_run told) y =
-      contains_of (calls_run told) (
-        run.0.0,
-        slice_get-map (λ (r : Run). r.call) told.runs run.0.0 ∙ ap (option_map (λ (r : Run). r.call)) run.0.1 ∙ ap (λ k. Some k) one.2,
-      ) in
+      stands_in (calls_run told) run.0.place
+      (slice_get-map (λ (r : Run). r.call) told.runs run.0.place ∙ ap (option_map (λ (r : Run). r.call)) run.0.at ∙ ap (λ k. Some k) one.2) in
       let here : (call_of told y).actor ≡ a =
-      ap (λ k. (call_of told k).actor) (sym one.2) ∙ (by.runs run.0.0 one.0 run.0.1).here ∙ eqb-true one.0.actor a run.1 in
-      rans_of_has told order y a (has_of order (Ran y) (by.causes.all (Ran y) there)) here)
+      ap (λ k. (call_of told k).actor) (sym one.2) ∙ (by.runs run.0.place one.0 run.0.at).here ∙ eqb-true one.0.actor a run.1 in
+      rans_of_has told order y a (in_from_contains order (Ran y) (by.causes.all (Ran y) there)) here)
 
   -- for an open call nothing but a death is kept
   no_value : (h : History) → Stands told order h → (n : ℕ) → n < length told.calls → (call_of told n).outcome ≡ out.Open → (kept : Option Answer) →
       kept_for told n h ≡ kept → IsKeptFor out.Open kept
   no_value h stands n lt is None e = inl refl
   no_value h stands n lt is (Some answer) e =
-      let submitted = has_of order (Submitted n) (by.causes.all (Submitted n) lt) in
+      let submitted = in_from_contains order (Submitted n) (by.causes.all (Submitted n) lt) in
       let actor = role_actor told (call_of told n).caller (call_of told n).actor (by.ends n lt).role in
       elim (kept_gives h n good stands.shape submitted actor e) [
         | inl r ↦ absurd (subst IsTaken is r.1)
@@ -88,21 +87,21 @@ module _ (told : Told) (order : List Happening) (by : IsInOrderBy told order) (g
   answers_kept h stands n lt = elim (open_or_not (call_of told n).outcome) [
     | inl e ↦ subst (λ o. IsKeptFor o (kept_for told n h)) (sym e) (no_value h stands n lt e (kept_for told n h) refl)
     | inr differs ↦ suits_kept (call_of told n).outcome (kept_for told n h) differs
-        (answer_kept h n good stands.keeps (has_of order (Answered n) (by.causes.all (Answered n) (lt, differs))))
+        (answer_kept h n good stands.keeps (in_from_contains order (Answered n) (by.causes.all (Answered n) (lt, differs))))
   ]
 
   all_ran : (h : History) → Shape told order h → (c a : ℕ) → (actor_of told a).end ≡ Retired → ran_count c a h ≡ length (calls_to a (calls_of c h))
   all_ran h shape c a retired =
       let same : futures_ran c a h ≡ futures_to a (calls_of c h) =
       front_has_all (futures_ran c a h) (futures_to a (calls_of c h)) (futures_differ a (calls_of c h)) (ran_front h c a shape) (λ y has. let one =
-      map-slice_get (λ (call : ℕ × Submission). call.0) (calls_to a (calls_of c h)) has.0 has.1 in let is = calls_to-at a (calls_of c h) has.0 one.1 in
+      map-slice_get (λ (call : ℕ × Submission). call.0) (calls_to a (calls_of c h)) has.place has.at in let is = calls_to-at a (calls_of c h) has.place one.1 in
       let m = sub_call told order h c one.0.0 good shape is.at in let low = below_has (is_by told c) (length told.calls) one.0.0 m.1 in
       let caller : (call_of told m.0).caller ≡ c = eqb-true (call_of told m.0).caller c low.passes in let actor : (call_of told m.0).actor ≡ a =
       ap (λ (s : Submission). s.actor) m.2 ∙ is.actor in let ran = (by.ends m.0 low.less).retired (ap (λ b. (actor_of told b).end) actor ∙ retired) in
-      let there = ran_has told order h m.0 shape (has_of order (Ran m.0) (by.causes.all (Ran m.0) ran)) in let future : future_of told m.0 ≡ one.0.0 =
+      let there = ran_has told order h m.0 shape (in_from_contains order (Ran m.0) (by.causes.all (Ran m.0) ran)) in let future : future_of told m.0 ≡ one.0.0 =
       calls_differ told c (future_of told m.0) one.0.0 m.0 (subst (λ d. slice_get (calls_by told d) (future_of told m.0) ≡ Some m.0) caller
-      (call_at told m.0 low.less)) m.1 in subst (λ q. Has (futures_ran c a h) q) (future ∙ one.2) (subst (λ b. Has (futures_ran c b h) (future_of told m.0))
-      actor (subst (λ d. Has (futures_ran d (call_of told m.0).actor h) (future_of told m.0)) caller there))) in
+      (call_at told m.0 low.less)) m.1 in subst (λ q. IsIn (futures_ran c a h) q) (future ∙ one.2) (subst (λ b. IsIn (futures_ran c b h) (future_of told m.0))
+      actor (subst (λ d. IsIn (futures_ran d (call_of told m.0).actor h) (future_of told m.0)) caller there))) in
       sym (length-map (items_of c (runs_of a h)) (λ (i : RunItem). i.future)) ∙ ap (λ l. length l) same
       ∙ length-map (calls_to a (calls_of c h)) (λ (call : ℕ × Submission). call.0)
 

@@ -2,8 +2,7 @@
 use Rattle.act_order_plays.proofs.Common.{◌≡◌, ℕ, ◌<◌, List, length, map, filter, Some, slice_get, sym, ap, subst, ◌∙◌, option_map, Contains, eqb-true}
 use Rattle.act_order_plays.proofs.Common.{slice_get-map, slice_get_within, get_or_from_slice_get, Arg, RunItem, Submission, History, calls_of, runs_of}
 use Rattle.act_order_plays.proofs.Common.{slice_get_front, Grows, calls_grow, IsSound, filter-slice_get, map-slice_get, held_submission, Run, Told, call_of}
-use Rattle.act_order_plays.proofs.Common.{calls_run, IsWhole, submission_key, call_key, item_key, run_key, LeavesTold, calls_by, runs_by, future_of}
-use Rattle.act_order_plays.proofs.Lists.{contains_of}
+use Rattle.act_order_plays.proofs.Common.{calls_run, IsWhole, submission_key, call_key, item_key, run_key, LeavesTold, calls_by, runs_by, future_of, stands_in}
 use Rattle.act_order_plays.proofs.Fronts.{IsRunAt, is_run_of, call_at}
 use Rattle.act_order_plays.proofs.Keeping.{same_call}
 
@@ -25,7 +24,7 @@ pub run_happened : (told : Told) (n p : ℕ) {run : Run} → IsRunAt told n p ru
 run_happened told n p {run} is =
     let at : slice_get (calls_run told) p ≡ Some run.call =
     slice_get-map (λ (r : Run). r.call) told.runs p ∙ ap (option_map (λ (r : Run). r.call)) is.at in
-    contains_of (calls_run told) (p, at ∙ ap (λ k. Some k) is.call)
+    stands_in (calls_run told) p (at ∙ ap (λ k. Some k) is.call)
 
 -- where what is told is whole, a call that has a run is one of its calls
 pub run_call : (told : Told) (n p : ℕ) (run : Run) → IsWhole told → IsRunAt told n p run → n < length told.calls

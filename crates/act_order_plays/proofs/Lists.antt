@@ -1,70 +1,53 @@
 -- Laws of lists: what they have, fronts of lists whose items differ, and numbers that pass a test.
-use Rattle.act_order_plays.proofs.Common.{◌≡◌, ℕ, zero, suc, ◌+◌, ◌<◌, ◌≤◌, ◌⊎◌, inl, inr, Bool, true, false, cond, List, [], ◌∷◌, ◌++◌, length, filter, take}
-use Rattle.act_order_plays.proofs.Common.{Option, Some, None, slice_get, refl, sym, ap, subst, ◌∙◌, arith, filter_map, Contains, cons_option, range_with_len}
-use Rattle.act_order_plays.proofs.Common.{cases_lt, append-nil, filter-append, slice_get_within, slice_get-get_or, get_or_from_slice_get, IsPrefix}
-use Rattle.act_order_plays.proofs.Common.{slice_get_more, slice_get_front, slice_get_last, slice_get-filter, front_next, range_push, element, filter-slice_get}
-use Rattle.act_order_plays.proofs.Common.{slice_get_pushed, front_whole}
+use Rattle.act_order_plays.proofs.Common.{◌≡◌, ℕ, zero, suc, ◌+◌, ◌<◌, ◌≤◌, ◌⊎◌, inl, inr, Bool, true, false, cond, List, [], ◌∷◌, ◌++◌, length, filter, Option}
+use Rattle.act_order_plays.proofs.Common.{Some, None, slice_get, refl, sym, ap, subst, ◌∙◌, arith, filter_map, cons_option, range_with_len, cases_lt}
+use Rattle.act_order_plays.proofs.Common.{append-nil, filter-append, slice_get_within, IsPrefix, slice_get_more, slice_get_front, slice_get_last, front_next}
+use Rattle.act_order_plays.proofs.Common.{range_push, element, filter-slice_get, slice_get_pushed, front_whole, IsIn, in_front, in_none}
 
 -- ---- what a list has
 
--- an item stands at some place
-abbrev pub Has : {A : Type 0} → List A → A → Type 0
-Has {A} xs x = (k : ℕ) × (slice_get xs k ≡ Some x)
-
--- what a list contains stands at a place of it
-pub has_of : {A : Type 0} (xs : List A) (x : A) → Contains xs x → Has xs x
-has_of xs x has = (has.0, slice_get-get_or xs has.0 x has.1 ∙ ap Some has.2)
-
--- what stands at a place of a list is contained in it
-pub contains_of : {A : Type 0} (xs : List A) {x : A} → Has xs x → Contains xs x
-contains_of xs {x} has = (has.0, slice_get_within xs has.0 x has.1, get_or_from_slice_get xs has.0 x x has.1)
-
 -- what a list has, it has with more items behind it, too
-pub has_more : {A : Type 0} (xs ys : List A) {x : A} → Has xs x → Has (xs ++ ys) x
-has_more xs ys {x} has = (has.0, slice_get_more xs ys has.0 has.1)
+pub has_more : {A : Type 0} (xs ys : List A) {x : A} → IsIn xs x → IsIn (xs ++ ys) x
+has_more xs ys has = in_front (xs ++ ys) (ys, refl) has
 
 -- a list has the item that was added at its end
-pub has_last : {A : Type 0} (xs : List A) (x : A) → Has (xs ++ x ∷ []) x
-has_last xs x = (length xs, slice_get_last xs x)
+pub has_last : {A : Type 0} (xs : List A) (x : A) → IsIn (xs ++ x ∷ []) x
+has_last xs x = record { place = length xs; at = slice_get_last xs x }
 
 -- where an item is added at the end, what the list has it had before, or it is that item
-pub has_pushed : {A : Type 0} (xs : List A) (y : A) {x : A} → Has (xs ++ y ∷ []) x → (Has xs x) ⊎ (y ≡ x)
-has_pushed xs y {x} has = elim (slice_get_pushed xs y has.0 has.1) [ inl h ↦ inl (has.0, h) | inr h ↦ inr h.1 ]
-
--- what a list has and passes the test, the filtered list has
-pub has_filter : {A : Type 0} (p : A → Bool) (xs : List A) {x : A} → Has xs x → p x ≡ true → Has (filter p xs) x
-has_filter p xs {x} has passes = (length (filter p (take has.0 xs)), slice_get-filter p xs has.0 has.1 passes)
+pub has_pushed : {A : Type 0} (xs : List A) (y : A) {x : A} → IsIn (xs ++ y ∷ []) x → (IsIn xs x) ⊎ (y ≡ x)
+has_pushed xs y {x} has = elim (slice_get_pushed xs y has.place has.at) [ inl h ↦ inl (record { place = has.place; at = h }) | inr h ↦ inr h.1 ]
 
 -- what a filtered list has, the whole list has, and it passes the test
-pub filter_has : {A : Type 0} (p : A → Bool) (xs : List A) {x : A} → Has (filter p xs) x → Has xs x × (p x ≡ true)
-filter_has p xs {x} has = let place = filter-slice_get p xs has.0 has.1 in ((place.place, place.at), place.passes)
+pub filter_has : {A : Type 0} (p : A → Bool) (xs : List A) {x : A} → IsIn (filter p xs) x → IsIn xs x × (p x ≡ true)
+filter_has p xs {x} has = let place = filter-slice_get p xs has.place has.at in (record { place = place.place; at = place.at }, place.passes)
 
 -- what an item gives stands among what all give
-pub has_filter_map : {A B : Type 0} (f : A → Option B) (xs : List A) {x : A} (y : B) → Has xs x → f x ≡ Some y → Has (filter_map f xs) y
-has_filter_map {A = A} {B = B} f xs {x} y has is = go xs has.0 has.1
+pub has_filter_map : {A B : Type 0} (f : A → Option B) (xs : List A) {x : A} (y : B) → IsIn xs x → f x ≡ Some y → IsIn (filter_map f xs) y
+has_filter_map {A = A} {B = B} f xs {x} y has is = go xs has.place has.at
   where
-    later : (o : Option B) (ys : List B) → Has ys y → Has (cons_option o ys) y
+    later : (o : Option B) (ys : List B) → IsIn ys y → IsIn (cons_option o ys) y
     later None ys h = h
-    later (Some z) ys h = (suc h.0, h.1)
+    later (Some z) ys h = record { place = suc h.place; at = h.at }
 
-    go : (xs : List A) (i : ℕ) → slice_get xs i ≡ Some x → Has (filter_map f xs) y
+    go : (xs : List A) (i : ℕ) → slice_get xs i ≡ Some x → IsIn (filter_map f xs) y
     go [] i e = absurd (cc)
     go (z ∷ zs) zero e = let same : z ≡ x = cc in let there : f z ≡ Some y = ap f same ∙ is in
-        (zero, ap (λ o. slice_get (cons_option o (filter_map f zs)) 0) there)
+        record { place = zero; at = ap (λ o. slice_get (cons_option o (filter_map f zs)) 0) there }
     go (z ∷ zs) (suc i) e = later (f z) (filter_map f zs) (go zs i e)
 
 -- and what stands among these was given by some item
-pub filter_map_has : {A B : Type 0} (f : A → Option B) (xs : List A) {y : B} → Has (filter_map f xs) y → (x : A) × Has xs x × (f x ≡ Some y)
-filter_map_has f [] has = absurd (let e = has.1 in cc)
-filter_map_has {A = A} {B = B} f (z ∷ zs) {y} has = go (f z) refl has.0 has.1 (λ i e. filter_map_has f zs (i, e))
+pub filter_map_has : {A B : Type 0} (f : A → Option B) (xs : List A) {y : B} → IsIn (filter_map f xs) y → (x : A) × IsIn xs x × (f x ≡ Some y)
+filter_map_has f [] has = absurd (in_none has)
+filter_map_has {A = A} {B = B} f (z ∷ zs) {y} has = go (f z) refl has.place has.at (λ i e. filter_map_has f zs (record { place = i; at = e }))
   where
-    later : ((x : A) × Has zs x × (f x ≡ Some y)) → ((x : A) × Has (z ∷ zs) x × (f x ≡ Some y))
-    later r = (r.0, (suc r.1.0, r.1.1), r.2)
+    later : ((x : A) × IsIn zs x × (f x ≡ Some y)) → ((x : A) × IsIn (z ∷ zs) x × (f x ≡ Some y))
+    later r = (r.0, record { place = suc r.1.place; at = r.1.at }, r.2)
 
     go : (o : Option B) → f z ≡ o → (i : ℕ) → slice_get (cons_option o (filter_map f zs)) i ≡ Some y →
-        ((j : ℕ) → slice_get (filter_map f zs) j ≡ Some y → ((x : A) × Has zs x × (f x ≡ Some y))) → ((x : A) × Has (z ∷ zs) x × (f x ≡ Some y))
+        ((j : ℕ) → slice_get (filter_map f zs) j ≡ Some y → ((x : A) × IsIn zs x × (f x ≡ Some y))) → ((x : A) × IsIn (z ∷ zs) x × (f x ≡ Some y))
     go None is i e rest = later (rest i e)
-    go (Some w) is zero e rest = (z, (zero, refl), is ∙ e)
+    go (Some w) is zero e rest = (z, record { place = zero; at = refl }, is ∙ e)
     go (Some w) is (suc i) e rest = later (rest i e)
 
 -- ---- lists whose items differ, and their fronts
@@ -73,19 +56,19 @@ filter_map_has {A = A} {B = B} f (z ∷ zs) {y} has = go (f z) refl has.0 has.1 
 pub cases_le : (m n : ℕ) → (m ≤ n) ⊎ (n < m)
 cases_le m n = elim (cases_lt n m) [ inl a ↦ inr a | inr b ↦ inl b ]
 
--- no number stands at two places
-abbrev pub Differ : List ℕ → Type 0
-Differ xs = (i j x : ℕ) → slice_get xs i ≡ Some x → slice_get xs j ≡ Some x → i ≡ j
+-- no item stands at two places
+abbrev pub Once : {A : Type 0} → List A → Type 0
+Once {A} xs = (i j : ℕ) (x : A) → slice_get xs i ≡ Some x → slice_get xs j ≡ Some x → i ≡ j
 
 -- an item of the list that a front has stands in the front
-pub within_front : (xs ys : List ℕ) (i x : ℕ) → Differ ys → IsPrefix xs ys → slice_get ys i ≡ Some x → Has xs x → i < length xs
+pub within_front : (xs ys : List ℕ) (i x : ℕ) → Once ys → IsPrefix xs ys → slice_get ys i ≡ Some x → IsIn xs x → i < length xs
 within_front xs ys i x differ front at has =
-    let same : has.0 ≡ i = differ has.0 i x (slice_get_front xs ys has.0 front has.1) at in
-    let short = slice_get_within xs has.0 x has.1 in omega arith
+    let same : has.place ≡ i = differ has.place i x (slice_get_front xs ys has.place front has.at) at in
+    let short = slice_get_within xs has.place x has.at in omega arith
 
 -- where a front has each item before this one, and not this, it is as long as these
-pub front_ends : (xs ys : List ℕ) (i x : ℕ) → Differ ys → IsPrefix xs ys → slice_get ys i ≡ Some x → (Has xs x → ⊥) →
-    ((j y : ℕ) → j < i → slice_get ys j ≡ Some y → Has xs y) → length xs ≡ i
+pub front_ends : (xs ys : List ℕ) (i x : ℕ) → Once ys → IsPrefix xs ys → slice_get ys i ≡ Some x → (IsIn xs x → ⊥) →
+    ((j y : ℕ) → j < i → slice_get ys j ≡ Some y → IsIn xs y) → length xs ≡ i
 front_ends xs ys i x differ front at fresh before = elim (cases_lt (length xs) i) [
   | inl less ↦
       let ends = slice_get_within ys i x at in let one = element ys (length xs) (omega arith) in
@@ -95,23 +78,23 @@ front_ends xs ys i x differ front at fresh before = elim (cases_lt (length xs) i
     | inr more ↦
         let two = element xs i more in
         let there : slice_get ys i ≡ Some two.0 = slice_get_front xs ys i front two.1 in
-        let same : two.0 ≡ x = cc in absurd (fresh (i, two.1 ∙ ap Some same))
+        let same : two.0 ≡ x = cc in absurd (fresh (record { place = i; at = two.1 ∙ ap Some same }))
   ]
 ]
 
 -- such a front grows by this item
-pub front_grows : (xs ys : List ℕ) (i x : ℕ) → Differ ys → IsPrefix xs ys → slice_get ys i ≡ Some x → (Has xs x → ⊥) →
-    ((j y : ℕ) → j < i → slice_get ys j ≡ Some y → Has xs y) → IsPrefix (xs ++ x ∷ []) ys
+pub front_grows : (xs ys : List ℕ) (i x : ℕ) → Once ys → IsPrefix xs ys → slice_get ys i ≡ Some x → (IsIn xs x → ⊥) →
+    ((j y : ℕ) → j < i → slice_get ys j ≡ Some y → IsIn xs y) → IsPrefix (xs ++ x ∷ []) ys
 front_grows xs ys i x differ front at fresh before =
     front_next xs ys front (subst (λ k. slice_get ys k ≡ Some x) (sym (front_ends xs ys i x differ front at fresh before)) at)
 
 -- a front that has each item is the list
-pub front_has_all : (xs ys : List ℕ) → Differ ys → IsPrefix xs ys → ((y : ℕ) → Has ys y → Has xs y) → xs ≡ ys
+pub front_has_all : (xs ys : List ℕ) → Once ys → IsPrefix xs ys → ((y : ℕ) → IsIn ys y → IsIn xs y) → xs ≡ ys
 front_has_all xs ys differ front all = front_whole xs ys front (elim (cases_le (length ys) (length xs)) [
   | inl a ↦ a
   | inr b ↦
       let one = element ys (length xs) b in
-      let long = within_front xs ys (length xs) one.0 differ front one.1 (all one.0 (length xs, one.1)) in absurd (omega arith)
+      let long = within_front xs ys (length xs) one.0 differ front one.1 (all one.0 (record { place = length xs; at = one.1 })) in absurd (omega arith)
 ])
 
 -- ---- the numbers below a bound that pass a test
@@ -154,5 +137,5 @@ below_has p (suc m) j {n} e = go (p m) refl (rw (below_more p m) at e) (below_ha
     ]
 
 -- no number stands twice among those below a bound that pass a test
-pub below_differ : (p : ℕ → Bool) (m : ℕ) → Differ (below p m)
+pub below_differ : (p : ℕ → Bool) (m : ℕ) → Once (below p m)
 below_differ p m i j x one two = (below_has p m i one).place ∙ sym (below_has p m j two).place

@@ -5,10 +5,8 @@ use Rattle.act_order_plays.proofs.Common.{list_all, Contains, lt-ltb, eqb-true, 
 use Rattle.act_order_plays.proofs.Common.{Fut, Event, RunItem, Submission, is_known, History, under, calls_of, runs_of, kept_of, ran_count, next_item}
 use Rattle.act_order_plays.proofs.Common.{add_event, after_run, after, slice_get_front, slice_get_last, element, runs_grow, under-push, after_keeps}
 use Rattle.act_order_plays.proofs.Common.{IsSoundLetter, has_letter-sound, IsNext, next_item_is, calls_to-at, one_place, IsSound, Run, Told, call_of, RunsNext}
-use Rattle.act_order_plays.proofs.Common.{IsWhole, LeavesTold, args_of, future_of, Submit, RunNext, CallLetter, or_cases, list_any-append}
-use Rattle.act_order_plays.proofs.Lists.{has_of}
+use Rattle.act_order_plays.proofs.Common.{IsWhole, LeavesTold, args_of, future_of, Submit, RunNext, CallLetter, or_cases, list_any-append, place_in, any_in}
 use Rattle.act_order_plays.proofs.Fronts.{is_run_of, rank, run_ranks}
-use Rattle.act_order_plays.proofs.Casts.{list_any_has}
 use Rattle.act_order_plays.proofs.Left.{IsOf, call_there, item_at}
 use Rattle.act_order_plays.proofs.Turns.{here}
 use Rattle.act_order_plays.proofs.Along.{Within}
@@ -148,7 +146,7 @@ module _ (told : Told) (last : History) (whole : IsWhole told) (sound : IsSound 
       let args : next.call.1.args ≡ args_of told n =
       ap (λ (p : ℕ × List Arg). p.1) (call_there told last whole sound leaves n way.grows lt stood) in
       let all : list_all (is_known (kept_of c h)) (args_of told n) ≡ true = subst (λ l. list_all (is_known (kept_of c h)) l ≡ true) args known in
-      let place = has_of (call_of told n).takes m takes in
+      let place = place_in (call_of told n).takes m takes in
       let at : slice_get (args_of told n) place.0 ≡ Some (Fut (future_of told m)) =
       slice_get-map (λ k. Fut (future_of told k)) (call_of told n).takes place.0 ∙ ap (option_map (λ k. Fut (future_of told k))) place.1 in
       let is : is_known (kept_of c h) (Fut (future_of told m)) ≡ true =
@@ -178,4 +176,4 @@ module _ (told : Told) (last : History) (whole : IsWhole told) (sound : IsSound 
       let in_last = slice_get_front (runs_of a h) (runs_of a last) j (runs_grow a way.grows) there.1 in
       let both : Some there.0 ≡ Some item_m.0 = sym in_last ∙ item_m.1 in let item : there.0 ≡ item_m.0 = cc in
       subst (λ b. list_any (is_item (call_of told m).caller (future_of told m)) (runs_of b h) ≡ true) (sym here_m)
-      (list_any_has (is_item (call_of told m).caller (future_of told m)) (runs_of a h) (j, there.1 ∙ ap Some item) (item_is m item_m.2))
+      (any_in (is_item (call_of told m).caller (future_of told m)) (record { place = j; at = there.1 ∙ ap Some item }) (item_is m item_m.2))

@@ -2,7 +2,7 @@
 use Rattle.act_order_plays.proofs.Common.{◌≡◌, ℕ, inl, inr, List, [], ◌∷◌, ◌++◌, map, Some, Err, slice_get, sym, ap, subst, ◌∙◌, AllByRecursion, append-nil}
 use Rattle.act_order_plays.proofs.Common.{ActorDied, Post, History, All_weaker, slice_get_more, Happening, Ran, Answered, Died, Told, call_of, kept_for}
 use Rattle.act_order_plays.proofs.Common.{ReplyPost, DeathPost}
-use Rattle.act_order_plays.proofs.Lists.{has_more, has_pushed}
+use Rattle.act_order_plays.proofs.Lists.{has_pushed, has_more}
 use Rattle.act_order_plays.proofs.Fronts.{submits, rans, rans_of}
 use Rattle.act_order_plays.proofs.Causes.{submits_more, rans_more, rans_of_more}
 use Rattle.act_order_plays.proofs.Answering.{Suits, IsTaken}

@@ -3,9 +3,9 @@ use Rattle.act_order_plays.proofs.Common.{◌≡◌, ℕ, ◌<◌, ◌==◌, Lis
 use Rattle.act_order_plays.proofs.Common.{eq-eqb, length-map, slice_get-map, IsPrefix, RunItem, Submission, items_of, calls_to, number_of, History, calls_of}
 use Rattle.act_order_plays.proofs.Common.{runs_of, ran_count, element, slice_get_front, IsPrefix-map, calls_to_grow, calls_to-number, InOrder, numbered}
 use Rattle.act_order_plays.proofs.Common.{numbers, calls_to-at, map-slice_get, Happening, Submitted, Ran, Run, Told, call_of, SameWay, RunsInTurn, IsCause}
-use Rattle.act_order_plays.proofs.Common.{calls_by, future_of, get_taken, map-enumerate_from, map-numbered, calls_to-length, places_differ}
+use Rattle.act_order_plays.proofs.Common.{calls_by, future_of, get_taken, map-enumerate_from, map-numbered, calls_to-length, places_differ, IsIn, in_filter}
 use Rattle.act_order_plays.proofs.Premises.{Premises}
-use Rattle.act_order_plays.proofs.Lists.{Has, has_filter, filter_has, Differ, front_ends}
+use Rattle.act_order_plays.proofs.Lists.{filter_has, Once, front_ends}
 use Rattle.act_order_plays.proofs.Fronts.{subs_of, rans_of, rans_of_has, has_rans_of, call_at, call_before, calls_differ, IsRunAt, run_at, ran_earlier}
 use Rattle.act_order_plays.proofs.Fronts.{take_front}
 use Rattle.act_order_plays.proofs.Causes.{IsNext, Good, earlier_ran}
@@ -20,7 +20,7 @@ abbrev pub futures_to : ℕ → List Submission → List ℕ
 futures_to a calls = map (λ call. call.0) (calls_to a calls)
 
 -- no future stands twice among those of calls to an actor
-pub futures_differ : (a : ℕ) (calls : List Submission) → Differ (futures_to a calls)
+pub futures_differ : (a : ℕ) (calls : List Submission) → Once (futures_to a calls)
 futures_differ a calls = places_differ (λ (call : ℕ × Submission). call.1.actor == a) 0 calls
 
 -- one call to the actor before the caller's call k
@@ -57,30 +57,31 @@ pub ran_front : {told : Told} {before : List Happening} (h : History) (c a : ℕ
 ran_front h c a shape = front_ran h c a shape.sound.order
 
 -- a call that ran is among the futures that ran
-pub ran_has : (told : Told) (before : List Happening) (h : History) (n : ℕ) → Shape told before h → Has before (Ran n) →
-    Has (futures_ran (call_of told n).caller (call_of told n).actor h) (future_of told n)
+pub ran_has : (told : Told) (before : List Happening) (h : History) (n : ℕ) → Shape told before h → IsIn before (Ran n) →
+    IsIn (futures_ran (call_of told n).caller (call_of told n).actor h) (future_of told n)
 ran_has told before h n shape has =
     let c = (call_of told n).caller in let a = (call_of told n).actor in let there = rans_of_has told before n a has refl in
-    let item = item_of_call told (runs_of a h) (rans_of told before a) there.0 n (runs_are a shape) there.1 in
-    let mine = has_filter (λ (i : RunItem). i.caller == c) (runs_of a h) (there.0, item.1) (eq-eqb item.0.caller c item.2.caller) in (
-      mine.0,
-      slice_get-map (λ (i : RunItem). i.future) (items_of c (runs_of a h)) mine.0 ∙ ap (option_map (λ (i : RunItem). i.future)) mine.1
-          ∙ ap (λ k. Some k) item.2.future,
-    )
+    let item = item_of_call told (runs_of a h) (rans_of told before a) there.place n (runs_are a shape) there.at in
+    let mine = in_filter (λ (i : RunItem). i.caller == c) (record { place = there.place; at = item.1 }) (eq-eqb item.0.caller c item.2.caller) in
+    record {
+      place = mine.place;
+      at = slice_get-map (λ (i : RunItem). i.future) (items_of c (runs_of a h)) mine.place ∙ ap (option_map (λ (i : RunItem). i.future)) mine.at
+          ∙ ap (λ k. Some k) item.2.future;
+    }
 
 -- and such a future is that of a call that ran
 pub has_ran : (told : Told) (before : List Happening) (h : History) (n : ℕ) → Good told before → Shape told before h → n < length told.calls →
-    Has (futures_ran (call_of told n).caller (call_of told n).actor h) (future_of told n) → Has before (Ran n)
+    IsIn (futures_ran (call_of told n).caller (call_of told n).actor h) (future_of told n) → IsIn before (Ran n)
 has_ran told before h n good shape lt has =
     let c = (call_of told n).caller in let a = (call_of told n).actor in
-    let one = map-slice_get (λ (i : RunItem). i.future) (items_of c (runs_of a h)) has.0 has.1 in
-    let item = filter_has (λ (i : RunItem). i.caller == c) (runs_of a h) (has.0, one.1) in
-    let call = call_of_item told (runs_of a h) (rans_of told before a) item.0.0 one.0 (runs_are a shape) item.0.1 in
-    let ran = has_rans_of told before call.0 a (item.0.0, call.1) in
+    let one = map-slice_get (λ (i : RunItem). i.future) (items_of c (runs_of a h)) has.place has.at in
+    let item = filter_has (λ (i : RunItem). i.caller == c) (runs_of a h) (record { place = has.place; at = one.1 }) in
+    let call = call_of_item told (runs_of a h) (rans_of told before a) item.0.place one.0 (runs_are a shape) item.0.at in
+    let ran = has_rans_of told before call.0 a (record { place = item.0.place; at = call.1 }) in
     let caller : (call_of told call.0).caller ≡ c = sym call.2.caller ∙ eqb-true one.0.caller c item.1 in
     let future : future_of told call.0 ≡ future_of told n = sym call.2.future ∙ one.2 in
     let same : call.0 ≡ n = same_call told call.0 n (good.happened (Submitted call.0) (ran_submitted call.0 good ran.0)) lt caller future in
-    subst (λ k. Has before (Ran k)) same ran.0
+    subst (λ k. IsIn before (Ran k)) same ran.0
 
 -- the submission at a place is that of a call
 pub sub_call : (told : Told) (before : List Happening) (h : History) (c q : ℕ) {call : Submission} → Good told before → Shape told before h →
@@ -102,7 +103,7 @@ module _ (told : Told) (fits : Premises told) (turn : RunsInTurn told) (before :
   place = run_at told n next.happened
 
   -- an earlier call of the caller to the actor ran
-  earlier_call_ran : (m : ℕ) → m < n → SameWay told m n → Has before (Ran m)
+  earlier_call_ran : (m : ℕ) → m < n → SameWay told m n → IsIn before (Ran m)
   earlier_call_ran m less way =
       let p = place.0 in let run = place.1 in let is = place.2 in
       let there = (turn p run is.at).in_turn m (subst (λ k. m < k) (sym is.call) less) (subst (λ k. SameWay told m k) (sym is.call) way) in
@@ -111,9 +112,9 @@ module _ (told : Told) (fits : Premises told) (turn : RunsInTurn told) (before :
       let two : (call_of told n).actor ≡ run.actor = ap (λ k. (call_of told k).actor) (sym is.call) ∙ (turn p run is.at).here in
       let has = earlier_ran before p fits good.closed early.3.at is.at early.2 (sym one ∙ way.1 ∙ two)
       (λ cause e. next.causes cause (subst (λ k. IsCause told cause (Ran k)) is.call e)) in
-      subst (λ k. Has before (Ran k)) early.3.call has
+      subst (λ k. IsIn before (Ran k)) early.3.call has
 
-  pub number_is : (h : History) → Shape told before h → Has before (Submitted n) → ran_count c a h ≡ number_of a (future_of told n) (calls_of c h)
+  pub number_is : (h : History) → Shape told before h → IsIn before (Submitted n) → ran_count c a h ≡ number_of a (future_of told n) (calls_of c h)
   number_is h shape has =
       let k = future_of told n in let calls = calls_of c h in let number = number_of a k calls in let lt = good.happened (Submitted n) has in
       let stands = call_stands h n good shape has in
@@ -127,5 +128,5 @@ module _ (told : Told) (fits : Premises told) (turn : RunsInTurn told) (before :
       ap (λ (s : Submission). s.actor) m.2 ∙ low.actor in let ran = earlier_call_ran m.0 earlier.0 (earlier.1, actor) in let m_lt =
       good.happened (Submitted m.0) (ran_submitted m.0 good ran) in let future : future_of told m.0 ≡ y = calls_differ told c (future_of told m.0) y m.0
       (subst (λ d. slice_get (calls_by told d) (future_of told m.0) ≡ Some m.0) earlier.1 (call_at told m.0 m_lt)) m.1 in
-      subst (λ q. Has (futures_ran c a h) q) future (subst (λ b. Has (futures_ran c b h) (future_of told m.0)) actor
-      (subst (λ d. Has (futures_ran d (call_of told m.0).actor h) (future_of told m.0)) earlier.1 (ran_has told before h m.0 shape ran))))
+      subst (λ q. IsIn (futures_ran c a h) q) future (subst (λ b. IsIn (futures_ran c b h) (future_of told m.0)) actor
+      (subst (λ d. IsIn (futures_ran d (call_of told m.0).actor h) (future_of told m.0)) earlier.1 (ran_has told before h m.0 shape ran))))

@@ -1,9 +1,10 @@
 -- All that happened, in its order.
-use Rattle.act_order_plays.proofs.Common.{◌≡◌, ℕ, zero, suc, ◌≤◌, inl, inr, List, [], ◌∷◌, ◌++◌, length, take, Some, slice_get, refl, sym, ap, subst, ◌∙◌}
+use Rattle.act_order_plays.proofs.Common.{ℕ, zero, suc, ◌≤◌, inl, inr, List, [], ◌∷◌, ◌++◌, length, take, refl, sym, ap, subst, ◌∙◌}
 use Rattle.act_order_plays.proofs.Common.{arith, append_assoc, Contains, take-length, History, opening, history, Event, element, world_sound, after_all-append}
 use Rattle.act_order_plays.proofs.Common.{Happening, Submitted, Ran, Answered, Told, call_of, IsAfter, IsOrder, IsInOrderBy, casts_of, kept_for, Waited}
+use Rattle.act_order_plays.proofs.Common.{IsIn, contains_from_in, in_from_contains, in_none, take_next}
 use Rattle.act_order_plays.proofs.Premises.{Premises}
-use Rattle.act_order_plays.proofs.Lists.{Has, has_of, contains_of, has_pushed}
+use Rattle.act_order_plays.proofs.Lists.{has_pushed}
 use Rattle.act_order_plays.proofs.Causes.{IsNext, Good, good_none, good_more}
 use Rattle.act_order_plays.proofs.Casts.{role_actor}
 use Rattle.act_order_plays.proofs.Stands.{Leads, Stands}
@@ -17,25 +18,23 @@ step : (told : Told) (order before : List Happening) (x : Happening) (h : Histor
     IsNext told before x → Stands told before h → Leads (Stands told (before ++ x ∷ [])) h
 step told order before (Submitted n) h fits by good next stands =
     let ends = by.ends n next.happened in
-    submitted told fits before n good next (has_of _ _ ends.role) (role_actor told (call_of told n).caller (call_of told n).actor ends.role) h stands
+    submitted told fits before n good next (in_from_contains _ _ ends.role)
+    (role_actor told (call_of told n).caller (call_of told n).actor ends.role) h stands
 step told order before (Ran n) h fits by good next stands =
     let ends = by.ends n (good.happened (Submitted n) (next.causes (Submitted n) refl)) in
-    ran told fits by.runs before n good next (has_of _ _ ends.role) (role_actor told (call_of told n).caller (call_of told n).actor ends.role) h stands
+    ran told fits by.runs before n good next (in_from_contains _ _ ends.role)
+    (role_actor told (call_of told n).caller (call_of told n).actor ends.role) h stands
 step told order before (Answered n) h fits by good next stands =
     let ends = by.ends n next.happened.0 in
-    answered told fits by.runs before n good next (has_of _ _ ends.role) (role_actor told (call_of told n).caller (call_of told n).actor ends.role) h stands
+    answered told fits by.runs before n good next (in_from_contains _ _ ends.role)
+    (role_actor told (call_of told n).caller (call_of told n).actor ends.role) h stands
 
-take_push : {A : Type 0} (i : ℕ) (xs : List A) (x : A) → slice_get xs i ≡ Some x → take (suc i) xs ≡ take i xs ++ x ∷ []
-take_push i [] x e = absurd (cc)
-take_push zero (y ∷ ys) x e = let same : y ≡ x = cc in ap (λ z. z ∷ []) same
-take_push (suc i) (y ∷ ys) x e = ap (λ l. y ∷ l) (take_push i ys x e)
-
-next_is : (told : Told) (order : List Happening) {before : List Happening} (x : Happening) → IsOrder told order → Has order x → IsAfter told before x →
+next_is : (told : Told) (order : List Happening) {before : List Happening} (x : Happening) → IsOrder told order → IsIn order x → IsAfter told before x →
     IsNext told before x
 next_is told order {before} x causes has after = record {
-  happened = causes.only x (contains_of order has);
-  fresh = λ h. after.once (contains_of before h);
-  causes = λ cause is. has_of before cause (after.causes cause is);
+  happened = causes.only x (contains_from_in has);
+  fresh = λ h. after.once (contains_from_in h);
+  causes = λ cause is. in_from_contains before cause (after.causes cause is);
 }
 
 opened : (told : Told) → Stands told [] (opening (casts_of told))
@@ -51,7 +50,7 @@ opened told = record {
     killed = λ a is. absurd (cc);
     sound = world_sound (casts_of told) [];
   };
-  keeps = record { answers = λ n has. absurd (let e = has.1 in cc); deaths = λ n has. absurd (let e = has.1 in cc) };
+  keeps = record { answers = λ n has. absurd (in_none has); deaths = λ n has. absurd (in_none has) };
 }
 
 -- ---- what callers wait for
@@ -86,7 +85,7 @@ pub record Reached (told : Told) (before : List Happening) : Type 0 where
   pub good : Good told before
   pub events : List Event
   pub stands : Stands told before (history (casts_of told) events)
-  pub waits : (n m : ℕ) → Has before (Submitted n) → Contains (call_of told n).waits m → Waited told events n m
+  pub waits : (n m : ℕ) → IsIn before (Submitted n) → Contains (call_of told n).waits m → Waited told events n m
 
 reach_more : (told : Told) (order : List Happening) {before : List Happening} (x : Happening) → Premises told → IsInOrderBy told order → Reached told before →
     IsNext told before x → Reached told (before ++ x ∷ [])
@@ -103,11 +102,11 @@ reach_more told order {before} x fits by rest next =
     }
 
 reach : (told : Told) (order : List Happening) → Premises told → IsInOrderBy told order → (i : ℕ) → i ≤ length order → Reached told (take i order)
-reach told order fits by zero le = record { good = good_none told; events = []; stands = opened told; waits = λ n m has. absurd (let e = has.1 in cc) }
+reach told order fits by zero le = record { good = good_none told; events = []; stands = opened told; waits = λ n m has. absurd (in_none has) }
 reach told order fits by (suc i) le =
     let rest = reach told order fits by i (omega arith) in let x = element order i le in
-    let next = next_is told order x.0 by.causes (i, x.1) (by.causes.after i x.0 x.1) in
-    subst (Reached told) (sym (take_push i order x.0 x.1)) (reach_more told order x.0 fits by rest next)
+    let next = next_is told order x.0 by.causes (record { place = i; at = x.1 }) (by.causes.after i x.0 x.1) in
+    subst (Reached told) (sym (take_next order i x.1)) (reach_more told order x.0 fits by rest next)
 
 pub all_reached : (told : Told) (order : List Happening) → Premises told → IsInOrderBy told order → Reached told order
 all_reached told order fits by = subst (Reached told) (take-length order) (reach told order fits by (length order) (omega arith))

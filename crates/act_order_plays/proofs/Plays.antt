@@ -1,8 +1,8 @@
 -- A history in order is a play.
 use Rattle.act_order_plays.proofs.Common.{◌≡◌, ◌≢◌, ℕ, zero, suc, ◌<◌, ◌≤◌, List, ◌++◌, length, take, refl, sym, subst, arith, Contains, Event, History}
 use Rattle.act_order_plays.proofs.Common.{opening, history, after_all-append, End, Live, Dead, Retired, Happening, Submitted, Ran, Answered, Open, Told}
-use Rattle.act_order_plays.proofs.Common.{call_of, Happened, IsInOrderBy, IsWhole, Fits, LeavesTold, IsPlayOf, casts_of, get_taken}
-use Rattle.act_order_plays.proofs.Lists.{has_of, contains_of}
+use Rattle.act_order_plays.proofs.Common.{call_of, Happened, IsInOrderBy, IsWhole, Fits, LeavesTold, IsPlayOf, casts_of, get_taken, place_in, stands_in}
+use Rattle.act_order_plays.proofs.Common.{in_from_contains}
 use Rattle.act_order_plays.proofs.Premises.{Premises, premises}
 use Rattle.act_order_plays.proofs.Stands.{Leads, leads_now, leads_then}
 use Rattle.act_order_plays.proofs.Playing.{all_reached, waited_more}
@@ -27,9 +27,9 @@ stages told fits (suc j) h le stage =
 taken_told : (told : Told) (order : List Happening) → IsInOrderBy told order → (n m : ℕ) → Happened told (Ran n) → Contains (call_of told n).takes m →
     (call_of told m).outcome ≢ Open
 taken_told told order by n m ran takes =
-    let at = has_of order (Ran n) (by.causes.all (Ran n) ran) in
-    let early = has_of (take at.0 order) (Answered m) ((by.causes.after at.0 (Ran n) at.1).causes (Answered m) takes) in
-    (by.causes.only (Answered m) (contains_of order (early.0, (get_taken at.0 order early.0 early.1).1))).1
+    let at = place_in order (Ran n) (by.causes.all (Ran n) ran) in
+    let early = place_in (take at.0 order) (Answered m) ((by.causes.after at.0 (Ran n) at.1).causes (Answered m) takes) in
+    (by.causes.only (Answered m) (stands_in order early.0 (get_taken at.0 order early.0 early.1).1)).1
 
 -- a whole history within the limits that is in order has events that are a play of it
 pub play_of : (told : Told) (order : List Happening) → IsWhole told → Fits told → IsInOrderBy told order → (events : List Event) × IsPlayOf told events
@@ -41,7 +41,7 @@ play_of told order whole fits by =
       all.events ++ ends.0,
       record {
         leaves = subst (LeavesTold told) (sym (after_all-append (opening (casts_of told)) all.events ends.0)) ends.1;
-        waits = λ n m lt waits. waited_more ends.0 n m (all.waits n m (has_of order (Submitted n) (by.causes.all (Submitted n) lt)) waits);
+        waits = λ n m lt waits. waited_more ends.0 n m (all.waits n m (in_from_contains order (Submitted n) (by.causes.all (Submitted n) lt)) waits);
         last_waits = λ m waits. (by.waits m waits).1;
         taken = λ n m ran takes. taken_told told order by n m ran takes;
       },

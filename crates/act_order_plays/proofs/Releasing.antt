@@ -3,11 +3,11 @@ use Rattle.act_order_plays.proofs.Common.{◌≡◌, ℕ, zero, suc, ◌<◌, �
 use Rattle.act_order_plays.proofs.Common.{slice_get, refl, sym, ap, subst, ◌∙◌, arith, is_some, list_all, eq-eqb, ne_eqb, and_from, eqb_tells, list_any-append}
 use Rattle.act_order_plays.proofs.Common.{Release, Deliver, Retire, Letter, calls_to, copies_held, History, contains, callers_in, cast_of, is_caller, calls_of}
 use Rattle.act_order_plays.proofs.Common.{count_pairs, copies_of, ran_count, is_letter, has_letter, is_done, is_drained, is_ended, refusal_of, add_event}
-use Rattle.act_order_plays.proofs.Common.{and_also, slice_get_last, contains_more, times-push, Dead, Retired, Told, actor_of, list_all-weaker, NoteLetter}
-use Rattle.act_order_plays.proofs.Lists.{Has, has_last}
-use Rattle.act_order_plays.proofs.Casts.{list_any_has, contains_has, cast_of_is, names_is, is_caller_is}
+use Rattle.act_order_plays.proofs.Common.{and_also, slice_get_last, contains_more, times-push, Dead, Retired, Told, actor_of, list_all-weaker, NoteLetter, IsIn}
+use Rattle.act_order_plays.proofs.Common.{any_in, is_contained, contains_or}
+use Rattle.act_order_plays.proofs.Lists.{has_last}
+use Rattle.act_order_plays.proofs.Casts.{cast_of_is, names_is, is_caller_is}
 use Rattle.act_order_plays.proofs.Stands.{Leads, leads_now, leads_by, leads_then}
-use Rattle.act_order_plays.proofs.Dying.{killed_or}
 use Rattle.act_order_plays.proofs.Leaving.{Left, left_stays}
 use Rattle.act_order_plays.proofs.Ends.{end_of, Ends, Held, Stage, up_to, not_killed, on}
 
@@ -25,7 +25,7 @@ note_fine : (h : History) (c a n i : ℕ) → slice_get h.mail i ≡ Some (NoteL
 note_fine h c a n i at lives = rw (at, lives) refl
 
 note_has : (c a n : ℕ) (letters : List Letter) → has_letter (NoteLetter c a n) (letters ++ NoteLetter c a n ∷ []) ≡ true
-note_has c a n letters = list_any_has (is_letter (NoteLetter c a n)) (letters ++ NoteLetter c a n ∷ []) (has_last letters (NoteLetter c a n))
+note_has c a n letters = any_in (is_letter (NoteLetter c a n)) (has_last letters (NoteLetter c a n))
     (and_from ((c == c) && (a == a)) (n == n) (and_from (c == c) (a == a) (eq-eqb c c refl) (eq-eqb a a refl)) (eq-eqb n n refl))
 
 letter_more : (letter other : Letter) (letters : List Letter) → has_letter letter letters ≡ true → has_letter letter (letters ++ other ∷ []) ≡ true
@@ -45,7 +45,7 @@ module _ (told : Told) (j : ℕ) (lt : j < length told.actors) (retires : end_of
   lives : (h : History) → Left told h → Ends told j h → is_ended j h ≡ false
   lives h left ends = on told j h left ends (not_killed j h ends (λ e. let bad : Retired ≡ Dead = sym retires ∙ e in cc))
 
-  release : (h : History) (c : ℕ) → Freeing told j h → Has (actor_of told j).callers c → count_pairs c j h.released ≡ 0 → Leads (Freed c h) h
+  release : (h : History) (c : ℕ) → Freeing told j h → IsIn (actor_of told j).callers c → count_pairs c j h.released ≡ 0 → Leads (Freed c h) h
   release h c f role none =
       let named = names_is told h c j f.left.casts lt role in
       let copy : copies_of c j h ≡ Some 1 = rw (named, f.left.copied, none) refl in
@@ -82,7 +82,7 @@ module _ (told : Told) (j : ℕ) (lt : j < length told.actors) (retires : end_of
         done = done;
       })))
 
-  free_one : (h : History) (c : ℕ) → Freeing told j h → Has (actor_of told j).callers c → Leads (Freed c h) h
+  free_one : (h : History) (c : ℕ) → Freeing told j h → IsIn (actor_of told j).callers c → Leads (Freed c h) h
   free_one h c f role = elim (f.mine c) [
     | inl done ↦ leads_now (Freed c h) h (record { freeing = f; more = λ d is. is; done = done })
     | inr none ↦ release h c f role none
@@ -92,10 +92,11 @@ module _ (told : Told) (j : ℕ) (lt : j < length told.actors) (retires : end_of
     freeing : Freeing told j h
     done : list_all (λ c. is_done c j h) cs ≡ true
 
-  free_all : (cs : List ℕ) (h : History) → ((c : ℕ) → Has cs c → Has (actor_of told j).callers c) → Freeing told j h → Leads (AllFreed cs) h
+  free_all : (cs : List ℕ) (h : History) → ((c : ℕ) → IsIn cs c → IsIn (actor_of told j).callers c) → Freeing told j h → Leads (AllFreed cs) h
   free_all [] h roles f = leads_now (AllFreed []) h (record { freeing = f; done = refl })
-  free_all (c ∷ cs) h roles f = leads_then (AllFreed cs) (AllFreed (c ∷ cs)) h (free_all cs h (λ d has. roles d (suc has.0, has.1)) f) (λ g rest.
-      leads_then (Freed c g) (AllFreed (c ∷ cs)) g (free_one g c rest.freeing (roles c (zero, refl))) (λ g2 one.
+  free_all (c ∷ cs) h roles f = leads_then (AllFreed cs) (AllFreed (c ∷ cs)) h
+      (free_all cs h (λ d has. roles d (record { place = suc has.place; at = has.at })) f) (λ g rest.
+      leads_then (Freed c g) (AllFreed (c ∷ cs)) g (free_one g c rest.freeing (roles c (record { place = zero; at = refl }))) (λ g2 one.
       leads_now (AllFreed (c ∷ cs)) g2 (record {
         freeing = one.freeing;
         done = and_from (is_done c j g2) (list_all (λ d. is_done d j g2) cs) one.done
@@ -116,13 +117,13 @@ module _ (told : Told) (j : ℕ) (lt : j < length told.actors) (retires : end_of
         left = left_stays h g (record { casts = refl; submitted = refl; ran = refl; collected = refl }) refl all.freeing.left;
         ends = record {
           killed = ends.killed;
-          retired = λ a is. elim (killed_or h.retired j a is) [
+          retired = λ a is. elim (contains_or h.retired a j is) [
             | inl old ↦ let r = ends.retired a old in (r.0, omega (arith, r.1))
             | inr e ↦ (subst (λ b. end_of told b ≡ Retired) e retires, omega arith)
           ];
           dead = up_to (λ a. end_of told a ≡ Dead → contains a h.killed ≡ true) j ends.dead (λ e. let bad : Retired ≡ Dead = sym retires ∙ e in absurd (cc));
           gone = up_to (λ a. end_of told a ≡ Retired → contains a g.retired ≡ true) j (λ a less e. contains_more a h.retired (j ∷ []) (ends.gone a less e))
-              (λ e. contains_has g.retired (has_last h.retired j));
+              (λ e. is_contained j g.retired (has_last h.retired j));
         };
         held = all.freeing.held;
       }))

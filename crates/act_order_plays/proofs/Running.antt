@@ -5,12 +5,12 @@ use Rattle.act_order_plays.proofs.Common.{History, cast_of, names, is_caller, ca
 use Rattle.act_order_plays.proofs.Common.{next_item, refusal_of, add_event, and_also, after_run, call_letter, slice_get_last, added_grows, after_run_grows}
 use Rattle.act_order_plays.proofs.Common.{calls_to-number, IsSound, sound_step, Happening, Outcome, Died, Open, Told, call_of, length-map, actor_of, RunsInTurn}
 use Rattle.act_order_plays.proofs.Common.{kept_for, future_of, item_key, run_key, Send, Deliver, RunNext, Collect, CallLetter, ReplyPost, Submitted, Ran}
-use Rattle.act_order_plays.proofs.Common.{collect_unrefused}
+use Rattle.act_order_plays.proofs.Common.{collect_unrefused, IsIn, any_in}
 use Rattle.act_order_plays.proofs.Premises.{Premises}
-use Rattle.act_order_plays.proofs.Lists.{Has, has_more, has_last, has_pushed}
+use Rattle.act_order_plays.proofs.Lists.{has_last, has_pushed, has_more}
 use Rattle.act_order_plays.proofs.Fronts.{submits, rans, is_to, rans_of}
 use Rattle.act_order_plays.proofs.Causes.{IsNext, Good, good_more, submits_more, rans_more, rans_of_more}
-use Rattle.act_order_plays.proofs.Casts.{list_any_has, names_is, is_caller_is}
+use Rattle.act_order_plays.proofs.Casts.{names_is, is_caller_is}
 use Rattle.act_order_plays.proofs.Answering.{Suits, IsTaken, IsItem, AreItems, item_keys}
 use Rattle.act_order_plays.proofs.Stands.{Leads, leads_now, leads_by, sub_of, pair_of, Agree, agree_push, IsDeath, Shape, Keeps, Stands, shape_stays}
 use Rattle.act_order_plays.proofs.Stands.{keeps_stays, runs_are}
@@ -24,7 +24,7 @@ use Rattle.act_order_plays.proofs.Sending.{no_death, alive, sendable, args_good}
 
 -- a letter that was brought has arrived
 letter_has : (c a n : ℕ) (letters : List Letter) → has_letter (CallLetter c a n) (letters ++ CallLetter c a n ∷ []) ≡ true
-letter_has c a n letters = list_any_has (is_letter (CallLetter c a n)) (letters ++ CallLetter c a n ∷ []) (has_last letters (CallLetter c a n))
+letter_has c a n letters = any_in (is_letter (CallLetter c a n)) (has_last letters (CallLetter c a n))
     (and_from ((c == c) && (a == a)) (n == n) (and_from (c == c) (a == a) (eq-eqb c c refl) (eq-eqb a a refl)) (eq-eqb n n refl))
 
 item_is_next : (h : History) (c a : ℕ) {number : ℕ} {call : ℕ × Submission} → ran_count c a h ≡ number → has_letter (CallLetter c a number) h.arrived ≡ true →
@@ -47,7 +47,7 @@ taken_or_not Open = inr (λ t. t)
 taken_or_not o = inl tt
 
 module _ (told : Told) (fits : Premises told) (turn : RunsInTurn told) (before : List Happening) (n : ℕ) (good : Good told before)
-    (next : IsNext told before (Ran n)) (role : Has (actor_of told (call_of told n).actor).callers (call_of told n).caller)
+    (next : IsNext told before (Ran n)) (role : IsIn (actor_of told (call_of told n).actor).callers (call_of told n).caller)
     (actor : (call_of told n).actor < length told.actors) where
   abbrev c : ℕ
   c = (call_of told n).caller
@@ -61,7 +61,7 @@ module _ (told : Told) (fits : Premises told) (turn : RunsInTurn told) (before :
   abbrev later : List Happening
   later = before ++ Ran n ∷ []
 
-  was_submitted : Has before (Submitted n)
+  was_submitted : IsIn before (Submitted n)
   was_submitted = next.causes (Submitted n) refl
 
   good_later : Good told later
@@ -89,7 +89,7 @@ module _ (told : Told) (fits : Premises told) (turn : RunsInTurn told) (before :
   collected h j place shape keeps taken at there =
       let g = add_event h (Collect j) in let post = ReplyPost c a place in
       let after : Shape told later g = shape_collect told later h j post shape at (n, there, taken) in
-      let has : Has later (Submitted n) = has_more before (Ran n ∷ []) was_submitted in
+      let has : IsIn later (Submitted n) = has_more before (Ran n ∷ []) was_submitted in
       let reply = reply_answers told later g n place after actor there in
       let first = collect_answers told later h j n post good_later after has at reply.1 in
       let mine : Suits (call_of told n).outcome (kept_for told n g) = elim (kept_gives g n good_later after has actor first.1) [

@@ -3,10 +3,10 @@ use Rattle.act_order_plays.proofs.Common.{◌≡◌, ◌≢◌, ℕ, zero, suc, 
 use Rattle.act_order_plays.proofs.Common.{sym, ap, subst, ◌∙◌, is_some, list_all, false_from_ne_true, Fut, Settled, Value, Send, Submission, Answer, with_value}
 use Rattle.act_order_plays.proofs.Common.{values_of, has_terminated, kept_at, is_known, settle, settled_future, send_refusal, History, contains, runs_of}
 use Rattle.act_order_plays.proofs.Common.{kept_of, is_ended, refusal_of, was_sent, Happening, Outcome, Failed, Died, Open, Told, call_of, actor_of, RunsInTurn}
-use Rattle.act_order_plays.proofs.Common.{RunsBefore, kept_for, args_of, future_of, GoodArg, Nothing, Submitted, Ran, HasBeenTold}
+use Rattle.act_order_plays.proofs.Common.{RunsBefore, kept_for, args_of, future_of, GoodArg, Nothing, Submitted, Ran, HasBeenTold, IsIn}
+use Rattle.act_order_plays.proofs.Common.{contains_from_in}
 use Rattle.act_orders.specs.declared.told.Outcome.TheVariants.{Answered}
 use Rattle.act_order_plays.proofs.Premises.{Premises}
-use Rattle.act_order_plays.proofs.Lists.{Has, contains_of}
 use Rattle.act_order_plays.proofs.Fronts.{rans_of, run_at}
 use Rattle.act_order_plays.proofs.Causes.{IsNext, Good, died_ran}
 use Rattle.act_order_plays.proofs.Casts.{is_caller_is}
@@ -16,11 +16,11 @@ use Rattle.act_order_plays.proofs.Keeping.{call_stands, kept_gives}
 use Rattle.act_order_plays.proofs.Submitting.{list_all_map}
 
 -- an answer that was taken is kept
-pub answer_kept : {told : Told} {before : List Happening} (h : History) (m : ℕ) → Good told before → Keeps told before h → Has before (HasBeenTold m) →
+pub answer_kept : {told : Told} {before : List Happening} (h : History) (m : ℕ) → Good told before → Keeps told before h → IsIn before (HasBeenTold m) →
     Suits (call_of told m).outcome (kept_for told m h)
 answer_kept {told} {before} h m good keeps has = go (call_of told m).outcome refl
   where
-    ran : RunsBefore told (call_of told m).outcome m m → Has before (Ran m)
+    ran : RunsBefore told (call_of told m).outcome m m → IsIn before (Ran m)
     ran is = good.closed (HasBeenTold m) (Ran m) has is
 
     go : (o : Outcome) → (call_of told m).outcome ≡ o → Suits o (kept_for told m h)
@@ -39,17 +39,17 @@ send_fine kept k true call known none = rw known refl
 send_fine kept k false call known none = rw (known, none) refl
 
 -- the values of answers that are all unit
-pub all_good : (told : Told) (kept : List (Option Answer)) (takes : List ℕ) → ((m : ℕ) → Has takes m → kept_at kept (future_of told m) ≡ Some (Ok Nothing)) →
+pub all_good : (told : Told) (kept : List (Option Answer)) (takes : List ℕ) → ((m : ℕ) → IsIn takes m → kept_at kept (future_of told m) ≡ Some (Ok Nothing)) →
     (values : List Value) × (values_of (map (settle kept) (map (λ m. Fut (future_of told m)) takes)) ≡ Ok values)
 all_good told kept [] all = ([], refl)
 all_good told kept (m ∷ takes) all =
-    let rest = all_good told kept takes (λ k has. all k (suc has.0, has.1)) in
-    let first : settle kept (Fut (future_of told m)) ≡ GoodArg Nothing = ap (settled_future (future_of told m)) (all m (zero, refl)) in
+    let rest = all_good told kept takes (λ k has. all k (record { place = suc has.place; at = has.at })) in
+    let first : settle kept (Fut (future_of told m)) ≡ GoodArg Nothing = ap (settled_future (future_of told m)) (all m (record { place = zero; at = refl })) in
     let settled : List Settled = map (settle kept) (map (λ k. Fut (future_of told k)) takes) in
     (Nothing ∷ rest.0, ap (λ s. values_of (s ∷ settled)) first ∙ ap (with_value Nothing) rest.1)
 
 module _ (told : Told) (fits : Premises told) (turn : RunsInTurn told) (before : List Happening) (n : ℕ) (good : Good told before)
-    (next : IsNext told before (Ran n)) (role : Has (actor_of told (call_of told n).actor).callers (call_of told n).caller)
+    (next : IsNext told before (Ran n)) (role : IsIn (actor_of told (call_of told n).actor).callers (call_of told n).caller)
     (actor : (call_of told n).actor < length told.actors) where
   abbrev c : ℕ
   c = (call_of told n).caller
@@ -57,7 +57,7 @@ module _ (told : Told) (fits : Premises told) (turn : RunsInTurn told) (before :
   abbrev a : ℕ
   a = (call_of told n).actor
 
-  pub submitted : Has before (Submitted n)
+  pub submitted : IsIn before (Submitted n)
   submitted = next.causes (Submitted n) refl
 
   -- the actor hasn't died
@@ -65,7 +65,7 @@ module _ (told : Told) (fits : Premises told) (turn : RunsInTurn told) (before :
   no_death death =
       let run = run_at told n next.happened in
       let here : run.1.actor ≡ a = sym (turn run.0 run.1 run.2.at).here ∙ ap (λ k. (call_of told k).actor) run.2.call in
-      next.fresh (subst (λ k. Has before (Ran k)) run.2.call
+      next.fresh (subst (λ k. IsIn before (Ran k)) run.2.call
       (died_ran told before death.call run.0 run.1 fits good.closed death.has death.died run.2.at (here ∙ sym death.actor)))
 
   pub alive : (h : History) → Shape told before h → is_ended a h ≡ false
@@ -83,11 +83,11 @@ module _ (told : Told) (fits : Premises told) (turn : RunsInTurn told) (before :
       go (Some answer) e = elim (kept_gives h n good shape submitted actor e) [ inl r ↦ absurd (next.fresh r.0) | inr d ↦ absurd (no_death d.0) ]
 
   -- each call whose answer it takes is of its caller, and was answered
-  pub taken : (h : History) → Keeps told before h → (m : ℕ) → Has (call_of told n).takes m →
+  pub taken : (h : History) → Keeps told before h → (m : ℕ) → IsIn (call_of told n).takes m →
       Suits (call_of told m).outcome (kept_at (kept_of c h) (future_of told m)) × ((call_of told m).outcome ≢ Open)
   taken h keeps m has =
-      let answered = next.causes (HasBeenTold m) (contains_of (call_of told n).takes has) in
-      let low = fits.earlier n m (good.happened (Submitted n) submitted) (contains_of (call_of told n).takes has) in (
+      let answered = next.causes (HasBeenTold m) (contains_from_in has) in
+      let low = fits.earlier n m (good.happened (Submitted n) submitted) (contains_from_in has) in (
         subst (λ d. Suits (call_of told m).outcome (kept_at (kept_of d h) (future_of told m))) low.1 (answer_kept h m good keeps answered),
         (good.happened (HasBeenTold m) answered).1,
       )
@@ -106,4 +106,4 @@ module _ (told : Told) (fits : Premises told) (turn : RunsInTurn told) (before :
   pub args_good : (h : History) → Keeps told before h → (call_of told n).outcome ≡ Answered →
       (values : List Value) × (values_of (map (settle (kept_of c h)) (args_of told n)) ≡ Ok values)
   args_good h keeps answered = all_good told (kept_of c h) (call_of told n).takes (λ m has. subst (λ o. Suits o (kept_at (kept_of c h) (future_of told m)))
-      (fits.good n m (good.happened (Submitted n) submitted) answered (contains_of (call_of told n).takes has)) (taken h keeps m has).0)
+      (fits.good n m (good.happened (Submitted n) submitted) answered (contains_from_in has)) (taken h keeps m has).0)

@@ -3,8 +3,7 @@ use Rattle.act_order_plays.proofs.Common.{◌≡◌, ℕ, ◌==◌, Bool, true, 
 use Rattle.act_order_plays.proofs.Common.{subst, ◌∙◌, AllByRecursion, ActorDied, Event, Post, RunItem, Submission, kept_at, History, contains, under, calls_of}
 use Rattle.act_order_plays.proofs.Common.{runs_of, kept_of, refusal_of, add_event, after, after_by, after_all, after_all-append, Grows, PostsAreSound}
 use Rattle.act_order_plays.proofs.Common.{kept_stays, IsSound, Happening, Outcome, Failed, Died, Open, Told, call_of, kept_for, casts_of, args_of, future_of}
-use Rattle.act_order_plays.proofs.Common.{ReplyPost, DeathPost, Ran, Told_answer}
-use Rattle.act_order_plays.proofs.Lists.{Has}
+use Rattle.act_order_plays.proofs.Common.{ReplyPost, DeathPost, Ran, Told_answer, IsIn}
 use Rattle.act_order_plays.proofs.Fronts.{submits, rans, is_by, is_to, subs_of, rans_of}
 use Rattle.act_order_plays.proofs.Answering.{Suits, method_of, IsTaken, IsItem, AreItems}
 
@@ -49,7 +48,7 @@ Agree told (run ∷ runs) (n ∷ ns) = (run.0 ≡ (call_of told n).actor) × IsI
 -- the answer of some call to this actor was told, and it is the actor's death
 pub record IsDeath (told : Told) (before : List Happening) (a : ℕ) : Type 0 where
   pub call : ℕ
-  pub has : Has before (Told_answer call)
+  pub has : IsIn before (Told_answer call)
   pub died : (call_of told call).outcome ≡ Died
   pub actor : (call_of told call).actor ≡ a
 
@@ -72,8 +71,8 @@ pub record Shape (told : Told) (before : List Happening) (h : History) : Type 0 
 
 -- the answers
 pub record Keeps (told : Told) (before : List Happening) (h : History) : Type 0 where
-  pub answers : (n : ℕ) → Has before (Ran n) → IsTaken (call_of told n).outcome → Suits (call_of told n).outcome (kept_for told n h)
-  pub deaths : (n : ℕ) → Has before (Told_answer n) → (call_of told n).outcome ≡ Died → kept_for told n h ≡ Some (Err ActorDied)
+  pub answers : (n : ℕ) → IsIn before (Ran n) → IsTaken (call_of told n).outcome → Suits (call_of told n).outcome (kept_for told n h)
+  pub deaths : (n : ℕ) → IsIn before (Told_answer n) → (call_of told n).outcome ≡ Died → kept_for told n h ≡ Some (Err ActorDied)
 
 pub record Stands (told : Told) (before : List Happening) (h : History) : Type 0 where
   pub shape : Shape told before h

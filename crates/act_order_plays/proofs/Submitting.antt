@@ -3,9 +3,9 @@ use Rattle.act_order_plays.proofs.Common.{◌≡◌, ℕ, zero, suc, ◌<◌, �
 use Rattle.act_order_plays.proofs.Common.{ap, subst, ◌∙◌, arith, list_all, and_from, lt-ltb, le-leb, append-nil, map-append, length-map, slice_get_within, Arg}
 use Rattle.act_order_plays.proofs.Common.{Fut, Submit, is_earlier, submit_refusal, History, cast_of, names, calls_of, copies_of, limit_of, refusal_of}
 use Rattle.act_order_plays.proofs.Common.{add_event, submission_refusal, added_grows, sound_step, Happening, Submitted, Told, call_of, actor_of, args_of}
-use Rattle.act_order_plays.proofs.Common.{future_of, calls_by}
+use Rattle.act_order_plays.proofs.Common.{future_of, calls_by, IsIn, contains_from_in}
 use Rattle.act_order_plays.proofs.Premises.{Premises}
-use Rattle.act_order_plays.proofs.Lists.{Has, contains_of, front_ends}
+use Rattle.act_order_plays.proofs.Lists.{front_ends}
 use Rattle.act_order_plays.proofs.Fronts.{submits, rans, subs_of, has_subs_of, subs_of_has, call_at, call_before, calls_differ}
 use Rattle.act_order_plays.proofs.Causes.{IsNext, Good, earlier_submitted, submits_more, rans_more}
 use Rattle.act_order_plays.proofs.Casts.{cast_of_is, names_is, is_caller_is}
@@ -18,9 +18,10 @@ use Rattle.act_order_plays.proofs.More.{death_more, rights_more, keeps_more}
 pub one_copy : (h : History) (c a : ℕ) → names c (cast_of a h) ≡ true → h.copied ≡ [] → h.released ≡ [] → copies_of c a h ≡ Some 1
 one_copy h c a named copied released = rw (named, copied, released) refl
 
-pub list_all_map : {A B : Type 0} (p : B → Bool) (f : A → B) (xs : List A) → ((x : A) → Has xs x → p (f x) ≡ true) → list_all p (map f xs) ≡ true
+pub list_all_map : {A B : Type 0} (p : B → Bool) (f : A → B) (xs : List A) → ((x : A) → IsIn xs x → p (f x) ≡ true) → list_all p (map f xs) ≡ true
 list_all_map p f [] all = refl
-list_all_map p f (x ∷ xs) all = and_from (p (f x)) (list_all p (map f xs)) (all x (zero, refl)) (list_all_map p f xs (λ y has. all y (suc has.0, has.1)))
+list_all_map p f (x ∷ xs) all = and_from (p (f x)) (list_all p (map f xs)) (all x (record { place = zero; at = refl }))
+    (list_all_map p f xs (λ y has. all y (record { place = suc has.place; at = has.at })))
 
 accept : (copies : Option ℕ) (count : ℕ) (args : List Arg) → copies ≡ Some 1 → length args ≤ 4 → list_all (is_earlier count) args ≡ true → count < 65536 →
     submit_refusal copies count args ≡ None
@@ -43,16 +44,16 @@ calls_count told {before} n h fits good next shape =
     ∙ count_is told n fits good next
 
 module _ (told : Told) (fits : Premises told) (before : List Happening) (n : ℕ) (good : Good told before) (next : IsNext told before (Submitted n))
-    (role : Has (actor_of told (call_of told n).actor).callers (call_of told n).caller) (actor : (call_of told n).actor < length told.actors) where
+    (role : IsIn (actor_of told (call_of told n).actor).callers (call_of told n).caller) (actor : (call_of told n).actor < length told.actors) where
   abbrev c : ℕ
   c = (call_of told n).caller
 
   abbrev a : ℕ
   a = (call_of told n).actor
 
-  earlier : (m : ℕ) → Has (call_of told n).takes m → is_earlier (future_of told n) (Fut (future_of told m)) ≡ true
+  earlier : (m : ℕ) → IsIn (call_of told n).takes m → is_earlier (future_of told n) (Fut (future_of told m)) ≡ true
   earlier m has =
-      let low = fits.earlier n m next.happened (contains_of (call_of told n).takes has) in
+      let low = fits.earlier n m next.happened (contains_from_in has) in
       let there = earlier_submitted before m n fits good.closed next.happened low.0 low.1 next.causes in
       let at : slice_get (subs_of told before c) (future_of told m) ≡ Some m =
       subst (λ d. slice_get (subs_of told before d) (future_of told m) ≡ Some m) low.1 (sub_at told m good there) in

@@ -5,11 +5,11 @@ use Rattle.act_order_plays.proofs.Common.{Submission, items_of, calls_to, number
 use Rattle.act_order_plays.proofs.Common.{slice_get_front, IsPrefix-filter, calls_to-number, filter-slice_get, IsSound, deaths_are, Retires, ran_all, End, Dead}
 use Rattle.act_order_plays.proofs.Common.{Retired, Run, Told, call_of, actor_of, calls_run, SameCaller, SameWay, RunsInTurn, EndsRight, IsWhole, casts_of}
 use Rattle.act_order_plays.proofs.Common.{IsKeptFor, EndsAs, LeavesTold, kept_for, runs_by, future_of, get_taken, map-slice_get, rank_in, same_place, held_call}
-use Rattle.act_order_plays.proofs.Common.{one_place, named_call}
+use Rattle.act_order_plays.proofs.Common.{one_place, named_call, contains_from_in, contains_is}
 use Rattle.act_orders.specs.declared.told.Outcome.TheVariants as out
-use Rattle.act_order_plays.proofs.Lists.{contains_of, below, below_at}
+use Rattle.act_order_plays.proofs.Lists.{below, below_at}
 use Rattle.act_order_plays.proofs.Fronts.{is_by, is_run_of, IsRunAt, take_front, rank, run_ranks, run_before, ran_earlier, runs_earlier}
-use Rattle.act_order_plays.proofs.Casts.{has_contains, cast_of_is}
+use Rattle.act_order_plays.proofs.Casts.{cast_of_is}
 use Rattle.act_order_plays.proofs.Numbering.{futures_to, futures_ran, futures_differ, front_ran}
 use Rattle.act_order_plays.proofs.Left.{ran_by, run_happened, run_call, stands, call_there, item_at, run_told, item_here}
 use Rattle.act_order_plays.proofs.Along.{grows_not}
@@ -122,7 +122,7 @@ module _ (told : Told) (last : History) (whole : IsWhole told) (sound : IsSound 
         subst (λ x. names c (cast_of x last) ≡ true) (ap (λ (q : ℕ × List Arg). q.0) one.2)
         (named_call last c (future_of told n) retires.named one.1) in
         let told_so = subst (λ o. names c o ≡ true) (cast_of_is told last casts (whole.actors n lt)) named in
-        contains_of (actor_of told a).callers (has_contains (actor_of told a).callers c told_so)
+        contains_from_in (contains_is c (actor_of told a).callers told_so)
 
     is_dead_end : (end : End) {dead : Bool} (retired : Bool) → EndsAs end dead retired → dead ≡ true → end ≡ Dead
     is_dead_end Dead retired ends is = refl

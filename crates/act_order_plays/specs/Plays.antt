@@ -1,5 +1,6 @@
 -- What it means that a play of the rules leaves what a history tells.
-use Rattle.std.specs.Prelude.{ℕ, ◌≡◌, ◌≢◌, ◌<◌, ◌≤◌, ◌==◌, ◌↔◌, Bool, true, false, List, [], ◌++◌, length, map, filter, Option, Some, None, is_some, Result, Ok, Err, Contains, IsTrue, ◌⊎◌}
+use Rattle.std.specs.Prelude.{ℕ, ◌≡◌, ◌≢◌, ◌<◌, ◌≤◌, ◌==◌, ◌↔◌, Bool, true, false, List, [], ◌++◌, length, map, filter, Option, Some, None, is_some, Result, Ok}
+use Rattle.std.specs.Prelude.{Err, Contains, IsTrue, ◌⊎◌}
 use Rattle.std.specs.List.{enumerate_from, range_with_len}
 use Rattle.act_types.specs.declared.limits.TheConstants.{MAX_ARGS, MAX_CALLS}
 use Rattle.act_types.specs.declared.call.Arg.{Arg}

@@ -1,5 +1,5 @@
 -- The slots have each cause of what happens, and nothing else.
-use Rattle.act_orders.proofs.Common.{◌≡◌, ◌≢◌, ℕ, zero, suc, ◌+◌, ◌-◌, ◌*◌, ◌^◌, ◌<◌, ◌≤◌, ◌⊎◌, inl, inr, List, [], ◌∷◌, length, map, get_or, refl, sym, ap}
+use Rattle.act_orders.proofs.Common.{◌≡◌, ◌≢◌, ℕ, zero, suc, ◌+◌, ◌-◌, ◌*◌, ◌^◌, ◌<◌, ◌≤◌, inl, inr, List, [], ◌∷◌, length, map, get_or, refl, sym, ap}
 use Rattle.act_orders.proofs.Common.{subst, ◌∙◌, arith, Option, Some, None, slice_get, option_map, cond, eqb, eq-eqb, Contains, eqb-true, length-map}
 use Rattle.act_orders.proofs.Common.{slice_get_within, slice_get-get_or, get_or_from_slice_get, slice_get-map, slice_get_past, cond_some, same_Some, Happening}
 use Rattle.act_orders.proofs.Common.{Submitted, Ran, Answered, Outcome, Run, Told, call_of, calls_run, Happened, IsCause, RunsBefore, RunsInTurn, SameCaller}
@@ -9,13 +9,7 @@ use Rattle.act_orders.specs.declared.told.Outcome.TheVariants as out
 use Rattle.act_orders.proofs.Lists.{has_before, same_or_not}
 use Rattle.act_orders.proofs.Breaking.{call_at}
 use Rattle.act_orders.proofs.Lasting.{is_last, last_found}
-use Rattle.act_orders.proofs.Running.{run_at}
-
-less_or_more : (m p : ℕ) → m ≢ p → (m < p) ⊎ (p < m)
-less_or_more zero zero d = absurd (d refl)
-less_or_more zero (suc p) d = inl (omega arith)
-less_or_more (suc m) zero d = inr (omega arith)
-less_or_more (suc m) (suc p) d = elim (less_or_more m p (λ e. d (ap (λ k. suc k) e))) [ inl h ↦ inl (omega (arith, h)) | inr h ↦ inr (omega (arith, h)) ]
+use Rattle.act_orders.proofs.Running.{run_at, less_or_more}
 
 -- ---- a slot past the first two
 
@@ -228,8 +222,3 @@ few_slots told places v whole lt = few (taken_by told v) (short v lt)
 pub needed_within : {told : Told} {places : List (Option ℕ)} (v : Happening) {u : Happening} (k : ℕ) → HasPlaces told told.runs places → IsWhole told →
     Happened told v → slice_get (slots told places v) k ≡ Some (Some u) → call_in u < length told.calls
 needed_within {told} {places} v {u} k at whole is e = cause_within u v whole is (needs_cause v u at whole is (k, e))
-
-pub slot_beyond : {A : Type 0} (xs : List A) (k : ℕ) → None ≡ slice_get xs k → length xs ≤ k
-slot_beyond [] k e = omega arith
-slot_beyond (x ∷ xs) zero e = absurd (cc)
-slot_beyond (x ∷ xs) (suc k) e = let h = slot_beyond xs k e in omega (arith, h)

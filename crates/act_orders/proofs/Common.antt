@@ -1,5 +1,5 @@
 -- The names of specifications and of the crates below that most proofs here cite, passed on from one place.
-pub use Rattle.act_lists.proofs.Lists.{element, place_in, slice_get_last, slice_get_more, stands_in}
+pub use Rattle.act_lists.proofs.Lists.{element, place_in, slice_get_last, slice_get_more, slice_get_pushed, stands_in}
 pub use Rattle.act_orders.specs.Causes.{HasBefore, HasPlaces, IsBefore, IsEarlier, IsLast, IsPlace, IsUpTo, IsWhole, Rises, TurnTo, call_before, call_in}
 pub use Rattle.act_orders.specs.Causes.{first_cause, graph_of, last_call, number_of, place_of, run_answered, run_before, run_of, second_cause, slots, taken_by}
 pub use Rattle.act_orders.specs.Faults.{CallHolds, CallsHold, Come, Finds, HasFailed, IsCircle, IsFault, Runs, TakesGood}
@@ -28,7 +28,7 @@ pub use Rattle.std.proofs.Common.{inl, inr, is_some, leb, leb-false, leb-true, l
 pub use Rattle.std.proofs.Common.{take, true, zero, ℕ, ◌*◌, ◌++◌, ◌+◌, ◌-◌, ◌<◌, ◌^◌, ◌∙◌, ◌∷◌, ◌≡◌, ◌≢◌, ◌≤◌, ◌⊎◌}
 pub use Rattle.std.proofs.Math.ListN.{set}
 pub use Rattle.std.proofs.Math.Seq.{get_or-append_seam, take-append_seam}
-pub use Rattle.std.proofs.lemmas.Bool.{eqb-true, false≢true}
+pub use Rattle.std.proofs.lemmas.Bool.{cases_lt, eqb-true, false≢true}
 pub use Rattle.std.proofs.lemmas.Bool.Decides.{nat_tests}
 pub use Rattle.std.proofs.lemmas.List.{append-nil, get_or-replicate, get_or-set_other, get_or-set_same, get_or_append_left, length-append, length-drop}
 pub use Rattle.std.proofs.lemmas.List.{length-map, length-replicate, length-set, take-append-le, take-map}

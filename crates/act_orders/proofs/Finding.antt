@@ -1,9 +1,9 @@
 -- What was added to the faults, and what holds where nothing was.
-use Rattle.act_orders.proofs.Common.{◌≡◌, ◌≢◌, ℕ, zero, suc, ◌+◌, ◌<◌, ◌≤◌, ◌⊎◌, inl, inr, List, [], ◌∷◌, ◌++◌, length, take, get_or, refl, sym, ap, subst, ◌∙◌}
+use Rattle.act_orders.proofs.Common.{◌≡◌, ◌≢◌, ℕ, ◌+◌, ◌<◌, ◌≤◌, inl, inr, List, [], ◌∷◌, ◌++◌, length, take, get_or, refl, sym, ap, subst, ◌∙◌}
 use Rattle.act_orders.proofs.Common.{arith, Option, Some, None, Result, Ok, Err, IsTrue, is_some, true, false, Bool, Contains, All, MatchOption, option_to_list}
 use Rattle.act_orders.proofs.Common.{MatchResult, is_ok, append-nil, length-append, All-push, Contains-get_or, slice_get_within, get_or_from_slice_get, Fault}
 use Rattle.act_orders.proofs.Common.{Ran, Answered, Dead, Outcome, Died, Open, Told, call_of, actor_of, calls_run, Happened, HasPlaces, IsPlace, place_of}
-use Rattle.act_orders.proofs.Common.{IsFault, Finds, Come, Runs, HasFailed, TakesGood, CallHolds, place_in, stands_in}
+use Rattle.act_orders.proofs.Common.{IsFault, Finds, Come, Runs, HasFailed, TakesGood, CallHolds, place_in, stands_in, cases_lt}
 use Rattle.act_orders.specs.declared.told.Outcome.TheVariants as out
 use Rattle.act_orders.proofs.Lists.{found_before, has_before, same_or_not}
 use Rattle.act_orders.proofs.Breaking.{call_at}
@@ -118,16 +118,11 @@ found_role xs x (Err i) is e = (
   (λ h. absurd (let no : false ≡ true = sym e ∙ h in cc)),
   (λ has.
       let f = place_in xs x has in let at = get_or_from_slice_get xs f.0 x 0 f.1 in let w = slice_get_within xs f.0 x f.1 in
-      elim (below_or_not f.0 i) [
+      elim (cases_lt f.0 i) [
         | inl lt ↦ absurd (let h = is.1 f.0 lt in omega (arith, h, at))
         | inr le ↦ absurd (let h = is.2 f.0 le w in omega (arith, h, at))
       ]),
 )
-  where
-    below_or_not : (k i : ℕ) → (k < i) ⊎ (i ≤ k)
-    below_or_not k zero = inr (omega arith)
-    below_or_not zero (suc i) = inl (omega arith)
-    below_or_not (suc k) (suc i) = elim (below_or_not k i) [ inl h ↦ inl (omega (arith, h)) | inr h ↦ inr (omega (arith, h)) ]
 
 -- all of a call holds
 pub call_holds : (told : Told) (n : ℕ) {a b c d e f g : List Fault} → n < length told.calls →

@@ -1,14 +1,8 @@
 -- The last call that an actor ran.
-use Rattle.act_orders.proofs.Common.{◌≡◌, ℕ, zero, suc, ◌+◌, ◌<◌, ◌≤◌, ◌⊎◌, inl, inr, List, [], ◌∷◌, length, refl, sym, ap, ◌∙◌, arith, Option, Some, None}
+use Rattle.act_orders.proofs.Common.{◌≡◌, ℕ, zero, suc, ◌+◌, ◌<◌, ◌≤◌, inl, inr, List, [], ◌∷◌, length, refl, sym, ap, ◌∙◌, arith, Option, Some, None}
 use Rattle.act_orders.proofs.Common.{slice_get, cond, eqb, eq-eqb, option_or, eqb-true, slice_get_within, get_or_from_slice_get, cond_some, same_Some, Run}
-use Rattle.act_orders.proofs.Common.{Told, IsLastRun, IsUpTo, run_of, last_call}
+use Rattle.act_orders.proofs.Common.{Told, IsLastRun, IsUpTo, run_of, last_call, cases_lt}
 use Rattle.act_orders.proofs.Running.{run_at}
-
--- below, or not
-below_or_not : (k i : ℕ) → (k < i) ⊎ (i ≤ k)
-below_or_not k zero = inr (omega arith)
-below_or_not zero (suc i) = inl (omega arith)
-below_or_not (suc k) (suc i) = elim (below_or_not k i) [ inl h ↦ inl (omega (arith, h)) | inr h ↦ inr (omega (arith, h)) ]
 
 -- where the last run of an actor stands among these
 record LastOf (runs : List Run) (a m : ℕ) : Type 0 where
@@ -17,7 +11,7 @@ record LastOf (runs : List Run) (a m : ℕ) : Type 0 where
   last : (i : ℕ) (run : Run) → slice_get runs i ≡ Some run → run.actor ≡ a → i ≤ place
 
 -- none of these is of this actor
-abbrev NoneOf : List Run → ℕ → Type 0
+abbrev pub NoneOf : List Run → ℕ → Type 0
 NoneOf runs a = (i : ℕ) (run : Run) → slice_get runs i ≡ Some run → run.actor ≡ a → ⊥
 
 none_of : (runs : List Run) (a : ℕ) → last_call runs a ≡ None → NoneOf runs a
@@ -98,7 +92,7 @@ pub found_up_to : (told : Told) (a j : ℕ) → IsUpTo told a (j + 1) → j < le
 found_up_to told a j up lt same = last_found told a (run_of told j).call (record {
   place = j;
   at = run_at told j lt ∙ ap (λ b. Some (record { actor = b; call = (run_of told j).call })) same;
-  last = λ i run at one. elim (below_or_not j i) [
+  last = λ i run at one. elim (cases_lt j i) [
     | inr le ↦ le
     | inl less ↦ absurd (let w = slice_get_within told.runs i run at in let is : run_of told i ≡ run = get_or_from_slice_get told.runs i run
         (record { actor = 0; call = 0 }) at in let h = up.later i (omega (arith, less)) w in omega (arith, h, ap (λ (r : Run). r.actor) is, one))
@@ -110,7 +104,7 @@ pub nothing_up_to : (told : Told) {a : ℕ} (k : ℕ) → IsUpTo told a k → ((
 nothing_up_to told {a} k up before = nothing_found told a (λ i run at one.
     let w = slice_get_within told.runs i run at in
     let is : run_of told i ≡ run = get_or_from_slice_get told.runs i run (record { actor = 0; call = 0 }) at in
-    elim (below_or_not i k) [
+    elim (cases_lt i k) [
       | inl less ↦ absurd (let h = before i less in omega (arith, h, ap (λ (r : Run). r.actor) is, one))
       | inr more ↦ absurd (let h = up.later i more w in omega (arith, h, ap (λ (r : Run). r.actor) is, one))
     ])

@@ -1,7 +1,7 @@
 -- Lists that grow at their end: places, and what is said of each item with those before it.
 use Rattle.act_orders.proofs.Common.{◌≡◌, ◌≢◌, ℕ, zero, suc, ◌+◌, ◌<◌, ◌⊎◌, inl, inr, List, [], ◌∷◌, ◌++◌, length, take, drop, refl, sym, ap, subst, ◌∙◌, arith}
 use Rattle.act_orders.proofs.Common.{Some, slice_get, take-append-le, slice_get_within, take-append_seam, Contains, EachAfter, slice_get_more, slice_get_last}
-use Rattle.act_orders.proofs.Common.{stands_in, place_in}
+use Rattle.act_orders.proofs.Common.{stands_in, place_in, slice_get_pushed}
 
 -- two numbers are one, or not
 pub same_or_not : (m n : ℕ) → (m ≡ n) ⊎ (m ≢ n)
@@ -13,10 +13,7 @@ same_or_not (suc m) (suc n) = elim (same_or_not m n) [ inl e ↦ inl (ap (λ k. 
 -- where an item is added at the end, each place is an old one or the last
 pub get_pushed : {A : Type 0} → (xs : List A) (y : A) (i : ℕ) {v : A} → slice_get (xs ++ y ∷ []) i ≡ Some v →
     ((i < length xs) × (slice_get xs i ≡ Some v)) ⊎ ((i ≡ length xs) × (y ≡ v))
-get_pushed [] y zero e = inr (refl, (cc))
-get_pushed [] y (suc i) e = absurd (cc)
-get_pushed (x ∷ xs) y zero e = inl (omega arith, e)
-get_pushed (x ∷ xs) y (suc i) {v} e = elim (get_pushed xs y i e) [ inl h ↦ inl (omega (arith, h.0), h.1) | inr h ↦ inr (ap (λ k. suc k) h.0, h.1) ]
+get_pushed xs y i e = elim (slice_get_pushed xs y i e) [ inl h ↦ inl (slice_get_within xs i _ h, h) | inr h ↦ inr h ]
 
 -- the items from a place on
 pub get_dropped : {A : Type 0} → (n : ℕ) (xs : List A) (i : ℕ) → slice_get (drop n xs) i ≡ slice_get xs (n + i)

@@ -1,9 +1,9 @@
 -- Runs: where calls ran, and whether each is its caller's next.
-use Rattle.act_orders.proofs.Common.{◌≡◌, ◌≢◌, ℕ, zero, suc, ◌+◌, ◌<◌, ◌≤◌, ◌⊎◌, inl, inr, List, [], ◌∷◌, ◌++◌, length, map, take, get_or, refl, sym, ap, subst}
+use Rattle.act_orders.proofs.Common.{◌≡◌, ◌≢◌, ℕ, ◌+◌, ◌<◌, ◌≤◌, ◌⊎◌, inl, inr, List, [], ◌∷◌, ◌++◌, length, map, take, get_or, refl, sym, ap, subst}
 use Rattle.act_orders.proofs.Common.{◌∙◌, arith, Option, Some, None, slice_get, set, Contains, All, MatchOption, option_to_list, get_or-append_seam, All-push}
 use Rattle.act_orders.proofs.Common.{Fault, IsFault, take-map, get_or-set_same, get_or-set_other, length-set, get_or_append_left, append-nil, length-append}
 use Rattle.act_orders.proofs.Common.{slice_get-get_or, Run, Told, call_of, calls_run, SameWay, IsPlace, IsBefore, IsLast, HasBefore, HasPlaces, TurnTo}
-use Rattle.act_orders.proofs.Common.{place_of, run_of}
+use Rattle.act_orders.proofs.Common.{place_of, run_of, cases_lt}
 use Rattle.act_orders.specs.Order.{IsNext}
 use Rattle.act_orders.proofs.Lists.{same_or_not, get_taken, get_in_taken, found_before, has_before}
 use Rattle.act_orders.proofs.Breaking.{call_at}
@@ -18,6 +18,10 @@ pub placed_at : (runs : List Run) (n i : ℕ) (place : Option ℕ) → IsPlace r
     (a : ℕ) × (slice_get runs i ≡ Some (record { actor = a; call = n }))
 placed_at runs n i None at e = absurd (cc)
 placed_at runs n i (Some j) at e = let same : j ≡ i = cc in (at.0, subst (λ k. slice_get runs k ≡ Some (record { actor = at.0; call = n })) same at.1)
+
+-- of two numbers that differ one is less
+pub less_or_more : (m p : ℕ) → m ≢ p → (m < p) ⊎ (p < m)
+less_or_more m p differ = elim (cases_lt m p) [ inl less ↦ inl less | inr least ↦ inr (omega (arith, least, differ)) ]
 
 -- where the caller has no call before, or that one ran
 pub in_turn : (told : Told) (places : List (Option ℕ)) (i n : ℕ) (before : Option ℕ) → TurnTo told i → IsBefore told n before →
@@ -36,12 +40,6 @@ in_turn told places i n (Some p) turn is ran m lt way =
         | inr more ↦ absurd (is.2 m lt more way)
       ]
     ]
-  where
-    less_or_more : (m p : ℕ) → m ≢ p → (m < p) ⊎ (p < m)
-    less_or_more zero zero d = absurd (d refl)
-    less_or_more zero (suc p) d = inl (omega arith)
-    less_or_more (suc m) zero d = inr (omega arith)
-    less_or_more (suc m) (suc p) d = elim (less_or_more m p (λ e. d (ap (λ k. suc k) e))) [ inl h ↦ inl (omega (arith, h)) | inr h ↦ inr (omega (arith, h)) ]
 
 -- the run at i is its caller's next call
 pub next_run : (told : Told) (places before : List (Option ℕ)) (i : ℕ) → HasPlaces told (take i told.runs) places → HasBefore told before → (run_of told i).call

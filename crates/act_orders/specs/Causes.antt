@@ -1,5 +1,6 @@
 -- Where a search looks for the causes of what happens.
-use Rattle.std.specs.Prelude.{ℕ, zero, suc, ◌+◌, ◌*◌, ◌^◌, ◌≡◌, ◌<◌, ◌≤◌, ◌==◌, if◌then◌else◌, List, [], ◌∷◌, length, map, take, slice_get, slice_index, slice_index_or, Option, Some, None, option_map, Contains}
+use Rattle.std.specs.Prelude.{ℕ, zero, suc, ◌+◌, ◌*◌, ◌^◌, ◌≡◌, ◌<◌, ◌≤◌, ◌==◌, if◌then◌else◌, List, [], ◌∷◌, length, map, take, slice_get, slice_index}
+use Rattle.std.specs.Prelude.{slice_index_or, Option, Some, None, option_map, Contains}
 use Rattle.std.specs.Option.{option_or}
 use Rattle.act_orders.specs.declared.told.Happening.{Happening}
 use Rattle.act_orders.specs.declared.told.Happening.TheVariants.{Submitted, Ran, Answered}

@@ -1,6 +1,6 @@
 -- What the resolver knows of a caller's calls: what each waits for, what was told, and which is ready.
 use Rattle.act_owner.proofs.Common.{◌≡◌, ℕ, zero, suc, ◌<◌, ◌&&◌, Bool, true, false, not, cond, List, [], ◌∷◌, ◌++◌, length, map, Option, Some, None, is_some}
-use Rattle.act_owner.proofs.Common.{inl, inr, refl, sym, ◌∙◌, ap, arith, subst, if◌then◌else◌, slice_get, slice_set, find, unwrap_or, option_map, nat_lt, All}
+use Rattle.act_owner.proofs.Common.{inl, inr, refl, sym, ◌∙◌, ap, arith, slice_get, slice_set, find, unwrap_or, option_map, nat_lt, All}
 use Rattle.act_owner.proofs.Common.{list_all, range_with_len, option_map_or, length-map, slice_get-map, leb_tells, and_parts, Arg, Plain, Fut, Answer}
 use Rattle.act_owner.proofs.Common.{slice_get_last, Handle, Row, Entered, changed_at, new_call, with_told, is_answered, is_marked_sent, is_told, is_next_ready}
 use Rattle.act_owner.proofs.Common.{least_ready, Call, Submission}
@@ -9,6 +9,7 @@ use Rattle.act_rules.specs.Submissions.{kept_at, is_earlier, is_known as is_know
 use Rattle.act_owner.specs.Owner.{call_at, numbered_call, OwnerView, submission_of, answers_of, futures_of_args, entered_call, KnowsAnswers, IsOwner}
 use Rattle.act_owner.specs.Owner.{is_known_call, is_sent as owner_is_sent, is_ready as owner_is_ready, first_ready as owner_first_ready}
 use Rattle.act_owner.proofs.Calls.{set_last}
+use Rattle.act_rules.proofs.Elements.{found_passes}
 
 -- one caller, seen through its parts
 abbrev pub seen : ℕ → List Handle → List Call → List Row → List Entered → List Bool → List (ℕ × Option ℕ) → OwnerView
@@ -161,15 +162,6 @@ told_last k args {futures} entered last same dead one two =
 
 -- ---- the least call that is ready
 
--- what is found passes the test
-pub find_true : (p : ℕ → Bool) (xs : List ℕ) (k : ℕ) → find p xs ≡ Some k → p k ≡ true
-find_true p [] k is = absurd (cc is)
-find_true p (x ∷ xs) k is = go (p x) refl is (find_true p xs k)
-  where
-    go : (b : Bool) → p x ≡ b → (if b then Some x else find p xs) ≡ Some k → (find p xs ≡ Some k → p k ≡ true) → p k ≡ true
-    go true e found rest = let same : x ≡ k = cc found in subst (λ n. p n ≡ true) same e
-    go false e found rest = rest found
-
 first_of_three : (a b c : Bool) → (a && not b && not c) ≡ true → a ≡ true
 first_of_three true b c is = refl
 first_of_three false b c is = absurd (cc is)
@@ -177,7 +169,7 @@ first_of_three false b c is = absurd (cc is)
 ready_is_known : (owner : OwnerView) (k : ℕ) → owner_first_ready owner ≡ Some k → is_known_call owner (slice_get owner.calls k) ≡ true
 ready_is_known owner k ready =
     first_of_three (is_known_call owner (slice_get owner.calls k)) (owner_is_sent owner k) (is_some (kept_at owner.kept k))
-    (find_true (owner_is_ready owner) (range_with_len 0 (length owner.calls)) k ready)
+    (found_passes (owner_is_ready owner) (range_with_len 0 (length owner.calls)) ready)
 
 -- a call that is ready was submitted
 pub ready_is_there : (owner : OwnerView) (k : ℕ) → owner_first_ready owner ≡ Some k → call_at owner.calls k ≡ None → ⊥

@@ -7,7 +7,8 @@ use Rattle.act_rules.specs.Actions.{Action, Copied, Released, Submitted, Sent, N
 use Rattle.act_rules.specs.RunList.{Answer}
 use Rattle.act_rules.specs.Submissions.{handle_refusal, copy_refusal, kept_at}
 use Rattle.act_handles.specs.Handles.{copies_in, with_copy, without_copy}
-use Rattle.act_owner.specs.Owner.{OwnerView, opened_under, owner_limit, pending, refusal_to_submit, sending_refusal, with_handles, with_submission, with_sent, after_collect, is_known_call, packet_at, is_sent, is_known_dead, is_to, is_death}
+use Rattle.act_owner.specs.Owner.{OwnerView, opened_under, owner_limit, pending, refusal_to_submit, sending_refusal, with_handles, with_submission, with_sent}
+use Rattle.act_owner.specs.Owner.{after_collect, is_known_call, packet_at, is_sent, is_known_dead, is_to, is_death}
 
 -- the caller after an action; asking a kill leaves it as it is, and so does what an actor does
 abbrev pub after_action : OwnerView → Action → OwnerView

@@ -1,5 +1,7 @@
 -- What contracts say of one caller.
-use Rattle.std.specs.Prelude.{◌≡◌, ℕ, ◌≤◌, ◌==◌, Bool, true, false, not, ◌&&◌, if◌then◌else◌, List, [], ◌∷◌, ◌++◌, length, map, zip, replicate, filter, filter_map, find, count_by, slice_get, slice_set, Option, Some, None, is_some, option_map, option_and_then, unwrap_or, Result, Err}
+use Rattle.std.specs.Prelude.{◌≡◌, ℕ, ◌≤◌, ◌==◌, Bool, true, false, not, ◌&&◌, if◌then◌else◌, List, [], ◌∷◌, ◌++◌, length, map, zip, replicate, filter}
+use Rattle.std.specs.Prelude.{filter_map, find, count_by, slice_get, slice_set, Option, Some, None, is_some, option_map, option_and_then, unwrap_or, Result}
+use Rattle.std.specs.Prelude.{Err}
 use Rattle.std.specs.Option.{option_or}
 use Rattle.std.specs.List.{list_all, range_with_len}
 use Rattle.act_types.specs.declared.limits.TheConstants.{MAX_CALLS}

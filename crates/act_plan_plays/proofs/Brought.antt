@@ -1,11 +1,12 @@
 -- Each letter that was sent has arrived: what keeps it so.
 use Rattle.act_plan_plays.proofs.Common.{◌≡◌, ℕ, ◌-◌, Bool, true, false, cond, List, [], ◌∷◌, ◌++◌, length, Option, Some, None, inl, inr, ◌⊎◌, refl, ap, sym}
-use Rattle.act_plan_plays.proofs.Common.{◌∙◌, subst, ◌||◌, not, slice_get, option_map, list_any-append, Event, Letter, Submission, Mail, Copies, WorldRefusal}
+use Rattle.act_plan_plays.proofs.Common.{◌∙◌, subst, not, slice_get, option_map, list_any-append, Event, Letter, Submission, Mail, Copies, WorldRefusal}
 use Rattle.act_plan_plays.proofs.Common.{ActorEnded, NoCaller, Sending, needs, calls_to, copies_held, send_refusal, History, is_letter, has_letter, is_ended}
 use Rattle.act_plan_plays.proofs.Common.{is_caller, calls_of, copies_of, kept_of, runs_of, refusal_of, did, add_event, after_by, after, and_also, letter_actor}
 use Rattle.act_plan_plays.proofs.Common.{deliver_refusal, call_letter, was_sent, is_last, slice_get_last, added_grows, ended_stays, letter_is, has_front}
 use Rattle.act_plan_plays.proofs.Common.{has_last, IsBrought, after_mail, after_post, or_cases, NoteLetter}
 use Rattle.act_rules.specs.declared.event.Event.TheVariants as event
+use Rattle.std.proofs.Math.Bool.{or-false}
 
 -- who lives after an event lived before
 pub lived : (a : ℕ) (h : History) (other : Event) → refusal_of h other ≡ None → is_ended a (add_event h other) ≡ false → is_ended a h ≡ false
@@ -25,10 +26,6 @@ brought_kept h other accepted same brought letter there live =
 
 -- ---- a letter that is sent is brought
 
-one_letter : (x : Bool) → (x || false) ≡ true → x ≡ true
-one_letter true e = refl
-one_letter false e = cc
-
 -- a letter of the longer mail was there before, or is the new one
 older_or_new : (letter new : Letter) (mail : List Letter) → has_letter letter (mail ++ new ∷ []) ≡ true → (has_letter letter mail ≡ true) ⊎ (letter ≡ new)
 older_or_new letter new mail e = go (or_cases (has_letter letter mail) (has_letter letter (new ∷ [])) (sym (list_any-append (is_letter letter) mail (new ∷ []))
@@ -36,7 +33,7 @@ older_or_new letter new mail e = go (or_cases (has_letter letter mail) (has_lett
   where
     go : (has_letter letter mail ≡ true) ⊎ (has_letter letter (new ∷ []) ≡ true) → (has_letter letter mail ≡ true) ⊎ (letter ≡ new)
     go (inl there) = inl there
-    go (inr is) = inr (letter_is letter new (one_letter (is_letter letter new) is))
+    go (inr is) = inr (letter_is letter new (sym (or-false (is_letter letter new)) ∙ is))
 
 not_refused : (ended : Bool) {refusal : WorldRefusal} → needs (not ended) ActorEnded None ≡ Some refusal → ended ≡ true
 not_refused true e = refl

@@ -3,8 +3,8 @@ use Rattle.act_plan_plays.proofs.Common.{◌≡◌, ℕ, Bool, true, false, cond
 use Rattle.act_plan_plays.proofs.Common.{find, filter, slice_get, is_some, option_map, map, option_map_or, list_any, Packet, Step, ActorSpec, History, contains}
 use Rattle.act_plan_plays.proofs.Common.{names, cast_of, actors_naming, is_ended, is_dead, is_retired, next_item, refusal_of, run_needs, item_of, CallerSetup}
 use Rattle.act_plan_plays.proofs.Common.{SlotView, Runs, Died, Ended, Vacant, WorldView, stage_of_slot, is_live_slot, has_next_in_slot, Refines, IsStage}
-use Rattle.act_plan_plays.proofs.Common.{next_is, item_is, At, world, take_needs, or_second, Choice, Run, Parts, Stands, HoldPlans, shows_live, shows_next}
-use Rattle.act_plan_plays.proofs.Common.{AllRuns, or_left, cast_known}
+use Rattle.act_plan_plays.proofs.Common.{next_is, item_is, At, world, take_needs, or_right, Choice, Run, Parts, Stands, HoldPlans, shows_live, shows_next}
+use Rattle.act_plan_plays.proofs.Common.{AllRuns, or_left, some_cast}
 use Rattle.act_rules.specs.declared.event.Event.TheVariants as event
 use Rattle.act_plan_plays.proofs.Done.{named_listed}
 use Rattle.act_plan_plays.proofs.Quiet.{part_of}
@@ -27,17 +27,17 @@ live_slot h a None is some live = no_cast h a _ is some
 live_slot h a (Some Vacant) is some live = no_cast h a _ is some
 live_slot h a (Some (Runs one)) is some live = refl
 live_slot h a (Some (Died dead)) is some live = ended_by h a _ (or_left (is_dead a h) (is_retired a h) is.died) live
-live_slot h a (Some (Ended retired)) is some live = ended_by h a _ (or_second (is_dead a h) is.ended) live
+live_slot h a (Some (Ended retired)) is some live = ended_by h a _ (or_right (is_dead a h) _ is.ended) live
 
 -- an actor that has not ended shows its next call
 pub next_slot : (h : History) (a c : ℕ) (o : Option SlotView) → IsStage h a o → names c (cast_of a h) ≡ true → is_ended a h ≡ false →
     is_some (next_item a c h) ≡ true → option_map_or (has_next_in_slot c) (stage_of_slot o) false ≡ true
-next_slot h a c None is named live next = no_cast h a _ is (cast_known (cast_of a h) c named)
-next_slot h a c (Some Vacant) is named live next = no_cast h a _ is (cast_known (cast_of a h) c named)
+next_slot h a c None is named live next = no_cast h a _ is (some_cast c (cast_of a h) named)
+next_slot h a c (Some Vacant) is named live next = no_cast h a _ is (some_cast c (cast_of a h) named)
 next_slot h a c (Some (Runs one)) is named live next =
     ap (λ o. is_some o) (next_is h a c is named) ∙ sym (same_some _) ∙ sym (ap (λ o. is_some o) (item_is h a c)) ∙ next
 next_slot h a c (Some (Died dead)) is named live next = ended_by h a _ (or_left (is_dead a h) (is_retired a h) is.died) live
-next_slot h a c (Some (Ended retired)) is named live next = ended_by h a _ (or_second (is_dead a h) is.ended) live
+next_slot h a c (Some (Ended retired)) is named live next = ended_by h a _ (or_right (is_dead a h) _ is.ended) live
 
 -- ---- the choices
 

@@ -3,17 +3,17 @@ pub use Rattle.act_actor.specs.Actor.{item_of}
 pub use Rattle.act_actor.specs.Casts.{actor_spec}
 pub use Rattle.act_actor.specs.declared.cast.Cast.{Cast}
 pub use Rattle.act_early.proofs.Choices.{choices_same, heard_quiet}
-pub use Rattle.act_early.proofs.Choosing.{cast_known, run_more}
+pub use Rattle.act_early.proofs.Choosing.{run_more}
 pub use Rattle.act_early.proofs.Counting.{occurrences-push}
 pub use Rattle.act_rules.proofs.Callers.{named_among}
 pub use Rattle.act_early.proofs.Notes.{notes_sent}
 pub use Rattle.act_early.proofs.Quiesces.{Quiesces, death_quiesces, quiesces_same, quiesces_trans, quiet_quiesces, skip_quiesces, step_quiesces}
-pub use Rattle.act_early.proofs.Worlds.{IsWorld, contains_push, either_of, not_dead, not_so, or_second, take_needs, world, world as world_of}
+pub use Rattle.act_early.proofs.Worlds.{IsWorld, either_of, not_dead, not_so, take_needs, world, world as world_of}
 pub use Rattle.act_early.specs.Early.{HasRunMore, HasTakenMore, IsQuiescent, is_heard}
 pub use Rattle.act_early.specs.Fronts.{HaveSameChoices}
 pub use Rattle.act_early.specs.Plays.{At, Closes, Happens, IsPlay, MayTake, Opens, next_step, opened, skipped, steps_of, taken, with_event}
 pub use Rattle.act_handles.specs.Handles.{copies_in}
-pub use Rattle.act_lists.proofs.Lists.{element, slice_get_last}
+pub use Rattle.act_lists.proofs.Lists.{element, get_set-other, get_set-same, map_none, slice_get_last}
 pub use Rattle.act_owner.specs.Owner.{OwnerView, first_ready, is_known_call, is_known_dead, is_ready, is_sent, refusal_to_submit}
 pub use Rattle.act_plan_plays.specs.Moves.{AllRuns, Does, HasDone, HasNoStep, IsDone, Moves, held, is_left_out, may_take, shows_dead, shows_live, shows_next}
 pub use Rattle.act_plan_plays.specs.Parts.{HasAsked, HasSteps, IsBehind, IsBrought, Parts, Stands, after_mail, after_move, after_post, parts_of}
@@ -27,7 +27,8 @@ pub use Rattle.act_plans.proofs.ActorSpecs.{actors_are, plan_of_view, plans_are,
 pub use Rattle.act_plans.specs.Prepared.{HasNumbers, callers_named_by, plan_in, setup_of, setup_view, steps_given}
 pub use Rattle.act_plans.specs.Setups.{PlansFit}
 pub use Rattle.act_plans.specs.declared.rising.CallerSetup.{CallerSetup}
-pub use Rattle.act_rules.proofs.Ended.{contains_more, ended_stays, needs-none, run_needs}
+pub use Rattle.act_rules.proofs.Ended.{contains_more, contains_push, ended_stays, needs-none, run_needs}
+pub use Rattle.act_rules.proofs.Events.{some_cast}
 pub use Rattle.act_rules.proofs.Growth.{added_grows}
 pub use Rattle.act_rules.proofs.Letters.{has_front, has_last, letter_is}
 pub use Rattle.act_rules.proofs.Lists.{front_trans, list_any-map, option_map-none, range_push}
@@ -61,7 +62,7 @@ pub use Rattle.act_types.specs.KindState.{KindState}
 pub use Rattle.act_types.specs.declared.call.Arg.{Arg}
 pub use Rattle.act_types.specs.declared.call.Packet.{Packet}
 pub use Rattle.act_world.proofs.Heard.{death_listed}
-pub use Rattle.act_world.proofs.Lists.{get_set-other, get_set-same, read_is}
+pub use Rattle.act_world.proofs.Lists.{read_is}
 pub use Rattle.act_world.proofs.NextCall.{item_is, next_is}
 pub use Rattle.act_world.proofs.OneCaller.{IsHere}
 pub use Rattle.act_world.proofs.Submitting.{submission_refused}
@@ -73,7 +74,7 @@ pub use Rattle.act_world.specs.declared.slot.Slot.{Slot}
 pub use Rattle.std.proofs.Common.{All, Bool, Contains, Err, IsOk, List, None, Ok, OnOk, Option, Result, Some, [], ap, arith, cond, false, filter, find, get_or}
 pub use Rattle.std.proofs.Common.{if◌then◌else◌, inl, inr, is_none, is_ok, is_some, leb, length, map, nat_lt, not, option_map, refl, replicate, slice_get}
 pub use Rattle.std.proofs.Common.{slice_set, subst, suc, sym, take, true, zero, ℕ, ◌&&◌, ◌++◌, ◌+◌, ◌-◌, ◌<◌, ◌==◌, ◌||◌, ◌∙◌, ◌∷◌, ◌≡◌, ◌≢◌, ◌≤◌, ◌⊎◌}
-pub use Rattle.std.proofs.lemmas.Bool.{and_from, and_parts, cases_lt, eq-eqb, eqb-true, leb-false, leb-true, or_cases, or_left}
+pub use Rattle.std.proofs.lemmas.Bool.{and_from, and_parts, cases_lt, eq-eqb, eqb-true, leb-false, leb-true, or_cases, or_left, or_right}
 pub use Rattle.std.proofs.lemmas.Bool.Decides.{nat_tests}
 pub use Rattle.std.proofs.lemmas.List.{get_or-map, length-map, take_all, take_more}
 pub use Rattle.std.proofs.lemmas.List.Elements.{All-append, All-cons, All-nil, All-push, Contains-append_left, Contains-append_right}

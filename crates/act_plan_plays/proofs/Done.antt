@@ -4,7 +4,7 @@ use Rattle.act_plan_plays.proofs.Common.{arith, ◌==◌, ◌&&◌, ◌||◌, no
 use Rattle.act_plan_plays.proofs.Common.{slice_get_within, Step, copies_held, kept_at, is_known, ActorSpec, History, contains, names, cast_of, actors_naming}
 use Rattle.act_plan_plays.proofs.Common.{copies_of, has_letter, call_letter, was_sent, copies_in, OwnerView, is_known_call, is_sent, is_ready, first_ready}
 use Rattle.act_plan_plays.proofs.Common.{is_known_dead, Refines, death_listed, IsHere, At, next_step, world, Parts, Stands, held, may_take, shows_dead}
-use Rattle.act_plan_plays.proofs.Common.{is_left_out, HasNoStep, IsDone, cast_known}
+use Rattle.act_plan_plays.proofs.Common.{is_left_out, HasNoStep, IsDone, some_cast}
 use Rattle.act_plan_plays.proofs.Loops.{none_passes, in_range}
 use Rattle.act_plan_plays.proofs.Seen.{live_shown, refuses}
 
@@ -69,7 +69,7 @@ done_of casts plans at {parts} c {owner} {actors} {next} stands refines here nex
   waits = λ step is may. refuses h c owner step here (idle_step (sym next_is ∙ is)).0 may;
   needs = λ a is named.
       let copies : is_some (copies_in a owner.handles) ≡ true = ap (λ o. is_some o) (here.is.copies a) ∙ names_copies c a h named in
-      live_shown h a refines stands.live (cast_known (cast_of a h) c named)
+      live_shown h a refines stands.live (some_cast c (cast_of a h) named)
       (no_and (shows_dead parts.world a) (is_some (copies_in a owner.handles)) (idle_step (sym next_is ∙ is)).1 copies);
   closed = λ a is named.
       let none = none_passes (λ a. nat_lt 0 (held owner a)) actors a (idle_last (sym next_is ∙ is)) (listed a named) in
@@ -89,7 +89,7 @@ done_of casts plans at {parts} c {owner} {actors} {next} stands refines here nex
   told = λ a dead named.
       let tells = none_passes (λ a. shows_dead parts.world a && not (is_known_dead owner a)) actors a told (listed a named) in
       let shown : shows_dead parts.world a ≡ true = true_or_false (shows_dead parts.world a) (shows_dead parts.world a ≡ true) (λ e. e)
-      (λ e. let bad : true ≡ false = sym dead ∙ live_shown h a refines stands.live (cast_known (cast_of a h) c named) e in cc) in
+      (λ e. let bad : true ≡ false = sym dead ∙ live_shown h a refines stands.live (some_cast c (cast_of a h) named) e in cc) in
       death_listed c a h.collected (sym (here.is.deaths a) ∙ untold (shows_dead parts.world a) (is_known_dead owner a) tells shown);
 }
   where

@@ -5,7 +5,7 @@ use Rattle.act_plan_plays.proofs.Common.{contains, is_caller, calls_of, kept_of,
 use Rattle.act_plan_plays.proofs.Common.{steps_of, world, named_call, named_among, Parts, IsBehind, Stands, HoldPlans, HasAnswers, IsThrough, AllThrough}
 use Rattle.act_plan_plays.proofs.Quiet.{part_of}
 use Rattle.act_plan_plays.proofs.Moving.{next_is}
-use Rattle.act_world.proofs.Pending.{kept_long}
+use Rattle.act_rules.proofs.Kept.{kept_size}
 
 -- ---- the answers
 
@@ -23,10 +23,10 @@ kept_all (Some x ∷ xs) all = kept_all xs (λ k below. all (suc k) (omega arith
 pub answers_tell : (h : History) (c : ℕ) {owner : OwnerView} → IsHere h c owner →
     (list_all (λ o. is_some o) owner.kept ≡ true → HasAnswers c h) × (HasAnswers c h → list_all (λ o. is_some o) owner.kept ≡ true)
 answers_tell h c here = (
-  (λ e k call at. let within : k < length (kept_of c h) = omega (arith, slice_get_within (calls_of c h) k call at, kept_long h c) in
+  (λ e k call at. let within : k < length (kept_of c h) = omega (arith, slice_get_within (calls_of c h) k call at, kept_size c h) in
       all_kept (kept_of c h) (subst (λ l. list_all (λ o. is_some o) l ≡ true) here.is.kept e) k within),
   λ all. subst (λ l. list_all (λ o. is_some o) l ≡ true) (sym here.is.kept)
-      (kept_all (kept_of c h) (λ k below. let found = element (calls_of c h) k (omega (arith, below, kept_long h c)) in all k found.0 found.1)),
+      (kept_all (kept_of c h) (λ k below. let found = element (calls_of c h) k (omega (arith, below, kept_size c h)) in all k found.0 found.1)),
 )
 
 -- a stranger has no calls

@@ -2,7 +2,7 @@
 use Rattle.act_plan_plays.proofs.Common.{◌≡◌, ℕ, zero, suc, ◌+◌, ◌<◌, ◌≤◌, inl, inr, ◌⊎◌, arith, Bool, true, false, if◌then◌else◌, List, [], ◌∷◌, ◌++◌, length}
 use Rattle.act_plan_plays.proofs.Common.{take, get_or, Option, Some, None, All, refl, ap, sym, ◌∙◌, subst, ◌==◌, ◌||◌, find, is_some, Result, Ok, eqb-true}
 use Rattle.act_plan_plays.proofs.Common.{eq-eqb, cases_lt, take_more, take_all, All-push, find-append, option_or, range_with_len, contains, range_push}
-use Rattle.act_plan_plays.proofs.Common.{contains_more, contains_push, or_second}
+use Rattle.act_plan_plays.proofs.Common.{contains_more, contains_push, or_right}
 
 -- none so far is found
 pub none_more : {X : Type 0} (p : X → Bool) (xs : List X) {i : ℕ} {x : X} → i < length xs → x ≡ get_or xs i x → p x ≡ false → find p (take i xs) ≡ None
@@ -37,7 +37,8 @@ in_range (suc n) k below = ap (contains k) (range_push 0 n) ∙ go (cases_lt k n
     go : (k < n) ⊎ (n ≤ k) → (k < n → contains k (range_with_len 0 n) ≡ true) → contains k (range_with_len 0 n ++ (0 + n) ∷ []) ≡ true
     go (inl lt) rest = contains_more k (range_with_len 0 n) ((0 + n) ∷ []) (rest lt)
     go (inr ge) rest =
-        let same : 0 + n ≡ k = omega arith in contains_push k (0 + n) (range_with_len 0 n) ∙ or_second (contains k (range_with_len 0 n)) (eq-eqb (0 + n) k same)
+        let same : 0 + n ≡ k = omega arith in
+        contains_push k (0 + n) (range_with_len 0 n) ∙ or_right (contains k (range_with_len 0 n)) _ (eq-eqb (0 + n) k same)
 
 -- each so far
 pub each_more : {X : Type 0} (P : X → Type 0) (xs : List X) {i : ℕ} {x : X} → i < length xs → x ≡ get_or xs i x → P x → All P (take i xs)

@@ -2,7 +2,7 @@
 use Rattle.act_plan_plays.proofs.Common.{◌≡◌, ℕ, zero, suc, ◌<◌, true, false, List, [], ◌∷◌, Some, refl, ap, sym, ◌∙◌, subst, arith, replicate, ◌||◌, map}
 use Rattle.act_plan_plays.proofs.Common.{slice_get, IsOk, eq-eqb, All-nil, Did, WorldRefusal, Event, Step, RunItem, ActorSpec, History, contains, runs_of}
 use Rattle.act_plan_plays.proofs.Common.{WorldView, IsReachedBy, At, opened, Opens, is_heard, HaveSameChoices, Parts, Stands, KindState, Slot, PlanPlayOf}
-use Rattle.act_plan_plays.proofs.Common.{PlanPlayView, play_view, HoldPlans, StandsAt}
+use Rattle.act_plan_plays.proofs.Common.{PlanPlayView, play_view, HoldPlans, StandsAt, map_none}
 
 zeros : (n c : ℕ) → c < n → slice_get {X = ℕ} (replicate n 0) c ≡ Some 0
 zeros zero c below = absurd (omega arith)
@@ -69,12 +69,8 @@ inside {K = K} state casts plans at fields seen is stands = subst (λ v. StandsA
 
 -- ---- no choice was made
 
--- what maps to nothing is nothing
-pub map_none : {A B : Type 0} (f : A → B) (xs : List A) → map f xs ≡ [] → xs ≡ []
-map_none f [] e = refl
-map_none f (x ∷ xs) e = cc
-
-contained_none : (xs : List ℕ) → ((b : ℕ) → contains b xs ≡ false) → xs ≡ []
+-- a list that contains no number is empty
+pub contained_none : (xs : List ℕ) → ((b : ℕ) → contains b xs ≡ false) → xs ≡ []
 contained_none [] none = refl
 contained_none (x ∷ xs) none =
     let is : contains x (x ∷ xs) ≡ true = ap (λ b. b || contains x xs) (eq-eqb x x refl) in

@@ -1,7 +1,7 @@
 -- Nothing is left of any caller: the play is quiescent.
 use Rattle.act_plan_plays.proofs.Common.{◌≡◌, ℕ, ◌<◌, Bool, true, false, List, [], length, Some, None, All, refl, ap, sym, ◌∙◌, subst, Contains, get_or, arith}
 use Rattle.act_plan_plays.proofs.Common.{map, slice_get, list_any, length-map, get_or-map, get_or_from_slice_get, element, Step, calls_to, ActorSpec, History}
-use Rattle.act_plan_plays.proofs.Common.{contains, names, cast_of, is_caller, calls_of, CallerSetup, At, steps_of, next_step, IsQuiescent, IsWorld, world}
+use Rattle.act_plan_plays.proofs.Common.{contains, is_caller, calls_of, CallerSetup, At, steps_of, next_step, IsQuiescent, IsWorld, world}
 use Rattle.act_plan_plays.proofs.Common.{named_call, named_among, notes_sent, Parts, Stands, HoldPlans, IsDone, NoteLetter}
 
 -- ---- what holds of each setup's caller holds of each caller that has a setup
@@ -19,18 +19,15 @@ part_of P setups c all (i, below, is) =
 
 -- ---- the callers without a part
 
-caller_of : (h : History) (c a : ℕ) → names c (cast_of a h) ≡ true → is_caller c h ≡ true
-caller_of h c a named = named_among c a h.casts named
-
 pub quiet : (casts : List ActorSpec) (plans : ℕ → List Step) (at : At) {parts : Parts} {setups : List CallerSetup} → Stands casts plans at parts →
     HoldPlans casts plans setups → All (λ (setup : CallerSetup). IsDone plans setup.caller at) setups → IsQuiescent plans at
 quiet casts plans at {setups} stands hold all = record {
   waits = λ c step is may. (own c (go c step is)).waits step is may;
-  needs = λ c a is named. (own c (caller_of h c a named)).needs a is named;
-  closed = λ c a is named. (own c (caller_of h c a named)).closed a is named;
-  sent = λ c k call is none known live. (own c (caller_of h c call.actor (named_call h c k w.retires.named is))).sent k call is none known live;
+  needs = λ c a is named. (own c (named_among c a h.casts named)).needs a is named;
+  closed = λ c a is named. (own c (named_among c a h.casts named)).closed a is named;
+  sent = λ c k call is none known live. (own c (named_among c call.actor h.casts (named_call h c k w.retires.named is))).sent k call is none known live;
   noted = λ c a gone live. stands.brought (NoteLetter c a (length (calls_to a (calls_of c h)))) (notes_sent stands.play c a gone) live;
-  told = λ c a dead named. (own c (caller_of h c a named)).told a dead named;
+  told = λ c a dead named. (own c (named_among c a h.casts named)).told a dead named;
   live = stands.live;
 }
   where

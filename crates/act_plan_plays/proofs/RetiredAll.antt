@@ -2,7 +2,7 @@
 use Rattle.act_plan_plays.proofs.Common.{◌≡◌, ℕ, ◌+◌, ◌≤◌, Bool, true, false, List, [], ◌∷◌, ◌++◌, Option, Some, None, refl, ap, sym, ◌∙◌, subst, leb, arith}
 use Rattle.act_plan_plays.proofs.Common.{slice_get, is_some, option_map_or, eq-eqb, leb-true, leb-false, Event, Retire, Step, ActorSpec, History, contains}
 use Rattle.act_plan_plays.proofs.Common.{cast_of, runs_of, is_dead, is_retired, is_ended, refusal_of, add_event, ended_stays, SlotView, Runs, Died, Ended}
-use Rattle.act_plan_plays.proofs.Common.{Vacant, WorldView, stage_of_slot, is_live_slot, Refines, IsStage, At, with_event, Happens, contains_push, or_second}
+use Rattle.act_plan_plays.proofs.Common.{Vacant, WorldView, stage_of_slot, is_live_slot, Refines, IsStage, At, with_event, Happens, contains_push, or_right}
 use Rattle.act_plan_plays.proofs.Common.{Parts, IsBehind, Stands, shows_live, AllOver, GoesOnRetired, IsRetiredFrom, or_left}
 
 pub begins : (casts : List ActorSpec) (plans : ℕ → List Step) (at : At) (parts : Parts) → Stands casts plans at parts
@@ -39,7 +39,7 @@ retired_more casts plans at end {a} {new} {more} r same may behind = subst (λ m
     reached = behind.reached;
     accepted = behind.accepted;
   };
-  over = λ some. or_second (is_dead a end.history) (contains_push a a end.history.retired ∙ or_second (contains a end.history.retired) (eq-eqb a a refl));
+  over = λ some. or_right (is_dead a end.history) _ (contains_push a a end.history.retired ∙ or_right (contains a end.history.retired) _ (eq-eqb a a refl));
   stays = λ b ended. (ended_stays b (runs_of b end.history) end.history (Retire a) (record { ended = ended; same = refl }) may).ended;
 })
 
@@ -49,7 +49,7 @@ over_slot h a None is some e = let bad : true ≡ false = sym some ∙ ap (λ o.
 over_slot h a (Some Vacant) is some e = let bad : true ≡ false = sym some ∙ ap (λ o. is_some o) is in cc
 over_slot h a (Some (Runs one)) is some e = cc
 over_slot h a (Some (Died dead)) is some e = or_left (is_dead a h) (is_retired a h) is.died
-over_slot h a (Some (Ended retired)) is some e = or_second (is_dead a h) is.ended
+over_slot h a (Some (Ended retired)) is some e = or_right (is_dead a h) _ is.ended
 
 pub retired_before : (casts : List ActorSpec) (plans : ℕ → List Step) (at end : At) {a n : ℕ} {world : WorldView} {events : List Event} →
     IsRetiredFrom casts plans at end world events → a ≡ n → shows_live world a ≡ false → GoesOnRetired casts plans at end n world events

@@ -3,6 +3,7 @@ use Rattle.act_plans.proofs.Common.{◌≡◌, ◌≢◌, ℕ, suc, ◌<◌, ◌
 use Rattle.act_plans.proofs.Common.{None, refl, sym, ◌∙◌, ap, subst, arith, eq-eqb, inl, inr, All, AllPairs, find, filter, filter_map, list_any, cons_option}
 use Rattle.act_plans.proofs.Common.{position_or_len, ne_eqb, eqb-true, eqb_tells, length-map, get_or-map, All-nil, All-cons, find_at, list_any_at}
 use Rattle.act_plans.proofs.Common.{list_any_none, passes_at_first, slice_get_within, get_or_from_slice_get, or-false, contains}
+use Rattle.act_rules.proofs.Elements.{found_passes}
 
 -- ---- pairs
 
@@ -17,10 +18,6 @@ pub found_within : {X : Type 0} (p : X → Bool) (xs : List X) (x : X) → find 
     (position_or_len p xs < length xs) × (get_or xs (position_or_len p xs) x ≡ x)
 found_within p xs x is =
     let here = sym (find_at p xs) ∙ is in (slice_get_within xs (position_or_len p xs) x here, get_or_from_slice_get xs (position_or_len p xs) x x here)
-
--- an item that a search finds passes the test
-pub found_passes : {X : Type 0} (p : X → Bool) (xs : List X) {x : X} → find p xs ≡ Some x → p x ≡ true
-found_passes p xs {x} is = let here = found_within p xs x is in ap p (sym here.1) ∙ passes_at_first p xs x here.0
 
 pub found_any : {X : Type 0} (p : X → Bool) (xs : List X) (x : X) → find p xs ≡ Some x → list_any p xs ≡ true
 found_any p xs x is = let here = found_within p xs x is in list_any_at p xs (position_or_len p xs) x here.0 (passes_at_first p xs x here.0)

@@ -1,13 +1,14 @@
 -- The circle is joined, and no list of events leaves it.
 use Rattle.act_replay.proofs.Common.{◌≡◌, ◌≢◌, ℕ, zero, suc, ◌<◌, ◌==◌, cond, true, false, List, [], ◌∷◌, ◌++◌, length, Some, refl, sym, ap, ◌∙◌, subst, arith}
-use Rattle.act_replay.proofs.Common.{ne_eqb, slice_get, map, is_some, Ok, Err, Option, None, pos, AllByRecursion, enumerate_from, KindState, ActorDied, Int}
+use Rattle.act_replay.proofs.Common.{ne_eqb, slice_get, map, is_some, Ok, Err, Option, None, pos, AllByRecursion, KindState, ActorDied, Int}
 use Rattle.act_replay.proofs.Common.{RunItem, Submission, Answer, items_of, has_terminated, NothingFollowsAnEnd, kept_at, calls_to, IsPrefix, IsAsSubmitted}
 use Rattle.act_replay.proofs.Common.{IsAnswerOfRun, History, opening, opening_of, actors_naming, history, planned, kills_to, All-two, OwnerView, IfRetired}
 use Rattle.act_replay.proofs.Common.{limits_naming, plan_of, steps_of_plan, calls_in, kept_in, log_in, killed_in, is_starved, calls_of_owner, kept_of_owner}
 use Rattle.act_replay.proofs.Common.{log_of_end, is_killed_end, RanAll, IsJoined, HasAllOf, IsUnplayed, IsNoPlay, circle_cast, circle_casts, five_arg}
 use Rattle.act_replay.proofs.Common.{first_future, circle_plan, circle_plans, circle_push, circle_ran, circle_log, owner, circle_owners, circle_end}
 use Rattle.act_replay.proofs.Common.{circle_ends}
-use Rattle.act_replay.proofs.Unplayed.{IsCircle, unplayed}
+use Rattle.act_replay.proofs.Unplayed.{IsCircle, nothing_at, unplayed}
+use Rattle.act_rules.proofs.Order.{numbered, numbers}
 
 abbrev answer : ℕ → Answer
 answer n = Ok (Int (pos n))
@@ -41,11 +42,8 @@ no_items_1 c = λ i. cond (two c i) (circle_ran 2 1 2 ∷ cond (one c i) (circle
 no_items_2 : (c : ℕ) → items_of (suc (suc (suc c))) (circle_log 2 1) ≡ []
 no_items_2 c = λ i. cond (one c i) (circle_ran 1 1 2 ∷ cond (two c i) (circle_ran 2 0 5 ∷ []) []) (cond (two c i) (circle_ran 2 0 5 ∷ []) [])
 
-nowhere : (p : ℕ) (y : RunItem) → slice_get [] p ≡ Some y → ⊥
-nowhere p y e = cc
-
 not_there : (a p : ℕ) (y : RunItem) → slice_get (log_in circle_ends (suc (suc (suc a)))) p ≡ Some y → ⊥
-not_there a p y e = nowhere p y (sym (ap (λ l. slice_get l p) (no_log a)) ∙ e)
+not_there a p y e = nothing_at p (sym (ap (λ l. slice_get l p) (no_log a)) ∙ e)
 
 none_kept : (k : ℕ) (x : Answer) → kept_at [] k ≡ Some x → ⊥
 none_kept k x e = cc
@@ -76,15 +74,11 @@ answered (suc (suc zero)) (suc (suc k)) below = absurd (omega arith)
 answered (suc (suc (suc c))) k below = let len : length (calls_in circle_owners (suc (suc (suc c)))) ≡ 0 = ap length (no_calls c) in
     absurd (omega (arith, below, len))
 
-abbrev InOrder : ℕ → ℕ → Type 0
-InOrder a c = IsPrefix (map (λ (i : RunItem). (i.number, i.future)) (items_of c (log_in circle_ends a)))
-    (enumerate_from 0 (map (λ (call : ℕ × Submission). call.0) (calls_to a (calls_in circle_owners c))))
-
-abbrev numbered : RunItem → ℕ × ℕ
-numbered i = (i.number, i.future)
-
 abbrev due : ℕ → ℕ → List (ℕ × ℕ)
-due a c = enumerate_from 0 (map (λ (call : ℕ × Submission). call.0) (calls_to a (calls_in circle_owners c)))
+due a c = numbers a (calls_in circle_owners c)
+
+abbrev InOrder : ℕ → ℕ → Type 0
+InOrder a c = IsPrefix (map numbered (items_of c (log_in circle_ends a))) (due a c)
 
 in_order : (a c : ℕ) → InOrder a c
 in_order zero c = (_, refl)

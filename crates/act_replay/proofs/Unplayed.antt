@@ -33,7 +33,8 @@ good_kept v None e = absurd (cc)
 good_kept v (Some (Ok w)) e = cc
 good_kept v (Some (Err fault)) e = absurd (cc)
 
-nothing_at : {A : Type 0} (k : ℕ) {x : A} → slice_get [] k ≡ Some x → ⊥
+-- nothing stands in an empty list
+pub nothing_at : {A : Type 0} (k : ℕ) {x : A} → slice_get [] k ≡ Some x → ⊥
 nothing_at k e = cc
 
 -- the list a can't have run the other's second call while the list o, to which the first one went, ran nothing

@@ -1,5 +1,6 @@
 -- What contracts say of a caller's futures and their answers.
-use Rattle.std.specs.Prelude.{◌≡◌, ℕ, ◌≤◌, ◌==◌, ◌&&◌, Bool, false, not, if◌then◌else◌, List, map, length, slice_get, slice_set, count_by, Option, Some, None, is_some, option_and_then, Result, Err}
+use Rattle.std.specs.Prelude.{◌≡◌, ℕ, ◌≤◌, ◌==◌, ◌&&◌, Bool, false, not, if◌then◌else◌, List, map, length, slice_get, slice_set, count_by, Option, Some, None}
+use Rattle.std.specs.Prelude.{is_some, option_and_then, Result, Err}
 use Rattle.std.specs.Option.{option_map_or}
 use Rattle.act_types.specs.declared.limits.TheConstants.{MAX_CALLS}
 use Rattle.act_types.specs.declared.call.Value.{Value}

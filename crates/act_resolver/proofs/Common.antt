@@ -1,5 +1,5 @@
 -- The names of specifications and of the crates below that most proofs here cite, passed on from one place.
-pub use Rattle.act_lists.proofs.Lists.{slice_get_last, take_written_over}
+pub use Rattle.act_lists.proofs.Lists.{element, get_set-other, get_set-same, slice_get_last, take_written_over}
 pub use Rattle.act_resolver.specs.Counts.{AreCounted, AreFree, IsResolver, IsTelling, Row, calls_of, count_number, futures_at, is_free, missing_at, missing_of}
 pub use Rattle.act_resolver.specs.Counts.{places_for, with_one_less}
 pub use Rattle.act_resolver.specs.Least.{IsLeast}

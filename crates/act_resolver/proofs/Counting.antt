@@ -6,23 +6,14 @@ use Rattle.act_resolver.proofs.Common.{set-get_or, get_or-set_other, get_or-set_
 use Rattle.act_resolver.proofs.Common.{slice_get_within, slice_get_read, get_or_from_slice_get, cases_lt, cases_eq, eq-eqb, false≢true, eqb_tells, Entered}
 use Rattle.act_resolver.proofs.Common.{new_call, is_answered, is_told, is_next_ready, least_ready, changed_at, IsLeast, waiters_of, futures_at, missing_of}
 use Rattle.act_resolver.proofs.Common.{count_number, places_for, is_free, AreCounted, AreFree, IsResolver, IsTelling, Row, calls_of, missing_at, with_one_less}
-use Rattle.act_resolver.proofs.Common.{slice_get_last}
+use Rattle.act_resolver.proofs.Common.{slice_get_last, element, get_set-other, get_set-same}
 
 not_eqb : (a b : ℕ) → a ≢ b → eqb a b ≡ false
 not_eqb a b other = elim (eqb_tells a b) [ inl told ↦ absurd (other told.1) | inr told ↦ told.0 ]
 
 -- an element after a write and after a push
-get-set_same : {X : Type 0} (xs : List X) (k : ℕ) (y : X) → k < length xs → slice_get (slice_set xs k y) k ≡ Some y
-get-set_same [] k y lt = absurd (omega arith)
-get-set_same (x ∷ xs) zero y lt = refl
-get-set_same (x ∷ xs) (suc k) y lt = get-set_same xs k y (omega arith)
-
-get-set_other : {X : Type 0} (xs : List X) (k i : ℕ) (y : X) → i ≢ k → slice_get (slice_set xs k y) i ≡ slice_get xs i
-get-set_other [] k i y other = refl
-get-set_other (x ∷ xs) zero zero y other = absurd (other refl)
-get-set_other (x ∷ xs) zero (suc i) y other = refl
-get-set_other (x ∷ xs) (suc k) zero y other = refl
-get-set_other (x ∷ xs) (suc k) (suc i) y other = get-set_other xs k i y (λ e. other (ap suc e))
+written_at : {X : Type 0} (xs : List X) (k : ℕ) (y : X) → k < length xs → slice_get (slice_set xs k y) k ≡ Some y
+written_at xs k y lt = get_set-same xs k y (element xs k lt).1
 
 get-push_other : {X : Type 0} (xs : List X) (y : X) (i : ℕ) → i ≢ length xs → slice_get (xs ++ y ∷ []) i ≡ slice_get xs i
 get-push_other [] y zero other = absurd (other refl)
@@ -41,13 +32,13 @@ field_same : {X Y : Type 0} (g : X → Y) (xs : List X) (k i : ℕ) {old : X} (n
     option_map_or g (slice_get (slice_set xs k new) i) z ≡ option_map_or g (slice_get xs i) z
 field_same g xs k i {old} new z found same =
     elim (cases_eq i k) [
-      | inl e ↦ rw (e, get-set_same xs k new (slice_get_within xs k old found), found) same
-      | inr other ↦ rw (get-set_other xs k i new other) refl
+      | inl e ↦ rw (e, get_set-same xs k new found, found) same
+      | inr other ↦ rw (get_set-other xs k i new (λ e. other (sym e))) refl
     ]
 
 field-set_other : {X Y : Type 0} (g : X → Y) (xs : List X) (k i : ℕ) (new : X) (z : Y) → i ≢ k →
     option_map_or g (slice_get (slice_set xs k new) i) z ≡ option_map_or g (slice_get xs i) z
-field-set_other g xs k i new z other = rw (get-set_other xs k i new other) refl
+field-set_other g xs k i new z other = rw (get_set-other xs k i new (λ e. other (sym e))) refl
 
 -- the calls of rows, where one of these is read and written
 get-calls : (rows : List Row) (k : ℕ) {row : Row} → slice_get rows k ≡ Some row → slice_get (calls_of rows) k ≡ Some row.call
@@ -182,7 +173,7 @@ free_after : (rows : List Row) (ready : List Bool) (k : ℕ) (new : Row) (free :
 free_after rows ready k new free lt room fine is i =
     elim (cases_eq i k) [
       | inl e ↦ rw (e, get_or-set_same ready k free false (omega arith)) is
-      | inr other ↦ get_or-set_other ready k i free false other ∙ fine i ∙ rw (get-set_other rows k i new other) refl
+      | inr other ↦ get_or-set_other ready k i free false other ∙ fine i ∙ rw (get_set-other rows k i new (λ e. other (sym e))) refl
     ]
 
 -- a call is sent
@@ -200,7 +191,7 @@ sent_fine rows {ready} k row fine found =
       counted = counted_same rows after told named (λ i. field_same (λ (r : Row). r.missing) rows k i sent 0 found refl) fine.counted;
       waits = λ future i. fine.waits future i ∙ places_same (calls_of rows) (calls_of after) told named future i;
       free =
-          free_after rows ready k sent false lt fine.size_ready fine.free (rw (get-set_same rows k sent lt) (never (row.missing == 0) (not row.call.answered)));
+          free_after rows ready k sent false lt fine.size_ready fine.free (rw (written_at rows k sent lt) (never (row.missing == 0) (not row.call.answered)));
     }
   where
     never : (a b : Bool) → false ≡ (a && false && b)
@@ -213,7 +204,7 @@ pub told_start : (rows : List Row) {lists : List (List ℕ)} {ready : List Bool}
 told_start rows {ready} k row fine found =
     let told : Row = record row { call = record row.call { answered = true } } in
     let after = slice_set rows k told in let size = length-set rows k told in let lt = slice_get_within rows k row found in
-    let is : is_answered (calls_of after) k ≡ true = rw (get-calls after k (get-set_same rows k told lt)) refl in
+    let is : is_answered (calls_of after) k ≡ true = rw (get-calls after k (written_at rows k told lt)) refl in
     let others : (future : ℕ) → future ≢ k → is_answered (calls_of after) future ≡ is_answered (calls_of rows) future =
     λ future other. rw (set-calls rows k told) (field-set_other (λ (c : Entered). c.answered) (calls_of rows) k future told.call false other) in
     let named : (i : ℕ) → futures_at (calls_of after) i ≡ futures_at (calls_of rows) i = λ i. call_same (λ c. c.futures) rows k i row told [] found refl in
@@ -224,7 +215,7 @@ told_start rows {ready} k row fine found =
           count_told (is_answered (calls_of rows)) (is_answered (calls_of after)) k (futures_at (calls_of rows) i) is others);
       waits = λ future i other. fine.waits future i ∙ rw (others future other, named i) refl;
       answered = is;
-      free = free_after rows ready k told false lt fine.size_ready fine.free (rw (get-set_same rows k told lt) (never (row.missing == 0) (not row.call.sent)));
+      free = free_after rows ready k told false lt fine.size_ready fine.free (rw (written_at rows k told lt) (never (row.missing == 0) (not row.call.sent)));
     }
   where
     never : (a b : Bool) → false ≡ (a && b && false)
@@ -296,11 +287,11 @@ told_step k rows {lists} {ready} waiter fine first =
         | inl e ↦
             let here : count_number waiter (waiters_of lists k) ≡ 1 + count_number waiter rest =
             ap (count_number waiter) is ∙ times-cons waiter waiter rest ∙ rw (eq-eqb waiter waiter refl) refl in
-            rw (e, get-set_same rows waiter less within) (omega (arith, fine.counted waiter))
+            rw (e, written_at rows waiter less within) (omega (arith, fine.counted waiter))
         | inr other ↦
             let here : count_number i (waiters_of lists k) ≡ 0 + count_number i rest =
             ap (count_number i) is ∙ times-cons i waiter rest ∙ rw (not_eqb waiter i (λ e. other (sym e))) refl in
-            rw (get-set_other rows waiter i less other) (omega (arith, fine.counted i))
+            rw (get_set-other rows waiter i less (λ e. other (sym e))) (omega (arith, fine.counted i))
       ]);
       waits = λ future i other. rw (same, get_or-set_other lists k future rest [] other) (fine.waits future i other);
       answered = rw same fine.answered;

@@ -1,5 +1,6 @@
 -- What a resolver keeps beside its calls: counts, the calls that wait for each future, and the calls that are ready.
-use Rattle.std.specs.Prelude.{◌≡◌, ℕ, ◌+◌, ◌-◌, ◌≤◌, ◌==◌, ◌&&◌, Bool, true, false, not, if◌then◌else◌, List, [], length, map, slice_get, slice_set, slice_index_or, count_by}
+use Rattle.std.specs.Prelude.{◌≡◌, ℕ, ◌+◌, ◌-◌, ◌≤◌, ◌==◌, ◌&&◌, Bool, true, false, not, if◌then◌else◌, List, [], length, map, slice_get, slice_set}
+use Rattle.std.specs.Prelude.{slice_index_or, count_by}
 use Rattle.std.specs.Option.{option_map_or}
 use Rattle.act_resolver.specs.Resolver.{Entered, is_answered}
 use Rattle.act_resolver.specs.Waiters.{waiters_of}

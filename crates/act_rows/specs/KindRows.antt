@@ -46,8 +46,10 @@ pub record KindRows : Type 0 where
   pub counter_has_no_push : Refuses (CounterAt (pos 4)) Push (int 1 ∷ []) NoMethod
   pub counter_get_takes_nothing : Refuses (CounterAt (pos 4)) Get (int 1 ∷ []) BadArgs
   pub counter_adds_numbers_only : Refuses (CounterAt (pos 4)) Add (Nothing ∷ []) BadArgs
-  pub table_put_keeps_the_place : Answers (TableOf ((codes "a", int 1) ∷ (codes "b", int 2) ∷ [])) Put (Text (codes "a") ∷ Text (codes "x") ∷ []) Nothing (TableOf ((codes "a", Text (codes "x")) ∷ (codes "b", int 2) ∷ []))
-  pub table_del_keeps_the_order : Answers (TableOf ((codes "a", int 1) ∷ (codes "b", int 2) ∷ (codes "c", int 3) ∷ [])) Del (Text (codes "b") ∷ []) (int 2) (TableOf ((codes "a", int 1) ∷ (codes "c", int 3) ∷ []))
+  pub table_put_keeps_the_place : Answers (TableOf ((codes "a", int 1) ∷ (codes "b", int 2) ∷ [])) Put (Text (codes "a") ∷ Text (codes "x") ∷ []) Nothing
+      (TableOf ((codes "a", Text (codes "x")) ∷ (codes "b", int 2) ∷ []))
+  pub table_del_keeps_the_order : Answers (TableOf ((codes "a", int 1) ∷ (codes "b", int 2) ∷ (codes "c", int 3) ∷ [])) Del (Text (codes "b") ∷ []) (int 2)
+      (TableOf ((codes "a", int 1) ∷ (codes "c", int 3) ∷ []))
   pub table_full_refuses_a_new_key : Refuses (TableOf full) Put (Text (codes "z") ∷ int 1 ∷ []) KindFull
   pub table_full_takes_a_present_key : Answers (TableOf full) Put (Text (codes "k1") ∷ int 7 ∷ []) Nothing (TableOf (full_after (int 7) full))
   pub table_refuses_a_long_key : Refuses (TableOf []) Put (Text (replicate 65 97) ∷ int 1 ∷ []) BadArgs

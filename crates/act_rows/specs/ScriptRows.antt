@@ -12,7 +12,9 @@ use Rattle.act_rules.specs.Report.{line}
 use Rattle.act_rules.specs.Plans.{kills_to}
 use Rattle.act_rules.specs.Grammar.{Script}
 use Rattle.act_rules.specs.Scripts.{output_of, spelled_plans, submissions_of}
-use Rattle.act_rows.specs.Rows.{lines_text, one_call_report, reversed_report, repeated_report, lost_report, earlier_call_waits_report, another_caller_passes_report, failed_argument_report, one_packet_for_good_report, ran_and_yet_died_report, kill_with_held_calls_report, known_dead_report, refused_submissions_report, release_and_retire_report, nothing_there_report}
+use Rattle.act_rows.specs.Rows.{lines_text, one_call_report, reversed_report, repeated_report, lost_report, earlier_call_waits_report}
+use Rattle.act_rows.specs.Rows.{another_caller_passes_report, failed_argument_report, one_packet_for_good_report, ran_and_yet_died_report}
+use Rattle.act_rows.specs.Rows.{kill_with_held_calls_report, known_dead_report, refused_submissions_report, release_and_retire_report, nothing_there_report}
 
 -- the script of these lines writes those
 abbrev pub Writes : List (List ℕ) → List (List ℕ) → Type 0

@@ -30,6 +30,10 @@ filter-slice_get {A = A} p (y ∷ xs) n {x} e = go (p y) refl n (λ m. filter-sl
     go true passes (suc m) rest e = later (rest m e)
     go false passes n rest e = later (rest n e)
 
+-- whether a numbered call is to this actor
+abbrev pub goes_to : ℕ → ℕ × Submission → Bool
+goes_to a call = call.1.actor == a
+
 pub record IsCallTo (a : ℕ) (calls : List Submission) (call : ℕ × Submission) : Type 0 where
   pub at : slice_get calls call.0 ≡ Some call.1
   pub actor : call.1.actor ≡ a
@@ -37,7 +41,7 @@ pub record IsCallTo (a : ℕ) (calls : List Submission) (call : ℕ × Submissio
 -- a call to an actor stands at its future, and is to that actor
 pub calls_to-at : (a : ℕ) (calls : List Submission) (n : ℕ) {call : ℕ × Submission} → slice_get (calls_to a calls) n ≡ Some call → IsCallTo a calls call
 calls_to-at a calls n {call} e =
-    let place = filter-slice_get (λ (c : ℕ × Submission). c.1.actor == a) (enumerate_from 0 calls) n e in
+    let place = filter-slice_get (goes_to a) (enumerate_from 0 calls) n e in
     go place.place (slice_get calls place.place) refl (sym (slice_get-enumerate_from 0 calls place.place) ∙ place.at) (eqb-true call.1.actor a place.passes)
   where
     go : (k : ℕ) (o : Option Submission) → slice_get calls k ≡ o → option_map (λ x. (0 + k, x)) o ≡ Some call → call.1.actor ≡ a → IsCallTo a calls call

@@ -3,10 +3,18 @@ use Rattle.act_rules.proofs.Common.{◌≡◌, ℕ, ◌+◌, ◌<◌, ◌≤◌,
 use Rattle.act_rules.proofs.Common.{Option, ◌==◌, ◌||◌, find, is_some, nat_lt, nat_le, list_all, list_any, eqb-true, leb-true, ltb-true, or_right, Arg, Method}
 use Rattle.act_rules.proofs.Common.{RunItem, Submission, Submit, Run, option_map, needs, copies_held, submit_refusal, limit_refusal, is_earlier, ActorSpec}
 use Rattle.act_rules.proofs.Common.{History, contains, under, names, is_caller, calls_of, copies_of, limit_of, next_item, unanswered, submission_refusal}
-use Rattle.act_rules.proofs.Common.{refusal_of, after_run, NoCaller, NoSuchActor, NoCopy, TooManyArgs, BadFuture, TooManyCalls, SubmitRefused}
+use Rattle.act_rules.proofs.Common.{refusal_of, after_run, NoCaller, NoSuchActor, NoCopy, TooManyArgs, BadFuture, TooManyCalls, SubmitRefused, ap, cast_of}
 use Rattle.act_rules.proofs.Lists.{option_map-none, option_or-none}
 use Rattle.act_rules.proofs.Steps.{IsKept}
 use Rattle.act_rules.proofs.Ended.{needs-none, under-push}
+
+-- whether some cast names the caller
+abbrev pub is_named : List ActorSpec → ℕ → Bool
+is_named casts c = list_any (λ (cast : ActorSpec). contains c cast.callers) casts
+
+-- where two histories have the same casts, an actor has the same cast in both
+pub cast_of-same : (h g : History) (a : ℕ) → g.casts ≡ h.casts → cast_of a g ≡ cast_of a h
+cast_of-same h g a casts = ap (λ l. find (λ (cast : ActorSpec). cast.actor == a) l) casts
 
 -- ---- no caller submits too much
 

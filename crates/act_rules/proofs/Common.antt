@@ -1,5 +1,6 @@
 -- The names of specifications and of the crates below that most proofs here cite, passed on from one place.
-pub use Rattle.act_lists.proofs.Lists.{element, list_all-weaker, map-enumerate_from, map_alike, slice_get_last, slice_get_more}
+pub use Rattle.act_lists.proofs.Lists.{contains_tail, element, get_set-other, get_set-same, list_all-weaker, map-enumerate_from, map_alike, past_none}
+pub use Rattle.act_lists.proofs.Lists.{slice_get_last, slice_get_more}
 pub use Rattle.act_lists.proofs.Options.{cond_gives, cond_none}
 pub use Rattle.act_rules.specs.Consistent.{Consistent, IsAnswerOfRun, IsAsSubmitted, IsCallToDead, IsPrefix}
 pub use Rattle.act_rules.specs.History.{ActorSpec, History, actors_naming, answer_in, answer_of, callers_in, calls_of, cast_of, contains, copies_of}

@@ -3,7 +3,8 @@ use Rattle.act_rules.proofs.Common.{◌≡◌, ℕ, zero, suc, ◌+◌, ◌<◌,
 use Rattle.act_rules.proofs.Common.{◌∙◌, subst, arith, inl, inr, ◌⊎◌, map, filter, find, slice_get, All, Contains, list_any, range_with_len, enumerate_from}
 use Rattle.act_rules.proofs.Common.{eq-eqb, eqb-true, slice_get-get_or, slice_get_within, IsPrefix, contains, get_or-map, length-map, All-contains}
 use Rattle.act_rules.proofs.Common.{slice_get_read, get_or_from_slice_get}
-use Rattle.act_rules.proofs.Lists.{slice_get-filter, slice_get_front}
+use Rattle.act_rules.proofs.Common.{AllByRecursion, option_map, slice_get-map}
+use Rattle.act_rules.proofs.Lists.{All_at, slice_get-filter, slice_get_front}
 use Rattle.std.proofs.lemmas.Map.Keys.{any_passes_from_place}
 
 -- x stands in xs
@@ -30,6 +31,19 @@ in_filter p {xs} {x} i passes = record { place = _; at = slice_get-filter p xs i
 -- what stands in a front stands in the whole
 pub in_front : {A : Type 0} {xs : List A} (ys : List A) {x : A} → IsPrefix xs ys → IsIn xs x → IsIn ys x
 in_front {xs} ys {x} f i = record { place = i.place; at = slice_get_front xs ys i.place f i.at }
+
+-- what stands in a list is mapped to what stands in the mapped list
+pub in_map : {A B : Type 0} (f : A → B) {xs : List A} {x : A} → IsIn xs x → IsIn (map f xs) (f x)
+in_map f {xs} {x} i = record { place = i.place; at = slice_get-map f xs i.place ∙ ap (option_map f) i.at }
+
+-- what stands in a list still does with more before it
+pub in_behind : {A : Type 0} (xs ys : List A) {x : A} → IsIn ys x → IsIn (xs ++ ys) x
+in_behind [] ys i = i
+in_behind (y ∷ xs) ys {x} i = let more = in_behind xs ys i in record { place = suc more.place; at = more.at }
+
+-- where one that stands in a list passes, one of the list does
+pub any_in : {A : Type 0} (p : A → Bool) {xs : List A} {x : A} → IsIn xs x → p x ≡ true → list_any p xs ≡ true
+any_in p {xs} {x} i passes = any_passes_from_place p xs i.place x i.at passes
 
 -- what holds of the item at each place holds of all items
 pub all_by_places : {A : Type 0} (P : A → Type 0) (xs : List A) → ((k : ℕ) (x : A) → slice_get xs k ≡ Some x → P x) → All P xs
@@ -71,6 +85,10 @@ found_is {A = A} p (y ∷ xs) {x} e = go (p y) refl (found_is p xs {x = x}) e
     go true is rest e = let same : y ≡ x = cc in record { inside = record { place = 0; at = e }; passes = subst (λ z. p z ≡ true) same is }
     go false is rest e = later (rest e)
 
+-- what is found passes
+pub found_passes : {A : Type 0} (p : A → Bool) (xs : List A) {x : A} → find p xs ≡ Some x → p x ≡ true
+found_passes p xs e = (found_is p xs e).passes
+
 pub record Finds {A : Type 0} (p : A → Bool) (xs : List A) : Type 0 where
   pub one : A
   pub is : find p xs ≡ Some one
@@ -100,7 +118,11 @@ contains_is n ns e = let r = any_is (λ m. m == n) ns e in subst (IsIn ns) (eqb-
 
 -- of a number that stands in a list `contains` is true
 pub is_contained : (n : ℕ) (ns : List ℕ) → IsIn ns n → contains n ns ≡ true
-is_contained n ns i = any_passes_from_place (λ m. m == n) ns i.place n i.at (eq-eqb n n refl)
+is_contained n ns i = any_in (λ m. m == n) i (eq-eqb n n refl)
+
+-- what holds of each number of a list holds of any that the list contains
+pub all_listed : (P : ℕ → Type 0) (xs : List ℕ) (x : ℕ) → AllByRecursion P xs → contains x xs ≡ true → P x
+all_listed P xs x all e = let i = contains_is x xs e in All_at P xs i.place all i.at
 
 -- a list with nothing at any place is empty
 pub empty_by_places : {A : Type 0} (xs : List A) → ((k : ℕ) (x : A) → slice_get xs k ≡ Some x → ⊥) → xs ≡ []

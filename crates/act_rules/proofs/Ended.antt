@@ -3,13 +3,29 @@ use Rattle.act_rules.proofs.Common.{◌≡◌, ℕ, Bool, true, false, cond, Lis
 use Rattle.act_rules.proofs.Common.{map-append, append-nil, filter-append, list_any-append, eqb-true, not-true, RunItem, Event, Run, TakeKill, Retire, NoCaller}
 use Rattle.act_rules.proofs.Common.{Handle, ActorEnded, NoActor, has_terminated, NothingFollowsAnEnd, needs, History, contains, under, runs_of, is_dead}
 use Rattle.act_rules.proofs.Common.{is_retired, is_ended, is_caller, names, cast_of, next_item, refusal_of, add_event, after_run}
+use Rattle.act_rules.proofs.Common.{inl, inr, ◌⊎◌, or_cases}
 use Rattle.act_rules.proofs.Growth.{added_grows}
+use Rattle.act_rules.proofs.Lists.{any_push}
 use Rattle.act_rules.proofs.Terminated.{nothing_follows-push}
 use Rattle.act_rules.proofs.Steps.{IsKept}
+use Rattle.std.proofs.Math.Bool.{or-false}
+use Rattle.std.proofs.lemmas.Bool.{or_left}
 
 -- a number that is in a list is in it with more behind
 pub contains_more : (a : ℕ) (xs ys : List ℕ) → contains a xs ≡ true → contains a (xs ++ ys) ≡ true
 contains_more a xs ys h = rw (list_any-append (λ m. m == a) xs ys, h)
+
+-- a pushed list contains what it contained before and the number pushed, and no other
+pub contains_push : (a b : ℕ) (xs : List ℕ) → contains a (xs ++ b ∷ []) ≡ (contains a xs || (b == a))
+contains_push a b xs = any_push (λ m. m == a) xs b
+
+-- where a number is pushed, one that is in the list was in it before, or is that number
+pub contains_or : (xs : List ℕ) (a b : ℕ) → contains a (xs ++ b ∷ []) ≡ true → (contains a xs ≡ true) ⊎ (b ≡ a)
+contains_or xs a b e = elim (or_cases (contains a xs) (b == a) (sym (contains_push a b xs) ∙ e)) [ inl h ↦ inl h | inr h ↦ inr (eqb-true b a h) ]
+
+-- a number that is pushed adds no other
+pub contains_other : (a b : ℕ) (ns : List ℕ) → (a == b) ≡ false → contains b (ns ++ a ∷ []) ≡ contains b ns
+contains_other a b ns apart = contains_push b a ns ∙ rw apart (or-false (contains b ns))
 
 -- the needed condition of an event that nothing refuses
 pub needs-none : {R : Type 0} (b : Bool) (r : R) (next : Option R) → needs b r next ≡ None → (b ≡ true) × (next ≡ None)
@@ -78,15 +94,11 @@ ended_stays a items h other held accepted = record { ended = held.ended; same = 
 
 -- ---- a dead actor stays dead
 
-dead_ended : (a b : Bool) → a ≡ true → (a || b) ≡ true
-dead_ended true b e = refl
-dead_ended false b e = cc
-
 -- an accepted event leaves a dead actor dead
 pub dead_stays : (a : ℕ) (h : History) (event : Event) → refusal_of h event ≡ None → is_dead a h ≡ true → is_dead a (add_event h event) ≡ true
 dead_stays a h event accepted dead =
     let grows = added_grows h event in
-    let same = (ended_stays a (runs_of a h) h event (record { ended = dead_ended (is_dead a h) (is_retired a h) dead; same = refl }) accepted).same in
+    let same = (ended_stays a (runs_of a h) h event (record { ended = or_left (is_dead a h) (is_retired a h) dead; same = refl }) accepted).same in
     subst (λ items. (contains a (add_event h event).killed || has_terminated items) ≡ true) (sym same)
     (more_or (contains a h.killed) (has_terminated (runs_of a h)) (contains a (add_event h event).killed) dead
     (λ killed. subst (λ xs. contains a xs ≡ true) grows.killed.1 (contains_more a h.killed grows.killed.0 killed)))

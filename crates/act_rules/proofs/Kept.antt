@@ -2,11 +2,16 @@
 use Rattle.act_rules.proofs.Common.{◌≡◌, ℕ, zero, suc, ◌+◌, List, [], ◌∷◌, ◌++◌, length, Some, None, refl, ap, sym, ◌∙◌, arith, Option, ◌==◌, filter_map, find}
 use Rattle.act_rules.proofs.Common.{slice_get, option_map, option_and_then, enumerate_from, filter_map-append, slice_get-map, RunItem, KindState, Answer}
 use Rattle.act_rules.proofs.Common.{after_item, answers_from, answer_at, state_after, Submission, kept_at, Post, ActorSpec, History, runs_of, calls_of, kept_of}
-use Rattle.act_rules.proofs.Common.{opening_of, answer_of, answer_in, first_answer, IsPrefix, slice_get_more, ReplyPost, DeathPost}
+use Rattle.act_rules.proofs.Common.{opening_of, answer_of, answer_in, first_answer, IsPrefix, slice_get_more, ReplyPost, DeathPost, length-map}
+use Rattle.act_rules.proofs.Common.{length-enumerate_from}
 use Rattle.act_rules.proofs.Lists.{slice_get_front, slice_get-enumerate_from, filter_map-same, All_weaker}
 use Rattle.act_rules.proofs.Growth.{Grows, added_grows, runs_grow, calls_grow}
 use Rattle.act_rules.proofs.Steps.{IsKept}
 use Rattle.act_rules.proofs.Posts.{IsSoundPost, PostsAreSound, posts_step}
+
+-- each call has a place in the table of answers
+pub kept_size : (c : ℕ) (h : History) → length (kept_of c h) ≡ length (calls_of c h)
+kept_size c h = length-map (enumerate_from 0 (calls_of c h)) (first_answer h c) ∙ length-enumerate_from 0 (calls_of c h)
 
 -- ---- the answers of a longer run list
 

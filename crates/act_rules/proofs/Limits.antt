@@ -3,7 +3,8 @@ use Rattle.act_rules.proofs.Common.{◌≡◌, ℕ, ◌+◌, ◌<◌, ◌≤◌,
 use Rattle.act_rules.proofs.Common.{length-append, Option, ◌==◌, filter, option_map, is_none, nat_lt, eqb-true, ltb-true, append-nil, filter-append, Arg}
 use Rattle.act_rules.proofs.Common.{Method, RunItem, Event, Submit, Run, PendingLimit, Submission, Answer, calls_to, kept_at, submit_refusal, limit_refusal}
 use Rattle.act_rules.proofs.Common.{ActorSpec, History, opening, under, is_caller, calls_of, copies_of, limit_of, kept_of, next_item, unanswered}
-use Rattle.act_rules.proofs.Common.{submission_refusal, refusal_of, add_event, after_run, after_all, SubmitRefused, NoCaller}
+use Rattle.act_rules.proofs.Common.{submission_refusal, refusal_of, add_event, after_run, after_all, SubmitRefused, NoCaller, ◌≢◌}
+use Rattle.act_rules.specs.Submissions.{IsLimit}
 use Rattle.act_rules.proofs.Steps.{IsKept, after_all_keeps}
 use Rattle.act_rules.proofs.Ended.{needs-none, under-push}
 use Rattle.act_rules.proofs.Growth.{Grows, added_grows}
@@ -12,6 +13,13 @@ use Rattle.act_rules.proofs.Letters.{kept_extends}
 use Rattle.act_rules.proofs.Settling.{Extends}
 use Rattle.act_rules.proofs.Retired.{calls_to-push}
 use Rattle.act_rules.proofs.Lists.{option_map-none, option_or-none_second}
+
+-- ---- limits
+
+-- a limit lets a call pend
+pub limit_above : (limit : Option ℕ) → IsLimit limit → limit ≢ Some 0
+limit_above None is same = absurd (cc same)
+limit_above (Some n) is same = let none : n ≡ 0 = cc same in absurd (omega (arith, is.0, none))
 
 -- ---- what pends
 

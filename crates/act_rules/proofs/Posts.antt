@@ -32,6 +32,10 @@ next_item_caller a c h {item} e = go (has_letter (CallLetter c a (ran_count c a 
     go true (Some call) e = let same : run_item c (ran_count c a h) (kept_of c h) call ≡ item = cc in ap (λ (i : RunItem). i.caller) (sym same)
     go false call e = cc
 
+-- a history with one run more
+abbrev pub ran_on : History → ℕ → ℕ → RunItem → History
+ran_on h a c item = after_run a c h (Some item)
+
 -- the new item stands at the end of its actor's run list
 pub run_stands : (a : ℕ) (ran : List (ℕ × RunItem)) (item : RunItem) → slice_get (under a (ran ++ (a, item) ∷ [])) (length (under a ran)) ≡ Some item
 run_stands a ran item = rw (under-push a a ran item, eq-eqb a a refl) (slice_get_last (under a ran) item)

@@ -1,6 +1,6 @@
 -- A retired actor ran every call that was submitted to it, of every caller.
-use Rattle.act_rules.proofs.Common.{◌≡◌, ℕ, ◌+◌, ◌≤◌, Bool, true, false, cond, List, [], ◌∷◌, ◌++◌, length, Some, None, refl, ap, sym, ◌∙◌, subst, arith, ◌⊎◌}
-use Rattle.act_rules.proofs.Common.{inl, inr, ⊎_elim, ◌-◌, Option, ◌==◌, ◌||◌, not, map, filter, find, slice_get, is_some, AllByRecursion, list_all, eqb-true}
+use Rattle.act_rules.proofs.Common.{◌≡◌, ℕ, ◌+◌, ◌≤◌, Bool, true, false, cond, List, [], ◌∷◌, length, Some, None, refl, ap, sym, ◌∙◌, subst, arith, ◌⊎◌}
+use Rattle.act_rules.proofs.Common.{⊎_elim, ◌-◌, Option, ◌==◌, ◌||◌, not, map, filter, find, slice_get, is_some, AllByRecursion, list_all, eqb-true}
 use Rattle.act_rules.proofs.Common.{and_parts, or_right, length-map, length-enumerate_from, RunItem, Event, Submit, Run, Retire, Handle, ActorEnded, NotDrained}
 use Rattle.act_rules.proofs.Common.{NoActor, items_of, Submission, calls_to, needs, ActorSpec, History, opening, contains, callers_in, cast_of, names, calls_of}
 use Rattle.act_rules.proofs.Common.{count_pairs, copies_of, runs_of, ran_count, is_done, is_drained, is_dead, is_retired, is_ended, next_item, refusal_of}
@@ -8,7 +8,7 @@ use Rattle.act_rules.proofs.Common.{add_event, after_run, after_all, list_all-we
 use Rattle.act_rules.proofs.Lists.{All_more, All_at, front_whole}
 use Rattle.act_rules.proofs.Growth.{Grows, added_grows}
 use Rattle.act_rules.proofs.Steps.{IsKept, after_all_keeps}
-use Rattle.act_rules.proofs.Ended.{needs-none, ended_stays}
+use Rattle.act_rules.proofs.Ended.{needs-none, ended_stays, contains_or}
 use Rattle.act_rules.proofs.Letters.{has_letter-sound, has_front}
 use Rattle.act_rules.proofs.Order.{numbered, numbers}
 use Rattle.act_rules.proofs.AsSubmitted.{filter-slice_get, calls_to-at}
@@ -69,19 +69,6 @@ stays_drained h event accepted s a retired =
     let after = ended_stays a (runs_of a h) h event (record { ended = ended; same = refl }) accepted in
     drained_grows a h (added_grows h event) after.same (s a retired)
 
-retired_or : (xs : List ℕ) (a b : ℕ) → contains a (xs ++ b ∷ []) ≡ true → (contains a xs ≡ true) ⊎ (b ≡ a)
-retired_or [] a b e = go (b == a) refl e
-  where
-    go : (same : Bool) → (b == a) ≡ same → (same || false) ≡ true → (contains a [] ≡ true) ⊎ (b ≡ a)
-    go true is e = inr (eqb-true b a is)
-    go false is e = cc
-retired_or (x ∷ xs) a b e = go (x == a) (retired_or xs a b) e
-  where
-    go : (same : Bool) → (contains a (xs ++ b ∷ []) ≡ true → (contains a xs ≡ true) ⊎ (b ≡ a)) → (same || contains a (xs ++ b ∷ [])) ≡ true →
-        ((same || contains a xs) ≡ true) ⊎ (b ≡ a)
-    go true rest e = inl refl
-    go false rest e = rest e
-
 pub retired_step : IsKept RetiredDrained
 retired_step h (Run a c) s accepted b retired = stays_drained h (Run a c) accepted s b (go (next_item a c h) retired)
   where
@@ -91,7 +78,7 @@ retired_step h (Run a c) s accepted b retired = stays_drained h (Run a c) accept
 retired_step h (Retire b) s accepted a retired =
     ⊎_elim (λ before. stays_drained h (Retire b) accepted s a before)
     (λ same. subst (λ x. is_drained x h ≡ true) same (retire_needs h b accepted))
-    (retired_or h.retired a b retired)
+    (contains_or h.retired a b retired)
 retired_step h other s accepted x retired = stays_drained h other accepted s x retired
 
 -- ---- all of them
@@ -130,7 +117,8 @@ stranger_calls h c a named stranger = nothing_at (calls_to a (calls_of c h)) (λ
     All_at (IsNamed h) h.submitted place.place named place.at in let bad : names c (cast_of a h) ≡ true = named_as h pair.0.0 pair.0.1.actor c a mine to is in
     let no : true ≡ false = sym bad ∙ stranger in cc)
 
-list_all-contains : (p : ℕ → Bool) (xs : List ℕ) (c : ℕ) → list_all p xs ≡ true → contains c xs ≡ true → p c ≡ true
+-- where each of a list passes, any that the list contains does
+pub list_all-contains : (p : ℕ → Bool) (xs : List ℕ) (c : ℕ) → list_all p xs ≡ true → contains c xs ≡ true → p c ≡ true
 list_all-contains p [] c all e = cc
 list_all-contains p (x ∷ xs) c all e = let parts = and_parts (p x) (list_all p xs) all in go (x == c) refl parts.0 (list_all-contains p xs c parts.1) e
   where

@@ -1,6 +1,6 @@
 -- Every world is consistent.
 use Rattle.act_rules.proofs.Common.{◌≡◌, ◌≢◌, ℕ, zero, suc, Bool, true, false, cond, List, [], ◌∷◌, Some, None, refl, sym, ◌∙◌, subst, Option, ◌==◌, ◌&&◌, map}
-use Rattle.act_rules.proofs.Common.{filter, filter_map, slice_get, option_and_then, Err, AllByRecursion, cons_option, eqb-true, and_parts, RunItem, ActorDied}
+use Rattle.act_rules.proofs.Common.{filter, filter_map, slice_get, option_and_then, Err, AllByRecursion, cons_option, eqb-true, and_parts, ActorDied}
 use Rattle.act_rules.proofs.Common.{Event, KindState, Answer, answer_at, Submission, kept_at, IsAsSubmitted, IsAnswerOfRun, IsCallToDead, Consistent, Post}
 use Rattle.act_rules.proofs.Common.{ActorSpec, History, opening, opening_of, under, runs_of, calls_of, kept_of, is_dead, is_item_of, answer_of, answer_in}
 use Rattle.act_rules.proofs.Common.{after_all, cond_gives, ReplyPost, DeathPost}
@@ -121,13 +121,13 @@ deaths_are {h} c k s e = let kept = kept_from h c k s.posts e in
         let tests = and_parts (d == c) (a == b) (cond_gives ((d == c) && (a == b)) (Some (Err ActorDied)) gives).0 in
         subst (λ x. is_dead x h ≡ true) (eqb-true a b tests.1) sound
 
--- what holds of each run holds of each item of one run list
-under-all : (P : RunItem → Type 0) (a : ℕ) (ran : List (ℕ × RunItem)) → AllByRecursion (λ run. P run.1) ran → AllByRecursion P (under a ran)
-under-all P a [] all = tt
-under-all P a (run ∷ ran) all = go (run.0 == a) (under-all P a ran all.1)
+-- what holds of each numbered thing holds of those with one number
+pub under_all : {A : Type 0} (P : A → Type 0) (n : ℕ) (pairs : List (ℕ × A)) → AllByRecursion (λ pair. P pair.1) pairs → AllByRecursion P (under n pairs)
+under_all P n [] all = tt
+under_all {A = A} P n (pair ∷ pairs) all = go (pair.0 == n) (under_all P n pairs all.1)
   where
-    go : (b : Bool) → AllByRecursion P (under a ran) → AllByRecursion P
-        (map (λ (r : ℕ × RunItem). r.1) (cond b (run ∷ filter (λ (r : ℕ × RunItem). r.0 == a) ran) (filter (λ (r : ℕ × RunItem). r.0 == a) ran)))
+    go : (b : Bool) → AllByRecursion P (under n pairs) →
+        AllByRecursion P (map (λ (r : ℕ × A). r.1) (cond b (pair ∷ filter (λ (r : ℕ × A). r.0 == n) pairs) (filter (λ (r : ℕ × A). r.0 == n) pairs)))
     go true rest = (all.0, rest)
     go false rest = rest
 
@@ -135,7 +135,7 @@ under-all P a (run ∷ ran) all = go (run.0 == a) (under-all P a ran all.1)
 pub consistent : (h : History) → IsSound h → Consistent (λ a. opening_of a h) (λ c. calls_of c h) (λ a. runs_of a h) (λ c. kept_of c h) (λ a. is_dead a h)
 consistent h s = record {
   in_order = s.order;
-  as_submitted = λ a. under-all (IsAsSubmitted (λ c. calls_of c h) (λ c. kept_of c h)) a h.ran s.submitted;
+  as_submitted = λ a. under_all (IsAsSubmitted (λ c. calls_of c h) (λ c. kept_of c h)) a h.ran s.submitted;
   answers = λ c k answer e alive. answers_are c k s e alive;
   deaths = λ c k e. deaths_are c k s e;
 }

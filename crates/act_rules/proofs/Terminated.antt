@@ -1,7 +1,7 @@
 -- Run lists in which nothing follows a `terminate` that ended the actor.
-use Rattle.act_rules.proofs.Common.{◌≡◌, ℕ, zero, suc, ◌+◌, ◌-◌, ◌<◌, ◌≤◌, true, false, List, [], ◌∷◌, ◌++◌, length, Some, None, refl, ap, sym, ◌∙◌, arith, ◌⊎◌}
+use Rattle.act_rules.proofs.Common.{◌≡◌, ℕ, ◌+◌, ◌-◌, ◌<◌, ◌≤◌, true, false, List, [], ◌∷◌, ◌++◌, length, Some, None, refl, ap, sym, ◌∙◌, arith, ◌⊎◌}
 use Rattle.act_rules.proofs.Common.{inl, inr, Option, slice_get, cases_lt, slice_get_past, length_push, RunItem, ends_actor, has_terminated}
-use Rattle.act_rules.proofs.Common.{NothingFollowsAnEnd, slice_get_more}
+use Rattle.act_rules.proofs.Common.{NothingFollowsAnEnd, slice_get_more, past_none}
 
 -- nothing has ended the actor yet
 pub none_ends : (items : List RunItem) (place : ℕ) → NothingFollowsAnEnd items → has_terminated items ≡ false → ends_actor (slice_get items place) ≡ true → ⊥
@@ -11,12 +11,7 @@ none_ends items place last on ends =
 
 front_ends : (items : List RunItem) (item : RunItem) (place : ℕ) (o : Option RunItem) → slice_get items place ≡ o → place < length items →
     ends_actor (slice_get (items ++ item ∷ []) place) ≡ true → ends_actor (slice_get items place) ≡ true
-front_ends items item place None at below ends = let n : length items ≤ place = none_past items place at in absurd (omega (arith, n, below))
-  where
-    none_past : (xs : List RunItem) (k : ℕ) → slice_get xs k ≡ None → length xs ≤ k
-    none_past [] k e = omega arith
-    none_past (x ∷ xs) zero e = cc
-    none_past (x ∷ xs) (suc k) e = let n = none_past xs k e in omega (arith, n)
+front_ends items item place None at below ends = let n : length items ≤ place = past_none items place at in absurd (omega (arith, n, below))
 front_ends items item place (Some one) at below ends = ap ends_actor at ∙ sym (ap ends_actor (slice_get_more items (item ∷ []) place at)) ∙ ends
 
 -- one item more, at an actor that wasn't ended

@@ -1,6 +1,7 @@
 -- What the lines of a script say, and what a whole script spells: its roles and its events or steps, or its first
 -- fault.
-use Rattle.std.specs.Prelude.{ℕ, ◌+◌, ◌==◌, Bool, true, false, not, ◌&&◌, ◌||◌, if◌then◌else◌, nat_lt, nat_le, List, [], ◌∷◌, ◌++◌, length, find, Option, Some, None, Result, Ok, Err, bytes_eq, codes}
+use Rattle.std.specs.Prelude.{ℕ, ◌+◌, ◌==◌, Bool, true, false, not, ◌&&◌, ◌||◌, if◌then◌else◌, nat_lt, nat_le, List, [], ◌∷◌, ◌++◌, length, find, Option, Some}
+use Rattle.std.specs.Prelude.{None, Result, Ok, Err, bytes_eq, codes}
 use Rattle.std.specs.List.{list_all, list_any, slice_split}
 use Rattle.act_types.specs.declared.limits.TheConstants.{MAX_LINE_BYTES, MAX_SCRIPT_BYTES}
 use Rattle.act_types.specs.declared.call.Method.{Method}

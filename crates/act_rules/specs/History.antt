@@ -1,5 +1,6 @@
 -- What the accepted events of a world leave behind: plain lists that only grow, and what they mean.
-use Rattle.std.specs.Prelude.{ℕ, ◌+◌, ◌-◌, ◌==◌, Bool, false, ◌||◌, ◌&&◌, if◌then◌else◌, List, [], length, map, filter, filter_map, find, slice_get, Option, Some, None, option_map, option_and_then, Err}
+use Rattle.std.specs.Prelude.{ℕ, ◌+◌, ◌-◌, ◌==◌, Bool, false, ◌||◌, ◌&&◌, if◌then◌else◌, List, [], length, map, filter, filter_map, find, slice_get, Option}
+use Rattle.std.specs.Prelude.{Some, None, option_map, option_and_then, Err}
 use Rattle.std.specs.List.{list_all, list_any, enumerate_from}
 use Rattle.act_types.specs.declared.call.Fault.TheVariants.{ActorDied}
 use Rattle.act_rules.specs.declared.history.RunItem.{RunItem}

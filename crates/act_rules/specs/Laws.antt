@@ -1,5 +1,6 @@
 -- The laws of every run.
-use Rattle.std.specs.Prelude.{ℕ, ◌≡◌, ◌≢◌, ◌≤◌, ◌++◌, ◌^◌, ◌&&◌, Bool, true, false, nat_lt, nat_le, List, map, filter, All, AllPairs, Some, None, Result, Ok, IsTrue, codes, decimal}
+use Rattle.std.specs.Prelude.{ℕ, ◌≡◌, ◌≢◌, ◌≤◌, ◌++◌, ◌^◌, ◌&&◌, Bool, true, false, nat_lt, nat_le, List, map, filter, All, AllPairs, Some, None, Result, Ok}
+use Rattle.std.specs.Prelude.{IsTrue, codes, decimal}
 use Rattle.act_types.specs.declared.limits.TheConstants.{MAX_ACTORS, MAX_CALLERS}
 use Rattle.act_types.specs.declared.call.Value.{Value}
 use Rattle.act_types.specs.declared.call.Value.TheVariants as value

@@ -1,5 +1,6 @@
 -- What each event of a world tells, and what it adds.
-use Rattle.std.specs.Prelude.{ℕ, ◌+◌, ◌-◌, ◌==◌, Bool, false, not, if◌then◌else◌, List, [], ◌∷◌, ◌++◌, length, filter, slice_get, Option, Some, None, option_map, is_some, is_none, Result, Ok, Err}
+use Rattle.std.specs.Prelude.{ℕ, ◌+◌, ◌-◌, ◌==◌, Bool, false, not, if◌then◌else◌, List, [], ◌∷◌, ◌++◌, length, filter, slice_get, Option, Some, None}
+use Rattle.std.specs.Prelude.{option_map, is_some, is_none, Result, Ok, Err}
 use Rattle.std.specs.Option.{option_or}
 use Rattle.act_types.specs.declared.call.Arg.{Arg}
 use Rattle.act_rules.specs.declared.history.RunItem.{RunItem}
@@ -11,14 +12,17 @@ use Rattle.act_rules.specs.declared.outcome.Did.TheVariants.{Future, Copies, Mai
 use Rattle.act_rules.specs.declared.outcome.HandleRefusal.TheVariants.{NoActor}
 use Rattle.act_rules.specs.declared.outcome.SubmitRefusal.{SubmitRefusal}
 use Rattle.act_rules.specs.declared.outcome.WorldRefusal.{WorldRefusal}
-use Rattle.act_rules.specs.declared.outcome.WorldRefusal.TheVariants.{Submit as SubmitRefused, Handle, Sending, NoCaller, NoMail, NoReply, ActorEnded, NoKill, NotDead, NotDrained}
+use Rattle.act_rules.specs.declared.outcome.WorldRefusal.TheVariants.{Submit as SubmitRefused, Handle, Sending, NoCaller, NoMail, NoReply, ActorEnded, NoKill}
+use Rattle.act_rules.specs.declared.outcome.WorldRefusal.TheVariants.{NotDead, NotDrained}
 use Rattle.act_rules.specs.declared.history.Submission.{Submission}
-use Rattle.act_rules.specs.Submissions.{needs, calls_to, number_of, kept_at, copies_held, handle_refusal, copy_refusal, submit_refusal, limit_refusal, send_refusal}
+use Rattle.act_rules.specs.Submissions.{needs, calls_to, number_of, kept_at, copies_held, handle_refusal, copy_refusal, submit_refusal, limit_refusal}
+use Rattle.act_rules.specs.Submissions.{send_refusal}
 use Rattle.act_rules.specs.declared.history.Letter.{Letter}
 use Rattle.act_rules.specs.declared.history.Letter.TheVariants.{Call as CallLetter, Note as NoteLetter}
 use Rattle.act_rules.specs.declared.history.Post.{Post}
 use Rattle.act_rules.specs.declared.history.Post.TheVariants.{Reply as ReplyPost, Death as DeathPost}
-use Rattle.act_rules.specs.History.{History, contains, cast_of, names, is_caller, calls_of, copies_of, limit_of, runs_of, kept_of, is_dead, is_ended, has_letter, next_item, is_drained}
+use Rattle.act_rules.specs.History.{History, contains, cast_of, names, is_caller, calls_of, copies_of, limit_of, runs_of, kept_of, is_dead, is_ended}
+use Rattle.act_rules.specs.History.{has_letter, next_item, is_drained}
 
 abbrev pub Outcome : Type 0
 Outcome = Result Did WorldRefusal

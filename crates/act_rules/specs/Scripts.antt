@@ -1,5 +1,6 @@
 -- What a script plays, from bytes to bytes, and the faults that only threads have.
-use Rattle.std.specs.Prelude.{ℕ, ◌==◌, not, ◌||◌, if◌then◌else◌, nat_lt, Bool, List, [], ◌++◌, length, map, filter, filter_map, slice_get, Option, Some, None, option_map, option_and_then, Result, Ok, Err, pos}
+use Rattle.std.specs.Prelude.{ℕ, ◌==◌, not, ◌||◌, if◌then◌else◌, nat_lt, Bool, List, [], ◌++◌, length, map, filter, filter_map, slice_get, Option, Some, None}
+use Rattle.std.specs.Prelude.{option_map, option_and_then, Result, Ok, Err, pos}
 use Rattle.std.specs.List.{list_any}
 use Rattle.act_types.specs.declared.limits.TheConstants.{MAX_CALLERS}
 use Rattle.act_types.specs.KindState.{KindState, CounterAt, TableOf, AccountAt, ItemsOf}

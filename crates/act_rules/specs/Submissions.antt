@@ -1,5 +1,6 @@
 -- What one caller submits, and when a submission, a handle call or a sending is refused.
-use Rattle.std.specs.Prelude.{ℕ, ◌≤◌, ◌==◌, Bool, true, not, ◌||◌, if◌then◌else◌, nat_lt, nat_le, List, length, filter, take, slice_get, Option, Some, None, option_and_then, is_some, Ok}
+use Rattle.std.specs.Prelude.{ℕ, ◌≤◌, ◌==◌, Bool, true, not, ◌||◌, if◌then◌else◌, nat_lt, nat_le, List, length, filter, take, slice_get, Option, Some, None}
+use Rattle.std.specs.Prelude.{option_and_then, is_some, Ok}
 use Rattle.std.specs.List.{list_all, enumerate_from}
 use Rattle.act_types.specs.declared.limits.TheConstants.{MAX_ARGS, MAX_CALLS, MAX_COPIES}
 use Rattle.act_types.specs.declared.call.Arg.{Arg}
@@ -9,7 +10,8 @@ use Rattle.act_types.specs.declared.call.Settled.TheVariants.{Good, Bad}
 use Rattle.act_rules.specs.declared.outcome.HandleRefusal.{HandleRefusal}
 use Rattle.act_rules.specs.declared.outcome.HandleRefusal.TheVariants.{NoActor, NoHandle, TooManyCopies}
 use Rattle.act_rules.specs.declared.outcome.SubmitRefusal.{SubmitRefusal}
-use Rattle.act_rules.specs.declared.outcome.SubmitRefusal.TheVariants.{NoActor as NoSuchActor, NoHandle as NoCopy, TooManyArgs, BadFuture, TooManyCalls, PendingLimit}
+use Rattle.act_rules.specs.declared.outcome.SubmitRefusal.TheVariants.{NoActor as NoSuchActor, NoHandle as NoCopy, TooManyArgs, BadFuture, TooManyCalls}
+use Rattle.act_rules.specs.declared.outcome.SubmitRefusal.TheVariants.{PendingLimit}
 use Rattle.act_rules.specs.declared.outcome.SendRefusal.{SendRefusal}
 use Rattle.act_rules.specs.declared.outcome.SendRefusal.TheVariants.{NoFuture, NotReady, Answered}
 use Rattle.act_rules.specs.declared.history.Submission.{Submission}

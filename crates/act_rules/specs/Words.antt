@@ -1,5 +1,6 @@
 -- What the words of a script spell. Each value has one spelling.
-use Rattle.std.specs.Prelude.{ℕ, ◌^◌, ◌==◌, ◌-◌, ◌&&◌, ℤ, pos, neg_ℤ, Bool, false, if◌then◌else◌, nat_lt, nat_le, List, [], ◌∷◌, length, take, drop, slice_index, find, Option, Some, None, Result, Ok, Err, bytes_eq, codes}
+use Rattle.std.specs.Prelude.{ℕ, ◌^◌, ◌==◌, ◌-◌, ◌&&◌, ℤ, pos, neg_ℤ, Bool, false, if◌then◌else◌, nat_lt, nat_le, List, [], ◌∷◌, length, take, drop}
+use Rattle.std.specs.Prelude.{slice_index, find, Option, Some, None, Result, Ok, Err, bytes_eq, codes}
 use Rattle.std.specs.List.{list_all}
 use Rattle.std.specs.Char.{is_ascii_digit}
 use Rattle.std.specs.Str.Parse.{digits_value}

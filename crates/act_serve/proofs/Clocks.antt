@@ -3,14 +3,12 @@ use Rattle.act_serve.proofs.Common.{◌≡◌, ℕ, zero, suc, ◌<◌, ◌≤�
 use Rattle.act_serve.proofs.Common.{◌∙◌, subst, arith, append-nil, append_assoc, set, flat_map, filter_map, option_map, Contains, AllZip, cons_option}
 use Rattle.act_serve.proofs.Common.{get_or-map, length-map, flat_map-cons, Contains-get_or, Contains-append_left, Contains-append_right, Contains-append_cases}
 use Rattle.act_serve.proofs.Common.{max_bounds, max_least, greatest, clock, found_in, IsTimed, found_more, timed_later, timed_push}
+use Rattle.act_lists.proofs.Lists.{contains_tail}
 
 -- ---- elements
 
 pub contains_head : {X : Type 0} (x : X) (xs : List X) → Contains (x ∷ xs) x
 contains_head x xs = (0, omega arith, refl)
-
-pub contains_tail : {X : Type 0} (x y : X) (xs : List X) → Contains xs y → Contains (x ∷ xs) y
-contains_tail x y xs h = let lt = h.1 in (suc h.0, omega (arith, lt), h.2)
 
 -- what a list contains, its image contains under the same function
 pub contains_map : {A B : Type 0} (f : A → B) (xs : List A) (x : A) → Contains xs x → Contains (map f xs) (f x)

@@ -8,6 +8,7 @@ use Rattle.act_serve.proofs.Common.{LiveView, live_view, item_of, packet_of_item
 use Rattle.act_serve.proofs.Common.{first_note, reply_notice, replies_to, IsFed}
 use Rattle.act_inbox.specs.Inbox.{InboxView, is_packet_of, is_listed, handed_of, was_handed, waiting_packet, waiting_after, next_of, note_of, note_after}
 use Rattle.act_inbox.specs.Inbox.{note_arrival, has_come as came_before}
+use Rattle.act_lists.proofs.Options.{or_nothing}
 
 -- two numbers are one, or they are not
 pub data Tells (x y : ℕ) : Type 0 where
@@ -100,17 +101,13 @@ replies_more opening a c log item =
 
 -- ---- letters
 
-option_or-none : {X : Type 0} (o : Option X) → option_or o None ≡ o
-option_or-none None = refl
-option_or-none (Some x) = refl
-
 option_or-assoc : {X : Type 0} (o p q : Option X) → option_or o (option_or p q) ≡ option_or (option_or o p) q
 option_or-assoc None p q = refl
 option_or-assoc (Some x) p q = refl
 
 first_note_more : (a c : ℕ) (letters : List Letter) (letter : Letter) →
     first_note a c (letters ++ letter ∷ []) ≡ option_or (first_note a c letters) (note_in a c letter)
-first_note_more a c [] letter = option_or-none (note_in a c letter)
+first_note_more a c [] letter = or_nothing (note_in a c letter)
 first_note_more a c (x ∷ letters) letter =
     ap (option_or (note_in a c x)) (first_note_more a c letters letter) ∙ option_or-assoc (note_in a c x) (first_note a c letters) (note_in a c letter)
 
@@ -148,7 +145,7 @@ fed_arrive {callers} {letters} packet {before} inbox result lanes notes is waits
   listed = λ c. (λ i. is_listed (record { lanes = lanes i; held = inbox.held; notes = inbox.notes }) c) ∙ h.listed c;
   handed = λ c. (λ i. handed_of (record { lanes = lanes i; held = inbox.held; notes = inbox.notes }) c) ∙ h.handed c;
   waits = λ c n p e. by result is waits err c n p e;
-  notes = λ c l. notes c ∙ h.notes c l ∙ sym (first_note_more before.id c letters (Call packet) ∙ option_or-none (first_note before.id c letters));
+  notes = λ c l. notes c ∙ h.notes c l ∙ sym (first_note_more before.id c letters (Call packet) ∙ or_nothing (first_note before.id c letters));
   log = more_letters (Call packet) h.log;
 }
   where
@@ -185,11 +182,11 @@ noted note inbox id c arrival is listed = go (tells note.actor id) (tells note.c
         let stranger : arrival ≡ Stranger = is ∙ ap (λ x. cond x (note_arrival inbox note) Stranger) b in
         let none : ((note.caller == c) && (note.actor == id)) ≡ false = ap (λ x. (note.caller == c) && x) b ∙ and-false (note.caller == c) in
         ap (λ x. note_after x note inbox c) stranger
-        ∙ sym (option_or-none (note_of inbox c))
+        ∙ sym (or_nothing (note_of inbox c))
         ∙ ap (λ x. option_or (note_of inbox c) (cond x (Some note.after) None)) (sym none)
     go (same b f) (other d g) =
         unless g arrival
-        ∙ sym (option_or-none (note_of inbox c))
+        ∙ sym (or_nothing (note_of inbox c))
         ∙ ap (λ x. option_or (note_of inbox c) (cond (x && (note.actor == id)) (Some note.after) None)) (sym d)
     go (same b f) (same d g) =
         let there : is_listed inbox note.caller ≡ true = ap (is_listed inbox) g ∙ listed in

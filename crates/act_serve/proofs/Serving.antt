@@ -1,6 +1,6 @@
 -- What an executor keeps from turn to turn.
 use Rattle.act_serve.proofs.Common.{◌≡◌, ◌≢◌, ℕ, ◌+◌, ◌<◌, ◌≤◌, Bool, true, false, cond, List, [], ◌∷◌, ◌++◌, Option, Some, None, Result, Ok, Err, IfOk, OnOk}
-use Rattle.act_serve.proofs.Common.{OnErr, IfSome, IfNone, inl, inr, ◌⊎◌, length, get_or, map, refl, ap, sym, ◌∙◌, subst, arith, append-nil, All, ◌==◌}
+use Rattle.act_serve.proofs.Common.{IfSome, IfNone, inl, inr, ◌⊎◌, length, get_or, map, refl, ap, sym, ◌∙◌, subst, arith, append-nil, All, ◌==◌}
 use Rattle.act_serve.proofs.Common.{AllPairs, set, take, drop, is_some, eq-eqb, ne_eqb, cases_lt, get_or-map, get_or-set_other, length-map, length-set}
 use Rattle.act_serve.proofs.Common.{get_or-set_at, map_over_more, TableId, KindState, Packet, Reply, Answered, Death, RunItem, after_item, state_after}
 use Rattle.act_serve.proofs.Common.{items_of, has_terminated, NothingFollowsAnEnd, state_after-push, contains, next_of, LiveView, DeadView, RetiredView}
@@ -9,6 +9,7 @@ use Rattle.act_serve.proofs.Common.{TakerView, RepliesView, ReplyExecView, ExecP
 use Rattle.act_serve.proofs.Common.{caller_at, endpoint_callers, without_given, IsUntaken, KillsOfDead, ExecPassesStay, HasServed, IsActorTraced, IsTracedSoFar}
 use Rattle.act_serve.proofs.Common.{EndpointsDiffer, IsFreshExec, IsFed, IsServing, HasReplies, HasReplied, IsAtItsEndpoint, PassesFit, with_death_given}
 use Rattle.std.specs.Option.{option_map}
+use Rattle.std.proofs.lemmas.Simd.{map-map}
 use Rattle.act_serve.proofs.Traces.{traced_retired}
 use Rattle.act_serve.proofs.Logs.{Tells, same, other, tells, last_reply, replies_more, fed_run}
 
@@ -42,18 +43,11 @@ pub replied : {E S : Type 0} (read : S → KindState) (caller : ℕ) (before aft
 replied read caller before after (Ok reply) is ran = replied_next read caller before after (next_call before.log before.inbox caller) refl is ran
 replied read caller before after (Err error) is ran = tt
 
-pub on_err : {T E : Type 0} (A B : Type 0) (result : Result T E) → (A → B) → OnErr result A → OnErr result B
-on_err A B (Ok value) f h = tt
-on_err A B (Err error) f h = f h
-
 -- ---- replies
 
 differ_at : (xs : List ℕ) (i j e : ℕ) → AllPairs (λ x y. x ≢ y) xs → i ≢ j → i < length xs → j < length xs → get_or xs i e ≢ get_or xs j e
-differ_at xs i j e apart ne below under = go (order i j)
+differ_at xs i j e apart ne below under = go (cases_lt i j)
   where
-    order : (m n : ℕ) → (m < n) ⊎ (n ≤ m)
-    order m n = cases_lt m n
-
     go : (i < j) ⊎ (j ≤ i) → get_or xs i e ≢ get_or xs j e
     go (inl lt) = apart i j e lt under
     go (inr le) = let lt : j < i = omega (arith, le, ne) in λ f. apart j i e lt below (sym f)
@@ -159,15 +153,12 @@ told_bare : (a stamp : ℕ) (log : List RunItem) (endpoints : List (Endpoint Rep
 told_bare a stamp log [] = refl
 told_bare a stamp log (x ∷ endpoints) = ap (λ l. without_given x ∷ l) (told_bare a stamp log endpoints)
 
--- the callers are those of the endpoints as they were
-callers_bare : (lines : List RepliesView) (endpoints : List (Endpoint ReplyExecView)) →
-    endpoint_callers lines (map without_given endpoints) ≡ endpoint_callers lines endpoints
-callers_bare lines [] = refl
-callers_bare lines (x ∷ endpoints) = ap (λ l. caller_at lines x.place ∷ l) (callers_bare lines endpoints)
-
+-- endpoints at the same places are those of the same callers
 pub callers_stay : (lines : List RepliesView) (old new : List (Endpoint ReplyExecView)) → map without_given new ≡ map without_given old →
     endpoint_callers lines new ≡ endpoint_callers lines old
-callers_stay lines old new e = sym (callers_bare lines new) ∙ ap (endpoint_callers lines) e ∙ callers_bare lines old
+callers_stay lines old new e =
+    let at : Endpoint ReplyExecView → ℕ = λ endpoint. caller_at lines endpoint.place in
+    sym (map-map at without_given new) ∙ ap (map at) e ∙ map-map at without_given old
 
 -- ---- letters
 

@@ -11,8 +11,10 @@ use Rattle.act_serve.proofs.Common.{DeathTold, Retirement, letter_taken, call_ru
 use Rattle.act_serve.proofs.Common.{ActorMayDo, ActorMayDoAll, exec_clock, IsGivenAfter, IsActorTrace, caller_at, endpoint_callers, IsLogOf, first_note}
 use Rattle.act_serve.proofs.Common.{IsUntaken, KillsOfDead, HasReplied, IsFreshExec, IsTracedSoFar, replied_to, with_death_given, all_zip_weaker, found_alone}
 use Rattle.act_serve.proofs.Common.{found_more, found_one, steps_more, timed_push, part_one, part_none, later_one, later_none, [], ◌||◌}
-use Rattle.act_serve.proofs.Clocks.{contains_tail, contains_head, contains_map, all_zip_set, all_zip_map, flat_within, clock_taken, clock_within}
+use Rattle.act_serve.proofs.Clocks.{contains_head, contains_map, all_zip_set, all_zip_map, flat_within, clock_taken, clock_within}
 use Rattle.act_serve.proofs.Clocks.{contains_of_found, timed_all, found_nothing}
+use Rattle.std.proofs.Math.Bool.{or-false, or-true}
+use Rattle.act_lists.proofs.Lists.{contains_tail}
 
 abbrev Trace : Type 0
 Trace = List (ℕ × Action)
@@ -35,13 +37,9 @@ any_push : (p : Action → Bool) (trace : Trace) (n : ℕ) (step : Action) → p
 any_push p trace n step e was =
     ap (list_any p) (steps_more trace ((n, step) ∷ [])) ∙ list_any-append p (steps_in trace) (step ∷ []) ∙ (λ i. was i || (e i || false))
 
-or_true : (b : Bool) → (b || true) ≡ true
-or_true true = refl
-or_true false = refl
-
 any_here : (p : Action → Bool) (trace : Trace) (n : ℕ) (step : Action) → p step ≡ true → list_any p (steps_in (trace ++ (n, step) ∷ [])) ≡ true
 any_here p trace n step e = ap (list_any p) (steps_more trace ((n, step) ∷ [])) ∙ list_any-append p (steps_in trace) (step ∷ []) ∙
-    (λ i. list_any p (steps_in trace) || (e i || false)) ∙ or_true (list_any p (steps_in trace))
+    (λ i. list_any p (steps_in trace) || (e i || false)) ∙ or-true (list_any p (steps_in trace))
 
 module _ (a : ℕ) (lines : List RepliesView) (log : List RunItem) (passes : ExecPasses) where
   log_is : {trace : Trace} → IsActorTrace a lines log passes trace → log_of (steps_in trace) ≡ log
@@ -352,13 +350,9 @@ death_to lines endpoint = DeathTold (caller_at lines endpoint.place)
 died_on : (before : List Action) (c : ℕ) → has_died_in before ≡ true → has_died_in (before ++ DeathTold c ∷ []) ≡ true
 died_on before c died =
     let kills : list_any is_kill_taken (before ++ DeathTold c ∷ []) ≡ list_any is_kill_taken before =
-    list_any-append is_kill_taken before (DeathTold c ∷ []) ∙ or_none (list_any is_kill_taken before) in
+    list_any-append is_kill_taken before (DeathTold c ∷ []) ∙ or-false (list_any is_kill_taken before) in
     let log : log_of (before ++ DeathTold c ∷ []) ≡ log_of before = filter_map-append call_run before (DeathTold c ∷ []) ∙ append-nil (log_of before) in
     (λ i. kills i || has_terminated (log i)) ∙ died
-  where
-    or_none : (b : Bool) → (b || false) ≡ b
-    or_none true = refl
-    or_none false = refl
 
 may_tell : (a : ℕ) (callers : List ℕ) (lines : List RepliesView) (n : ℕ) (endpoints : List (Endpoint ReplyExecView)) (trace : Trace) →
     All (λ (endpoint : Endpoint ReplyExecView). contains (caller_at lines endpoint.place) callers ≡ true) endpoints → has_died_in (steps_in trace) ≡ true →

@@ -5,14 +5,14 @@ pub use Rattle.act_actor.specs.declared.cast.Cast.{Cast}
 pub use Rattle.act_drive.specs.Sessions.{SessionView}
 pub use Rattle.act_epochs.proofs.Growing.{are_more, left_more}
 pub use Rattle.act_epochs.specs.Epochs.{Epoch, IsEpoch, cast_of_end, casts_left}
-pub use Rattle.act_rules.proofs.Elements.{all_of_map}
+pub use Rattle.act_rules.proofs.Elements.{all_of_map, found_passes}
 pub use Rattle.act_executor.specs.ByCode.{IsJoinedBy, IsPlayedBy}
 pub use Rattle.act_executor.specs.Plays.{IsPlayed}
 pub use Rattle.act_executor.specs.Runs.{IsFault, IsThreadFault, plan_view}
 pub use Rattle.act_executor.specs.declared.joined.Joined.{Joined}
 pub use Rattle.act_executor.specs.declared.run.RunFault.{RunFault}
 pub use Rattle.act_lists.proofs.Lists.{tail_apart}
-pub use Rattle.act_plans.proofs.Keys.{found_all, found_passes}
+pub use Rattle.act_plans.proofs.Keys.{found_all}
 pub use Rattle.act_plans.proofs.Matching.{numbers_differ}
 pub use Rattle.act_plans.proofs.Taking.{find_some}
 pub use Rattle.act_plans.specs.Runs.{actors_of_casts, bad_step_of, callers_of_casts, cast_at, first_bad_plan}

@@ -3,18 +3,13 @@ use Rattle.act_service.proofs.Common.{◌≡◌, ◌≢◌, ℕ, suc, ◌==◌, 
 use Rattle.act_service.proofs.Common.{filter_map, option_map, list_any, cons_option, eqb-true, length-map, get_or-map, All-nil, All-cons, All-map, all_of_map}
 use Rattle.act_service.proofs.Common.{AllPairs-cons, AllPairs-filter, KindState, ActorSpec, one_to, IsLimit, Cast, CallersDiffer, IsFitting, actor_spec}
 use Rattle.act_service.proofs.Common.{EndView, Retired, end_id, cast_at, actors_of_casts, found_passes, found_all, numbers_differ, cast_of_end, tail_apart}
+use Rattle.std.proofs.lemmas.List.Elements.{All-head, All-tail}
 
 -- what casting an actor again keeps of its cast
 abbrev pub IsSound : ActorSpec → Type 0
 IsSound cast = CallersDiffer cast.callers × IsLimit cast.pending
 
 -- ---- lists
-
-all_here : {X : Type 0} (P : X → Type 0) (x : X) (xs : List X) → All P (x ∷ xs) → P x
-all_here P x xs all = all 0 x (omega arith)
-
-all_there : {X : Type 0} (P : X → Type 0) (x : X) (xs : List X) → All P (x ∷ xs) → All P xs
-all_there P x xs all k d lt = all (suc k) d (omega arith)
 
 pairs_here : (n : ℕ) (ns : List ℕ) → AllPairs (λ one other. one ≢ other) (n ∷ ns) → All (λ other. n ≢ other) ns
 pairs_here n ns apart k d lt = apart 0 (suc k) d (omega arith) (omega arith)
@@ -61,13 +56,13 @@ module _ (casts : List ActorSpec) where
   none_named : (a : ℕ) (ends : List EndView) → All (λ other. a ≢ other) (map end_id ends)
       → All (λ (cast : ActorSpec). a ≢ cast.actor) (filter_map (cast_of_end casts) ends)
   none_named a [] apart = All-nil (λ (cast : ActorSpec). a ≢ cast.actor)
-  none_named a (end ∷ ends) apart = go (cast_of_end casts end) refl (none_named a ends (all_there (λ other. a ≢ other) (end_id end) (map end_id ends) apart))
+  none_named a (end ∷ ends) apart = go (cast_of_end casts end) refl (none_named a ends (All-tail (λ other. a ≢ other) (end_id end) (map end_id ends) apart))
     where
       go : (o : Option ActorSpec) → cast_of_end casts end ≡ o → All (λ (cast : ActorSpec). a ≢ cast.actor) (filter_map (cast_of_end casts) ends) →
           All (λ (cast : ActorSpec). a ≢ cast.actor) (cons_option o (filter_map (cast_of_end casts) ends))
       go None is rest = rest
       go (Some cast) is rest = All-cons (λ (cast : ActorSpec). a ≢ cast.actor) cast (filter_map (cast_of_end casts) ends)
-          (λ same. all_here (λ other. a ≢ other) (end_id end) (map end_id ends) apart (same ∙ named end cast is)) rest
+          (λ same. All-head (λ other. a ≢ other) (end_id end) (map end_id ends) apart (same ∙ named end cast is)) rest
 
   apart_left : (ends : List EndView) → AllPairs (λ one other. one ≢ other) (map end_id ends)
       → AllPairs (λ (one other : ActorSpec). one.actor ≢ other.actor) (filter_map (cast_of_end casts) ends)

@@ -1,24 +1,17 @@
 -- An actor ends once, dead or retired, and only an actor of the casts does.
 use Rattle.act_summaries.proofs.Common.{◌≡◌, ℕ, ◌==◌, ◌||◌, Bool, true, false, cond, not, List, [], ◌∷◌, ◌++◌, Some, None, Option, is_some, refl, sym, ap}
-use Rattle.act_summaries.proofs.Common.{subst, ◌∙◌, eqb-true, not-true, append-nil, list_any-append, History, ActorSpec, contains, cast_of, runs_of, is_dead}
+use Rattle.act_summaries.proofs.Common.{subst, ◌∙◌, eqb-true, not-true, append-nil, History, ActorSpec, contains, cast_of, runs_of, is_dead}
 use Rattle.act_summaries.proofs.Common.{is_retired, is_ended, has_terminated, needs, is_drained, next_item, add_event, after_run, after_all, opening, Event}
 use Rattle.act_summaries.proofs.Common.{Run, TakeKill, Retire, RunItem, IsKept, after_all_keeps, or_parts}
 use Rattle.act_rules.specs.declared.outcome.HandleRefusal.TheVariants.{NoActor}
 use Rattle.act_rules.specs.declared.outcome.WorldRefusal.TheVariants.{Handle, ActorEnded, NoKill, NotDrained}
 use Rattle.act_rules.proofs.Ended.{needs-none, run_needs, under-push}
 use Rattle.act_rules.proofs.Events.{some_cast}
+use Rattle.act_rules.proofs.Ended.{contains_other}
 
 pub record EndOnce (h : History) : Type 0 where
   pub apart : (a : ℕ) → is_dead a h ≡ true → is_retired a h ≡ false
   pub cast : (a : ℕ) → is_ended a h ≡ true → is_some (cast_of a h) ≡ true
-
--- one number more contains no other
-other_stays : (a b : ℕ) (ns : List ℕ) → (b == a) ≡ false → contains a (ns ++ b ∷ []) ≡ contains a ns
-other_stays a b ns ne = list_any-append (λ m. m == a) ns (b ∷ []) ∙ ap (λ t. contains a ns || (t || false)) ne ∙ last (contains a ns)
-  where
-    last : (x : Bool) → (x || false) ≡ x
-    last true = refl
-    last false = refl
 
 -- what holds of the actor that ends now, and of each other one as before
 module _ (h : History) (s : EndOnce h) (b : ℕ) (live : is_ended b h ≡ false) (stands : is_some (cast_of b h) ≡ true) where
@@ -58,10 +51,10 @@ module _ (h : History) (s : EndOnce h) (b : ℕ) (live : is_ended b h ≡ false)
 
   killed_once : EndOnce (add_event h (TakeKill b))
   killed_once = once_at (add_event h (TakeKill b)) (λ a. refl)
-      (λ a ne. (ap (λ k. k || has_terminated (runs_of a h)) (other_stays a b h.killed ne), refl)) (λ a same dead. unretired a same)
+      (λ a ne. (ap (λ k. k || has_terminated (runs_of a h)) (contains_other b a h.killed ne), refl)) (λ a same dead. unretired a same)
 
   retired_once : EndOnce (add_event h (Retire b))
-  retired_once = once_at (add_event h (Retire b)) (λ a. refl) (λ a ne. (refl, other_stays a b h.retired ne))
+  retired_once = once_at (add_event h (Retire b)) (λ a. refl) (λ a ne. (refl, contains_other b a h.retired ne))
       (λ a same dead. let bad : true ≡ false = sym dead ∙ undead a same in cc)
 
 once_step : IsKept EndOnce

@@ -1,8 +1,8 @@
 -- What holds of each history of a script: its numbers are small, and what it says is sayable.
-use Rattle.act_summaries.proofs.Common.{◌≡◌, ◌≢◌, ◌⊎◌, inl, inr, ℕ, ◌<◌, ◌≤◌, ◌^◌, ◌==◌, ◌||◌, Bool, true, false, cond, List, [], ◌∷◌, length, map, filter}
+use Rattle.act_summaries.proofs.Common.{◌≡◌, ◌≢◌, ◌⊎◌, inl, inr, ℕ, ◌<◌, ◌≤◌, ◌^◌, ◌==◌, Bool, true, false, cond, List, [], ◌∷◌, length, map}
 use Rattle.act_summaries.proofs.Common.{find, slice_get, Some, None, Option, is_some, option_map, option_and_then, Ok, Err, refl, sym, ap, subst, ◌∙◌, arith}
-use Rattle.act_summaries.proofs.Common.{nat_le, eqb-true, and_parts, ltb-true, AllByRecursion, list_all, History, ActorSpec, contains, names, cast_of, calls_of}
-use Rattle.act_summaries.proofs.Common.{runs_of, kept_of, under, opening_of, ran_count, next_item, refusal_of, add_event, after, after_run, after_all, opening}
+use Rattle.act_summaries.proofs.Common.{nat_le, eqb-true, and_parts, ltb-true, AllByRecursion, list_all, History, ActorSpec, names, cast_of, calls_of}
+use Rattle.act_summaries.proofs.Common.{runs_of, kept_of, opening_of, ran_count, next_item, refusal_of, add_event, after, after_run, after_all, opening}
 use Rattle.act_summaries.proofs.Common.{Answer, answer_at, answers_from, state_after, KindState, settle, settled_future, kept_at, is_sayable, is_sayable_arg}
 use Rattle.act_summaries.proofs.Common.{is_sayable_method, is_number, is_actor_number, is_caller_number, actor_spec_of, Event, Submit, Run, RunItem, Submission}
 use Rattle.act_summaries.proofs.Common.{Role, Arg, Fut, Plain, ActorDied, history, All_more, All_at, IsKept, after_all_keeps, after_keeps, next_item_is}
@@ -17,17 +17,10 @@ use Rattle.act_summaries.proofs.Replies.{AreGoodItems, runs_good}
 use Rattle.act_summaries.proofs.Ends.{EndOnce, ends_once}
 use Rattle.act_rules.proofs.Callers.{AreFew, few_step}
 use Rattle.act_rules.proofs.Growth.{added_grows}
+use Rattle.act_rules.proofs.Sound.{under_all}
+use Rattle.act_rules.proofs.Elements.{all_listed}
 
 -- ---- lists
-
-under_all : {A : Type 0} (P : A → Type 0) (n : ℕ) (pairs : List (ℕ × A)) → AllByRecursion (λ pair. P pair.1) pairs → AllByRecursion P (under n pairs)
-under_all P n [] all = tt
-under_all {A = A} P n (pair ∷ pairs) all = go (pair.0 == n) (under_all P n pairs all.1)
-  where
-    go : (b : Bool) → AllByRecursion P (under n pairs) →
-        AllByRecursion P (map (λ (r : ℕ × A). r.1) (cond b (pair ∷ filter (λ (r : ℕ × A). r.0 == n) pairs) (filter (λ (r : ℕ × A). r.0 == n) pairs)))
-    go true rest = (all.0, rest)
-    go false rest = rest
 
 pub found : {A : Type 0} (P : A → Type 0) (p : A → Bool) (xs : List A) (x : A) → AllByRecursion P xs → find p xs ≡ Some x → P x × (p x ≡ true)
 found P p [] x all e = absurd (cc)
@@ -35,14 +28,6 @@ found {A = A} P p (y ∷ xs) x all e = go (p y) refl e (found P p xs x all.1)
   where
     go : (b : Bool) → p y ≡ b → cond b (Some y) (find p xs) ≡ Some x → (find p xs ≡ Some x → P x × (p x ≡ true)) → P x × (p x ≡ true)
     go true is e rest = let same : y ≡ x = cc in (subst P same all.0, ap p (sym same) ∙ is)
-    go false is e rest = rest e
-
-contained : (P : ℕ → Type 0) (n : ℕ) (ns : List ℕ) → AllByRecursion P ns → contains n ns ≡ true → P n
-contained P n [] all e = absurd (cc)
-contained P n (m ∷ ns) all e = go (m == n) refl e (contained P n ns all.1)
-  where
-    go : (b : Bool) → (m == n) ≡ b → (b || contains n ns) ≡ true → (contains n ns ≡ true → P n) → P n
-    go true is e rest = subst P (eqb-true m n is) all.0
     go false is e rest = rest e
 
 -- ---- casts
@@ -232,7 +217,7 @@ named_good h c a s e = go (cast_of a h) refl e
     go (Some cast) is e =
         let it = found IsGoodCast (λ (cast : ActorSpec). cast.actor == a) h.casts cast s.casts is in
         let there : is_some (cast_of a h) ≡ true = ap (λ o. is_some o) is in let number = cast_good h a s there in
-        record { caller = contained IsCallerNumber c cast.callers it.0.callers e; some = number.0; few = number.1; cast = there }
+        record { caller = all_listed IsCallerNumber cast.callers c it.0.callers e; some = number.0; few = number.1; cast = there }
 
 -- a call that stands
 pub call_numbers : (casts : List ActorSpec) (h : History) (c k : ℕ) (call : Submission) → Facts casts h → slice_get (calls_of c h) k ≡ Some call →

@@ -1,10 +1,11 @@
 -- Where two histories end alike, but for answers that lines leave open, lines that tell one tell the other.
 use Rattle.act_summaries.proofs.Common.{◌≡◌, ◌≢◌, inl, inr, ℕ, zero, suc, ◌+◌, ◌-◌, ◌<◌, ◌==◌, ◌||◌, Bool, true, false, cond, not, List, [], ◌∷◌, ◌++◌, length}
-use Rattle.act_summaries.proofs.Common.{map, filter, take, slice_get, Some, option_map, refl, sym, ap, subst, ◌∙◌, arith, codes, append_assoc, eq-eqb}
-use Rattle.act_summaries.proofs.Common.{slice_get-map, AllByRecursion, History, ActorSpec, calls_of, kept_of, actor_spec_of, length-append, drop, decimal}
-use Rattle.act_summaries.proofs.Common.{AllZip, flat_map, bytes_decides, pointwise, or_left, and_from, recursion_from_All, All-from_recursion, same_Some}
-use Rattle.act_summaries.proofs.Common.{drop-append_seam, caller_text, actor_text, is_skipped, lines_in, line, history, slice_get-filter, AreTold, IsToldAs}
-use Rattle.act_summaries.proofs.Common.{is_open, ends_in, told_line, IsLeftOpen, open_line, AreToldAlike, All_at, map-slice_get, place_in, filter_mapped}
+use Rattle.act_summaries.proofs.Common.{map, filter, slice_get, Some, option_map, refl, sym, ap, subst, ◌∙◌, arith, codes, append_assoc, eq-eqb, slice_get-map}
+use Rattle.act_summaries.proofs.Common.{AllByRecursion, History, ActorSpec, calls_of, kept_of, actor_spec_of, length-append, drop, decimal, AllZip, flat_map}
+use Rattle.act_summaries.proofs.Common.{bytes_decides, pointwise, or_left, and_from, recursion_from_All, All-from_recursion, same_Some, drop-append_seam}
+use Rattle.act_summaries.proofs.Common.{caller_text, actor_text, is_skipped, lines_in, line, history, AreTold, IsToldAs, is_open, ends_in, told_line}
+use Rattle.act_summaries.proofs.Common.{IsLeftOpen, open_line, AreToldAlike, All_at, map-slice_get, place_in, filter_mapped}
+use Rattle.act_rules.proofs.Elements.{IsIn, in_filter}
 use Rattle.act_summaries.proofs.Bytes.{cut, begins_once, word_lacks, before_cut, before}
 use Rattle.act_summaries.proofs.Marks.{Equals}
 use Rattle.act_summaries.proofs.Reading.{shown, tells_both, skipped_alike, told_at, filled_in, told_texts}
@@ -16,13 +17,6 @@ use Rattle.act_summaries.proofs.Alike.{lines_lack_ends}
 use Rattle.act_summaries.proofs.Near.{AreNear, lines_near}
 
 -- ---- lists
-
--- the element stands at some place
-abbrev pub Stands : {A : Type 0} → List A → A → Type 0
-Stands xs x = (i : ℕ) × (slice_get xs i ≡ Some x)
-
-stands-filter : {A : Type 0} (p : A → Bool) (xs : List A) (x : A) → Stands xs x → p x ≡ true → Stands (filter p xs) x
-stands-filter p xs x at passes = (length (filter p (take at.0 xs)), slice_get-filter p xs at.0 at.1 passes)
 
 numbered_at : {X : Type 0} (text_of : ℕ → X → List ℕ) (place : ℕ) (xs : List X) (i : ℕ) (text : List ℕ) → slice_get (numbered text_of place xs) i ≡ Some text →
     (x : X) × (i < length xs) × (text ≡ text_of (place + i) x)
@@ -68,24 +62,24 @@ module _ (casts : List ActorSpec) (g : History) (t : Facts casts g) (bytes : Lis
       ∙ of_caller g c number.0 number.1
 
   -- a pair of future k is the k-th one of its caller
-  pair_at : (c k : ℕ) (p : Pair) (rest : List ℕ) → IsCallerNumber c → k < 65536 → Stands ps p → p.1 ≡ future_name c k ++ 32 ∷ rest →
+  pair_at : (c k : ℕ) (p : Pair) (rest : List ℕ) → IsCallerNumber c → k < 65536 → IsIn ps p → p.1 ≡ future_name c k ++ 32 ∷ rest →
       slice_get (pairs_of (caller_text c) ps) k ≡ Some p
   pair_at c k p rest number few at is =
       let word = word_lacks 32 (future_name c k) (omega arith) (future_word c k) in
       let name : owner p.1 ≡ caller_text c = ap owner is ∙ ap (before 46) (before_cut 32 (future_name c k) rest word) ∙ before_cut 46 (caller_text c)
       (decimal k) (caller_dots c) in
-      let inner = stands-filter (λ (p : Pair). not (is_skipped p.1)) ps p at (ap (λ l. not (is_skipped l)) is) in
-      let outer = stands-filter (λ (p : Pair). is_of (caller_text c) p.1) (filter (λ (p : Pair). not (is_skipped p.1)) ps) p inner
+      let inner = in_filter (λ (p : Pair). not (is_skipped p.1)) at (ap (λ l. not (is_skipped l)) is) in
+      let outer = in_filter (λ (p : Pair). is_of (caller_text c) p.1) inner
       ((bytes_decides (owner p.1) (caller_text c)).1 name) in
-      let text : slice_get (futures g c) outer.0 ≡ Some p.1 =
-      ap (λ l. slice_get l outer.0) (sym (texts_of c number)) ∙ slice_get-map (λ (p : Pair). p.1) (pairs_of (caller_text c) ps) outer.0
-      ∙ ap (option_map (λ (p : Pair). p.1)) outer.1 in
-      let call = numbered_at (future_as c (kept_of c g)) 0 (calls_of c g) outer.0 p.1 text in
-      let other = word_lacks 32 (future_name c (0 + outer.0)) (omega arith) (future_word c (0 + outer.0)) in
-      let names = begins_once (future_name c k) (future_name c (0 + outer.0)) word other is call.2 in
-      let place = future_is c c k (0 + outer.0) (omega (arith, number.1)) (omega (arith, number.1)) (omega (arith, few))
+      let text : slice_get (futures g c) outer.place ≡ Some p.1 =
+      ap (λ l. slice_get l outer.place) (sym (texts_of c number)) ∙ slice_get-map (λ (p : Pair). p.1) (pairs_of (caller_text c) ps) outer.place
+      ∙ ap (option_map (λ (p : Pair). p.1)) outer.at in
+      let call = numbered_at (future_as c (kept_of c g)) 0 (calls_of c g) outer.place p.1 text in
+      let other = word_lacks 32 (future_name c (0 + outer.place)) (omega arith) (future_word c (0 + outer.place)) in
+      let names = begins_once (future_name c k) (future_name c (0 + outer.place)) word other is call.2 in
+      let place = future_is c c k (0 + outer.place) (omega (arith, number.1)) (omega (arith, number.1)) (omega (arith, few))
       (omega (arith, call.1, t.few c)) names.0 in
-      let same : outer.0 ≡ k = omega (arith, place.1) in subst (λ n. slice_get (pairs_of (caller_text c) ps) n ≡ Some p) same outer.1
+      let same : outer.place ≡ k = omega (arith, place.1) in subst (λ n. slice_get (pairs_of (caller_text c) ps) n ≡ Some p) same outer.at
 
   -- the line of a future that is left open
   front_is : (c k b : ℕ) (rest : List ℕ) → (future_name c k ++ 32 ∷ actor_text b) ++ rest ≡ future_name c k ++ 32 ∷ (actor_text b ++ rest)
@@ -94,7 +88,7 @@ module _ (casts : List ActorSpec) (g : History) (t : Facts casts g) (bytes : Lis
   left_is : (c k b : ℕ) → open_line c k b ≡ (future_name c k ++ 32 ∷ actor_text b) ++ 32 ∷ (61 ∷ 32 ∷ 42 ∷ [])
   left_is c k b = open_is c k b ∙ sym (front_is c k b (32 ∷ 61 ∷ 32 ∷ 42 ∷ []))
 
-  open_pair : (c k : ℕ) (p : Pair) (rest : List ℕ) → IsCallerNumber c → k < 65536 → Stands ps p → p.1 ≡ future_name c k ++ 32 ∷ rest → IsLeftOpen bytes c k →
+  open_pair : (c k : ℕ) (p : Pair) (rest : List ℕ) → IsCallerNumber c → k < 65536 → IsIn ps p → p.1 ≡ future_name c k ++ 32 ∷ rest → IsLeftOpen bytes c k →
       (b : ℕ) × (p.0 ≡ open_line c k b)
   open_pair c k p rest number few at is opened =
       let b = opened.0 in let line = place_in (lines_in bytes) (open_line c k b) opened.1 in
@@ -102,11 +96,12 @@ module _ (casts : List ActorSpec) (g : History) (t : Facts casts g) (bytes : Lis
       let front : List ℕ = future_name c k ++ 32 ∷ actor_text b in
       let text = told_at q.0.0 q.0.1 front Equals (q.2 ∙ left_is c k b) (All_at (λ (p : Pair). IsToldAs p.0 p.1) ps line.0 told q.1) in
       let mine = pair_at c k p rest number few at is in
-      let theirs = pair_at c k q.0 (actor_text b ++ 32 ∷ (61 ∷ 32 ∷ text.0)) number few (line.0, q.1) (text.1 ∙ front_is c k b (32 ∷ (61 ∷ 32 ∷ text.0))) in
+      let theirs = pair_at c k q.0 (actor_text b ++ 32 ∷ (61 ∷ 32 ∷ text.0)) number few (record { place = line.0; at = q.1 })
+      (text.1 ∙ front_is c k b (32 ∷ (61 ∷ 32 ∷ text.0))) in
       (b, ap (λ (p : Pair). p.0) (same_Some p q.0 (sym mine ∙ theirs)) ∙ q.2)
 
   -- such a line tells each text that is near
-  pub tells_near : (p : Pair) → Stands ps p → IsToldAs p.0 p.1 → (y : List ℕ) → AreNear bytes p.1 y → IsToldAs p.0 y
+  pub tells_near : (p : Pair) → IsIn ps p → IsToldAs p.0 p.1 → (y : List ℕ) → AreNear bytes p.1 y → IsToldAs p.0 y
   tells_near p at as_told y (inl same) = subst (IsToldAs p.0) (sym same) as_told
   tells_near p at as_told y (inr d) =
       let opened = open_pair d.c d.k p (actor_text d.a ++ 32 ∷ 61 ∷ 32 ∷ d.what) d.number d.few at d.one d.opened in
@@ -139,13 +134,14 @@ record Remade (qs : List Pair) (ys : List (List ℕ)) : Type 0 where
 
 module _ (bytes : List ℕ) where
   abbrev TellsEach : List Pair → Type 0
-  TellsEach qs = (q : Pair) → Stands qs q → (y : List ℕ) → AreNear bytes q.1 y → IsToldAs q.0 y
+  TellsEach qs = (q : Pair) → IsIn qs q → (y : List ℕ) → AreNear bytes q.1 y → IsToldAs q.0 y
 
   remade : (qs : List Pair) (ys : List (List ℕ)) → AllByRecursion (λ (p : Pair). IsToldAs p.0 p.1) qs → TellsEach qs →
       AllZip (AreNear bytes) (shown (map (λ (p : Pair). p.1) qs)) ys → Remade qs ys
   remade [] [] told each all = record { pairs = []; given = refl; told = tt; whole = refl }
   remade [] (y ∷ ys) told each all = absurd all
-  remade (p ∷ qs) ys told each all = go (is_skipped p.1) refl ys all (λ rest z. remade qs rest told.1 (λ q at. each q (suc at.0, at.1)) z)
+  remade (p ∷ qs) ys told each all = go (is_skipped p.1) refl ys all
+      (λ rest z. remade qs rest told.1 (λ q at. each q (record { place = suc at.place; at = at.at })) z)
     where
       texts : List (List ℕ)
       texts = shown (map (λ (p : Pair). p.1) qs)
@@ -162,7 +158,7 @@ module _ (bytes : List ℕ) where
           }
       go false e [] zip more = absurd zip
       go false e (y ∷ rest) zip more =
-          let r = more rest zip.1 in let tell = each p (0, refl) y zip.0 in
+          let r = more rest zip.1 in let tell = each p (record { place = 0; at = refl }) y zip.0 in
           let skip : is_skipped y ≡ false = sym (skipped_alike p.0 p.1 y (tells_both p.0 p.1 y told.0 tell)) ∙ e in
           record { pairs = (p.0, y) ∷ r.pairs; given = ap (λ l. p.0 ∷ l) r.given; told = (tell, r.told); whole = (λ i. cond (skip i) [] (line y) ++ r.whole i) }
 
@@ -175,7 +171,8 @@ told_alike roles events others bytes said first second alike make =
     let told = recursion_from_All (λ (p : Pair). IsToldAs p.0 p.1) whole.pairs whole.told in
     let near = subst (λ l. AllZip (AreNear bytes) l (lines_of h)) (sym texts) (lines_near casts h g f t bytes alike) in
     let made = remade bytes whole.pairs (lines_of h) told
-    (λ q at. tells_near casts g t bytes whole.pairs whole.given told texts q at (All_at (λ (p : Pair). IsToldAs p.0 p.1) whole.pairs at.0 told at.1)) near in
+    (λ q at. tells_near casts g t bytes whole.pairs whole.given told texts q at
+    (All_at (λ (p : Pair). IsToldAs p.0 p.1) whole.pairs at.place told at.at)) near in
     record {
       pairs = made.pairs;
       given = made.given ∙ whole.given;

@@ -1,10 +1,11 @@
 -- From the bytes to the texts that their lines tell.
-use Rattle.act_summaries.proofs.Common.{◌≡◌, ◌≢◌, ℕ, suc, ◌-◌, ◌==◌, ◌||◌, inl, inr, Bool, true, false, cond, not, List, [], ◌∷◌, ◌++◌, codes, length, take}
+use Rattle.act_summaries.proofs.Common.{◌≡◌, ◌≢◌, ℕ, ◌-◌, ◌==◌, ◌||◌, inl, inr, Bool, true, false, cond, not, List, [], ◌∷◌, ◌++◌, codes, length, take}
 use Rattle.act_summaries.proofs.Common.{drop, refl, sym, ap, ◌∙◌, subst, arith, append_assoc, length-append, map, filter, Contains, AllByRecursion, AllZip}
 use Rattle.act_summaries.proofs.Common.{flat_map, onto_first, pointwise, take-append-drop, recursion_from_All, eqb-true, eq-eqb, and_parts, or_cases}
 use Rattle.act_summaries.proofs.Common.{take-append_seam, is_skipped, lines_in, line, AreTold, IsToldAs, is_open, ends_in, told_line}
 use Rattle.act_summaries.proofs.Bytes.{Lacks, Each-append, cut, Each-take}
 use Rattle.act_summaries.proofs.Marks.{Mark, Equals, Live, Retired, word_of, end_of, TellsBoth}
+use Rattle.act_lists.proofs.Lists.{contains_tail}
 
 -- ---- a line that is open
 
@@ -151,12 +152,6 @@ pub record IsToldTwice (lines : List (List ℕ)) (x y : List ℕ) : Type 0 where
 abbrev Pair : Type 0
 Pair = List ℕ × List ℕ
 
-first_stands : (text : List ℕ) (lines : List (List ℕ)) → Contains (text ∷ lines) text
-first_stands text lines = (0, omega arith, refl)
-
-later_stands : (text other : List ℕ) (lines : List (List ℕ)) → Contains lines text → Contains (other ∷ lines) text
-later_stands text other lines has = (suc has.0, omega (arith, has.1), has.2)
-
 module _ (all : List (List ℕ)) where
   zipped : (ps qs : List Pair) → map (λ (p : Pair). p.0) ps ≡ map (λ (q : Pair). q.0) qs → AllByRecursion (λ (p : Pair). IsToldAs p.0 p.1) ps →
       AllByRecursion (λ (q : Pair). IsToldAs q.0 q.1) qs → ((text : List ℕ) → Contains (map (λ (p : Pair). p.0) ps) text → Contains all text) →
@@ -167,8 +162,8 @@ module _ (all : List (List ℕ)) where
       let tail : map (λ (p : Pair). p.0) xs ≡ map (λ (q : Pair). q.0) ys = cc in
       let both = tells_both x.0 x.1 y.1 p.0 (subst (λ t. IsToldAs t y.1) (sym head) q.0) in
       go (is_skipped x.1) (is_skipped y.1) (skipped_alike x.0 x.1 y.1 both)
-      (record { text = x.0; stands = stands x.0 (first_stands x.0 (map (λ (p : Pair). p.0) xs)); tells = both })
-      (zipped xs ys tail p.1 q.1 (λ text has. stands text (later_stands text x.0 (map (λ (p : Pair). p.0) xs) has)))
+      (record { text = x.0; stands = stands x.0 (0, omega arith, refl); tells = both })
+      (zipped xs ys tail p.1 q.1 (λ text has. stands text (contains_tail x.0 text (map (λ (p : Pair). p.0) xs) has)))
     where
       go : (a b : Bool) → a ≡ b → IsToldTwice all x.1 y.1 → AllZip (IsToldTwice all) (shown (map (λ (p : Pair). p.1) xs)) (shown (map (λ (q : Pair). q.1) ys)) →
           AllZip (IsToldTwice all) (cond (not a) (x.1 ∷ shown (map (λ (p : Pair). p.1) xs)) (shown (map (λ (p : Pair). p.1) xs)))

@@ -1,5 +1,6 @@
 -- What the lines of what was left are taken for, one by one, and what of this fits a history.
-use Rattle.std.specs.Prelude.{ℕ, ◌≡◌, ◌≢◌, ◌≤◌, ◌<◌, ◌+◌, ◌^◌, ◌++◌, ◌∷◌, [], Bool, true, false, not, List, map, filter, slice_get, codes, decimal, Option, Some, None, is_some, Err, All, IsTrue}
+use Rattle.std.specs.Prelude.{ℕ, ◌≡◌, ◌≢◌, ◌≤◌, ◌<◌, ◌+◌, ◌^◌, ◌++◌, ◌∷◌, [], Bool, true, false, not, List, map, filter, slice_get, codes, decimal, Option}
+use Rattle.std.specs.Prelude.{Some, None, is_some, Err, All, IsTrue}
 use Rattle.std.specs.List.{AllZip, flat_map, list_all}
 use Rattle.act_types.specs.declared.limits.TheConstants.{MAX_ACTORS, MAX_CALLERS}
 use Rattle.act_types.specs.Texts.{space, with_spaces, actor_text, method_text, settled_text}

@@ -18,7 +18,7 @@ pub use Rattle.act_thread_ends.specs.ThreadEnds.{AreOfARun, CanBeEndIn, CanEnd, 
 pub use Rattle.act_types.specs.declared.limits.TheConstants.{MAX_ACTORS, MAX_CALLERS}
 pub use Rattle.std.proofs.Common.{All, Bool, Contains, List, None, Option, Some, [], ap, arith, cond, false, length, map, refl, slice_get, subst, suc, sym}
 pub use Rattle.std.proofs.Common.{true, ℕ, ◌++◌, ◌<◌, ◌==◌, ◌||◌, ◌∙◌, ◌∷◌, ◌≡◌}
-pub use Rattle.std.proofs.lemmas.Bool.{eq-eqb, eqb-true}
+pub use Rattle.std.proofs.lemmas.Bool.{eq-eqb, eqb-true, or_right}
 pub use Rattle.std.proofs.lemmas.List.Elements.{All-cons, All-map, All-weaker}
 pub use Rattle.std.specs.List.{list_any}
 pub use Rattle.std.specs.Prelude.{IsOk, find, is_some}

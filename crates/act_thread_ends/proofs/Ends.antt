@@ -4,7 +4,7 @@ use Rattle.act_thread_ends.proofs.Common.{◌∙◌, subst, Contains, find, is_s
 use Rattle.act_thread_ends.proofs.Common.{cast_of, calls_of, kept_of, runs_of, is_dead, is_retired, is_ended, held_submission, DoesStepsBy, KeepsToPlans}
 use Rattle.act_thread_ends.proofs.Common.{OwnerView, EndView, Killed, Retired, Starved, end_id, plan_of, IsJoined, calls_of_owner, kept_of_owner, log_of_end}
 use Rattle.act_thread_ends.proofs.Common.{calls_in, kept_in, log_in, DoesPlanIn, IsPlayOfPlans, IsPlayedAsPlanned, all_in, AreOfARun, CanEnd, CanBeEndIn}
-use Rattle.act_thread_ends.proofs.Common.{EndsAsThreads}
+use Rattle.act_thread_ends.proofs.Common.{EndsAsThreads, or_right}
 use Rattle.std.proofs.lemmas.Option.{slice_get_within}
 use Rattle.act_rules.specs.declared.history.RunItem.{RunItem}
 use Rattle.act_rules.specs.declared.history.Submission.{Submission}
@@ -17,12 +17,13 @@ use Rattle.act_early.specs.Early.{is_reply, is_heard, IsWholeSearch, IsOver, Los
 use Rattle.act_early.proofs.Found.{found}
 use Rattle.act_rules.proofs.Callers.{named_among}
 use Rattle.act_early.proofs.Replies.{reply_died}
-use Rattle.act_early.proofs.Worlds.{world, or_second}
-use Rattle.act_early.proofs.Choosing.{cast_known}
+use Rattle.act_early.proofs.Worlds.{world}
+use Rattle.act_rules.proofs.Events.{some_cast}
 use Rattle.act_executor.specs.Plays.{IsOwnerIn, HasEndedIn, IsEndIn}
 use Rattle.act_executor.proofs.PlaysOfThreads.AsPlay.{casts_stay}
-use Rattle.act_thread_ends.proofs.Plans.{steps_by, is_named, strangers, no_plan}
+use Rattle.act_thread_ends.proofs.Plans.{steps_by, strangers, no_plan}
 use Rattle.act_thread_ends.proofs.Left.{owner_left, IsEndLeft, end_left}
+use Rattle.act_rules.proofs.Callers.{is_named}
 
 module _ (casts : List ActorSpec) (plans : List (ℕ × List Step)) (owners : List OwnerView) (ends : List EndView) (of : AreOfARun casts plans)
     (joined : IsJoined casts plans owners ends)
@@ -58,7 +59,7 @@ module _ (casts : List ActorSpec) (plans : List (ℕ × List Step)) (owners : Li
 
   ended_so : (end : EndView) → HasEndedIn h end → is_ended (end_id end) h ≡ true
   ended_so (Killed dead) e = ap (λ b. b || is_retired dead.id h) e
-  ended_so (Retired retired) e = or_second (is_dead retired.id h) e.1
+  ended_so (Retired retired) e = or_right (is_dead retired.id h) _ e.1
   ended_so (Starved dead) e = absurd e
 
   over : IsOver h
@@ -86,7 +87,7 @@ module _ (casts : List ActorSpec) (plans : List (ℕ × List Step)) (owners : Li
       named = subst (λ n. names item.caller (cast_of n h) ≡ true) call.2 (named_call h item.caller item.future (world_retires casts events).named call.1)
 
       logged : slice_get (log_in ends a) place ≡ Some item
-      logged = subst (λ l. slice_get l place ≡ Some item) (sym (log_is a (cast_known (cast_of a h) item.caller named))) at
+      logged = subst (λ l. slice_get l place ≡ Some item) (sym (log_is a (some_cast item.caller (cast_of a h) named))) at
 
       reply : {answer : Answer} (b : Bool) → is_reply (Some answer) ≡ b → kept_at (kept_of item.caller h) item.future ≡ Some answer
           → is_reply (Some answer) ≡ true

@@ -4,7 +4,7 @@ use Rattle.act_thread_ends.proofs.Common.{eqb-true, MAX_ACTORS, MAX_CALLERS, Ste
 use Rattle.act_thread_ends.proofs.Common.{callers_of_casts, actors_of_casts, owner_of, end_of, IsIn, in_from_contains, all_in, in_filter, found_is, finds}
 use Rattle.act_thread_ends.proofs.Common.{any_is, contains_is, AreOfARun}
 use Rattle.std.proofs.lemmas.Map.Keys.{any_passes_from_place}
-use Rattle.act_thread_ends.proofs.Plans.{is_named}
+use Rattle.act_rules.proofs.Callers.{is_named}
 
 -- the caller stands among those that are left
 pub record IsOwnerLeft (owners : List OwnerView) (c : ℕ) : Type 0 where

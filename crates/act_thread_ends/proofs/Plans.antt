@@ -1,7 +1,7 @@
 -- Whoever does its plan in the events keeps to it as the law of lists asks.
-use Rattle.act_thread_ends.proofs.Common.{◌≡◌, ℕ, suc, ◌==◌, Bool, true, false, cond, List, [], ◌∷◌, ◌++◌, Option, Some, None, refl, sym, ◌∙◌, subst, arith}
-use Rattle.act_thread_ends.proofs.Common.{All, find, IsOk, list_any, eqb-true, All-cons, All-weaker, Event, Step, Submit, Copy, Release, Kill, handle_refusal}
-use Rattle.act_thread_ends.proofs.Common.{copy_refusal, ActorSpec, History, contains, is_caller, copies_of, is_step_by, AreOthers, DoesStepBy, DoesStepsBy}
+use Rattle.act_thread_ends.proofs.Common.{◌≡◌, ℕ, suc, ◌==◌, Bool, true, false, List, [], ◌∷◌, ◌++◌, Option, Some, None, refl, sym, ◌∙◌, subst, arith}
+use Rattle.act_thread_ends.proofs.Common.{All, find, IsOk, eqb-true, All-cons, All-weaker, Event, Step, Submit, Copy, Release, Kill, handle_refusal}
+use Rattle.act_thread_ends.proofs.Common.{copy_refusal, ActorSpec, History, is_caller, copies_of, is_step_by, AreOthers, DoesStepBy, DoesStepsBy}
 use Rattle.act_thread_ends.proofs.Common.{steps_of_plan, plan_of, step_of, IsMeanwhile, DoesStepIn, DoesPlanIn, all_in, found_is}
 use Rattle.std.specs.Option.{option_map}
 use Rattle.act_rules.specs.declared.event.Event.TheVariants as event
@@ -12,18 +12,16 @@ use Rattle.act_rules.proofs.Growth.{added_grows}
 use Rattle.act_rules.proofs.Steps.{after_keeps}
 use Rattle.act_early.proofs.Shifting.{none_others}
 use Rattle.act_early.proofs.Listing.{accepted_none}
+use Rattle.act_rules.proofs.Callers.{is_named}
+use Rattle.act_rules.proofs.Common.{cond_none}
 
 -- ---- the steps of a plan
 
-no_step : (b : Bool) (step : Step) → cond b (Some step) None ≡ None → b ≡ false
-no_step true step e = cc
-no_step false step e = refl
-
 other_event : (c : ℕ) (other : Event) → step_of c other ≡ None → is_step_by c other ≡ false
-other_event c (event.Submit d a method args) e = no_step (d == c) (Submit a method args) e
-other_event c (event.Copy d a) e = no_step (d == c) (Copy a) e
-other_event c (event.Release d a) e = no_step (d == c) (Release a) e
-other_event c (event.AskKill d a) e = no_step (d == c) (Kill a) e
+other_event c (event.Submit d a method args) e = cond_none (d == c) (Submit a method args) e
+other_event c (event.Copy d a) e = cond_none (d == c) (Copy a) e
+other_event c (event.Release d a) e = cond_none (d == c) (Release a) e
+other_event c (event.AskKill d a) e = cond_none (d == c) (Kill a) e
 other_event c other e = refl
 
 others : (c : ℕ) (events : List Event) → IsMeanwhile c events → AreOthers c events
@@ -59,10 +57,6 @@ step_caller c h (event.Copy d a) e is = same_caller c d h is (needs-none (is_cal
 step_caller c h (event.Release d a) e is = same_caller c d h is (needs-none (is_caller d h) NoCaller (option_map Handle (handle_refusal (copies_of d a h))) e).0
 step_caller c h (event.AskKill d a) e is = same_caller c d h is (needs-none (is_caller d h) NoCaller (option_map Handle (handle_refusal (copies_of d a h))) e).0
 step_caller c h other e is = cc
-
--- whether some cast names the caller
-abbrev pub is_named : List ActorSpec → ℕ → Bool
-is_named casts c = list_any (λ (cast : ActorSpec). contains c cast.callers) casts
 
 pub strangers : (casts : List ActorSpec) (c : ℕ) (h : History) (events : List Event) → h.casts ≡ casts → is_named casts c ≡ false
     → All IsOk (outcomes h events) → AreOthers c events

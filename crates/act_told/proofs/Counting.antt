@@ -4,6 +4,7 @@ use Rattle.act_told.proofs.Common.{take, slice_get, Option, Some, None, option_m
 use Rattle.act_told.proofs.Common.{cases_lt, length-append, slice_get_within, slice_get-map, one_to, RunItem, Submission, items_of, calls_to, IsPrefix}
 use Rattle.act_told.proofs.Common.{slice_get_front, slice_get-filter, slice_get-enumerate_from, element, numbered, numbers, map-slice_get, enumerate-slice_get}
 use Rattle.act_told.proofs.Common.{same_place, rank}
+use Rattle.act_rules.proofs.AsSubmitted.{goes_to}
 
 -- how many of the first items pass
 abbrev pub passed : {A : Type 0} → (A → Bool) → ℕ → List A → ℕ
@@ -86,9 +87,6 @@ once_among t n i j v at other =
     let same : one.place ≡ two.place = omega (arith, first, second) in sym one.count ∙ ap (λ k. passed t k (one_to n)) same ∙ two.count
 
 -- ---- a run list beside its caller's calls
-
-abbrev pub goes_to : ℕ → ℕ × Submission → Bool
-goes_to a call = call.1.actor == a
 
 -- what ran at a place: the call, and how many before it went to the actor
 pub record RanCall (log : List RunItem) (calls : List Submission) (a p : ℕ) (item : RunItem) : Type 0 where

@@ -8,7 +8,8 @@ use Rattle.act_told.proofs.Common.{calls_in, kept_in, calls_of_owner, kept_of_ow
 use Rattle.act_told.proofs.Common.{calls_run, actor_place, start_of, outcome_of, calls_told, runs_told, actor_told, end_told, told_by, StandsAsItsActor}
 use Rattle.act_orders.specs.declared.told.Actor.{Actor as ActorTold}
 use Rattle.act_orders.specs.declared.told.End.TheVariants as told
-use Rattle.act_told.proofs.Counting.{passed, goes_to, call_among, stands}
+use Rattle.act_rules.proofs.AsSubmitted.{goes_to}
+use Rattle.act_told.proofs.Counting.{passed, call_among, stands}
 use Rattle.act_told.proofs.Standing.{Apart, apart, first_is, some_first, begins, call_is, IsCallOf, run_at, calls_ahead, runs_ahead, place_is, place_tells}
 use Rattle.act_told.proofs.Turning.{told_is}
 

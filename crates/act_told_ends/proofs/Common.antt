@@ -18,13 +18,13 @@ pub use Rattle.act_early.proofs.Common.{list_any, list_any-append, map, map-slic
 pub use Rattle.act_early.proofs.Common.{next_item_is, next_step, not, number_of, numbered, numbers, occurrences, one_place, opening, opening_of}
 pub use Rattle.act_early.proofs.Common.{option_and_then, option_map, option_map-none, option_or-none, option_or-none_second, or_left, or_right, outcome_by}
 pub use Rattle.act_early.proofs.Common.{outcome_of, outcomes, outcomes-append, ran_all, ran_count, rank, refl, refusal_of, run_item, run_needs, run_stands}
-pub use Rattle.act_early.proofs.Common.{runs_of, send_refusal, settle, skipped, slice_get, slice_get-enumerate_from, slice_get-filter, slice_get-map}
+pub use Rattle.act_early.proofs.Common.{ran_on, runs_of, send_refusal, settle, skipped, slice_get, slice_get-enumerate_from, slice_get-filter, slice_get-map}
 pub use Rattle.act_early.proofs.Common.{slice_get_front, slice_get_last, slice_get_within, sound_step, steps_of, submit_refusal, subst, suc, summary, sym, take}
 pub use Rattle.act_early.proofs.Common.{taken, true, unanswered, under, under-push, was_sent, whole_front, with_event, world_retires, world_sound, zero, ℕ}
 pub use Rattle.act_early.proofs.Common.{◌&&◌, ◌++◌, ◌+◌, ◌-◌, ◌<◌, ◌==◌, ◌||◌, ◌∙◌, ◌∷◌, ◌≡◌, ◌≢◌, ◌≤◌, ◌⊎◌}
-pub use Rattle.act_early.proofs.Counting.{done_steps, occurrences-push, past_none, take-at, take-past, take-prefix}
+pub use Rattle.act_early.proofs.Counting.{done_steps, occurrences-push, take-at, take-past, take-prefix}
 pub use Rattle.act_early.proofs.Earlier.{IsEarlier, earlier_event, earlier_same, earlier_trans, step_kills, step_runs}
-pub use Rattle.act_early.proofs.Ending.{kept_long, kept_size, same_kept}
+pub use Rattle.act_early.proofs.Ending.{kept_long, same_kept}
 pub use Rattle.act_early.proofs.Items.{IsReady, ready, take-front}
 pub use Rattle.act_early.proofs.Listing.{accepted_none, list_play}
 pub use Rattle.act_early.proofs.Matching.{IsPrefix-filter_map}
@@ -35,11 +35,13 @@ pub use Rattle.act_early.proofs.Replies.{death_answers, front_short, reply_alive
 pub use Rattle.act_early.proofs.Shifting.{head_same, none_others, others_first, others_rest, tail_same}
 pub use Rattle.act_early.proofs.Unanswered.{next_unanswered, number_is}
 pub use Rattle.act_early.proofs.Waiting.{IsAlike, may_take}
-pub use Rattle.act_early.proofs.Worlds.{IsWorld, contains_push, either_of, event_of, not_so, or_last, or_second, step_keeps, take_needs, world, world_step}
-pub use Rattle.act_lists.proofs.Lists.{filter_map_alike, filter_mapped, place_in, slice_get_pushed, stands_in}
+pub use Rattle.act_early.proofs.Worlds.{IsWorld, either_of, event_of, not_so, step_keeps, take_needs, world, world_step}
+pub use Rattle.act_lists.proofs.Lists.{filter_map_alike, filter_mapped, past_none, place_in, slice_get_pushed, stands_in}
 pub use Rattle.act_rules.proofs.Callers.{named_among}
+pub use Rattle.act_rules.proofs.Ended.{contains_push}
+pub use Rattle.act_rules.proofs.Kept.{kept_size}
 pub use Rattle.act_rules.proofs.Letters.{has_front, has_letter-at, letter_place}
-pub use Rattle.act_rules.proofs.Lists.{front_whole}
+pub use Rattle.act_rules.proofs.Lists.{any_push, front_whole}
 pub use Rattle.act_rules.specs.History.{actors_naming}
 pub use Rattle.act_rules.specs.Submissions.{copies_held, is_earlier, settled_future}
 pub use Rattle.act_rules.specs.declared.history.Letter.TheVariants.{Call as CallLetter, Note as NoteLetter}
@@ -58,6 +60,7 @@ pub use Rattle.act_told_ends.specs.Walks.{Asks, Calls, Collects, Delivers, DoesW
 pub use Rattle.act_told_ends.specs.Walks.{Tells, letter_of}
 pub use Rattle.act_types.specs.declared.call.Arg.TheVariants.{Fut, Plain}
 pub use Rattle.act_types.specs.declared.call.Settled.TheVariants.{Bad}
+pub use Rattle.std.proofs.lemmas.Bool.{or_right}
 pub use Rattle.std.proofs.lemmas.List.{take-map}
 pub use Rattle.std.specs.Option.{option_or}
 pub use Rattle.std.specs.Prelude.{AllPairs, nat_le}

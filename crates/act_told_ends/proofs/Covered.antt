@@ -3,13 +3,14 @@ use Rattle.act_told_ends.proofs.Common.{◌≡◌, ℕ, ◌≤◌, true, List, l
 use Rattle.act_told_ends.proofs.Common.{◌||◌, filter, filter_map, find, slice_get, is_some, list_any, RunItem, Step, Submit, Answer, kept_at, has_terminated}
 use Rattle.act_told_ends.proofs.Common.{ActorSpec, History, names, contains, cast_of, is_caller, count_pairs, calls_of, runs_of, kept_of, is_dead, IsPrefix}
 use Rattle.act_told_ends.proofs.Common.{slice_get_front, limit_of-same, Extends, At, steps_of, next_step, IsPlay, slice_get_within, ReplyPost, DeathPost}
-use Rattle.act_told_ends.proofs.Common.{IsWorld, world, either_of, or_second, done_steps, take-prefix, Follows, follows, submission_in, is_copy_of}
+use Rattle.act_told_ends.proofs.Common.{IsWorld, world, either_of, or_right, done_steps, take-prefix, Follows, follows, submission_in, is_copy_of}
 use Rattle.act_told_ends.proofs.Common.{is_release_of, IsPrefix-filter_map, death_answers, front_short, IsAlike, Told, IsWalk, DidFirst, submission_of, copies}
 use Rattle.act_told_ends.proofs.Common.{releases, filter_map_alike, front_whole}
-use Rattle.act_told_ends.proofs.Lists.{front_of_front, filter_alike}
+use Rattle.act_told_ends.proofs.Lists.{front_of_front}
 use Rattle.act_told_ends.proofs.Bridge.{IsLate}
 use Rattle.act_told_ends.proofs.Later.{IsLater}
 use Rattle.act_told_ends.proofs.Posted.{RunsPosted, CameBy, Replied, Died, came_by}
+use Rattle.std.proofs.lemmas.List.Elements.{filter_agree}
 
 -- a walk, and a play that ends as is told
 pub record IsSetting (casts : List ActorSpec) (bound : ℕ → Option (List Step)) (told : Told) (done : ℕ → ℕ) (plans : ℕ → List Step) (late : At)
@@ -129,7 +130,7 @@ dead_covered {casts} {bound} {told} {done} {plans} {late} g p a at dead =
     front_whole (runs_of a p.history) (runs_of a g) (runs_covered a at)
     (subst (λ items. length (runs_of a g) ≤ length items) last (front_short (runs_of a g) (told.runs a) (at.setting.walk.runs a))) in
     either_of (contains a p.history.killed) (has_terminated (runs_of a p.history)) (is_dead a g ≡ true) dead (at.covered.killed a)
-    (λ ended. or_second (contains a g.killed) (ap has_terminated (sym same) ∙ ended))
+    (λ ended. or_right (contains a g.killed) _ (ap has_terminated (sym same) ∙ ended))
 
 -- ---- the same casts
 
@@ -152,13 +153,13 @@ bound_alike casts done plans g p c steps step s play is next level =
     λ l a made gone. cond (names c (find (λ (cast : ActorSpec). cast.actor == a) l)) (Some ((1 + made) - gone)) None in
     let copied : (a : ℕ) → count_pairs c a g.copied ≡ count_pairs c a p.history.copied =
     λ a. first.copied a ∙ sym (f.copied a ∙ ap (λ l. length (filter (is_copy_of a) l)) own
-    ∙ ap (λ l. length l) (filter_alike (is_copy_of a) (copies a) (take (done c) steps) (same_copy a))) in
+    ∙ ap (λ l. length l) (filter_agree (is_copy_of a) (copies a) (same_copy a) (take (done c) steps))) in
     let there : slice_get steps (done c) ≡ Some step =
     subst (λ n. slice_get steps n ≡ Some step) level (subst (λ l. slice_get l (steps_of c p) ≡ Some step) (s.end.own c steps is) next) in
     let released : (a : ℕ) → count_pairs c a g.released ≡ count_pairs c a p.history.released =
     λ a. first.released a (slice_get_within steps (done c) step there)
     ∙ sym (f.released a step next ∙ ap (λ l. length (filter (is_release_of a) l)) own
-    ∙ ap (λ l. length l) (filter_alike (is_release_of a) (releases a) (take (done c) steps) (same_release a))) in
+    ∙ ap (λ l. length l) (filter_agree (is_release_of a) (releases a) (same_release a) (take (done c) steps))) in
     record {
       caller = caller_same c w s.world;
       calls = first.calls ∙ sym

@@ -4,12 +4,13 @@ use Rattle.act_told_ends.proofs.Common.{◌⊎◌, refl, ap, sym, ◌∙◌, sub
 use Rattle.act_told_ends.proofs.Common.{eq-eqb, RunItem, Submission, Step, Submit, Kill, History, under, contains, calls_of, runs_of, is_dead, next_item}
 use Rattle.act_told_ends.proofs.Common.{has_terminated, refusal_of, add_event, after_run, IsPrefix, slice_get_front, slice_get_last, under-push, length_push}
 use Rattle.act_told_ends.proofs.Common.{At, steps_of, next_step, taken, skipped, with_event, after_step, MayTake, is_kill_of, Post, ReplyPost, DeathPost}
-use Rattle.act_told_ends.proofs.Common.{occurrences-push, step_runs, step_kills, submission_in, submitted_one, contains_push, either_of, or_second, DoesWithout}
+use Rattle.act_told_ends.proofs.Common.{occurrences-push, step_runs, step_kills, submission_in, submitted_one, contains_push, either_of, or_right, DoesWithout}
 use Rattle.act_told_ends.proofs.Common.{place_in, stands_in, front_whole}
 use Rattle.act_rules.specs.declared.event.Event.TheVariants as event
 use Rattle.act_told_ends.proofs.Later.{IsLater}
 use Rattle.act_told_ends.proofs.Covered.{IsCovered, runs_covered, dead_covered}
 use Rattle.act_told_ends.proofs.Going.{Case, Here, Goal, run_goes, kill_goes, submits, asks, steps_on, kill_asked}
+use Rattle.std.proofs.Math.Bool.{or-false}
 
 -- the walk did all that the play did so far, or may go on
 abbrev pub Near : Case → At → Type 0
@@ -21,13 +22,9 @@ pub step_collects : (c : ℕ) (step : Step) (h : History) → (after_step c step
 step_collects c (Submit a method args) h = refl
 step_collects c step h = refl
 
-or_none : (y : Bool) → y ≡ (y || false)
-or_none true = refl
-or_none false = refl
-
 pub step_asks : (c a : ℕ) (step : Step) (h : History) → contains a (after_step c step h).asked ≡ (contains a h.asked || is_kill_of a step)
 step_asks c a (Kill b) h = contains_push a b h.asked
-step_asks c a step h = or_none (contains a h.asked)
+step_asks c a step h = sym (or-false (contains a h.asked))
 
 -- what makes a step one that the walk did
 record DidStep (x : Case) (p : At) (c : ℕ) (step : Step) : Type 0 where
@@ -100,7 +97,7 @@ bound_step x p c steps step at is next may = go (steps_on x p c steps step at is
 
         either : (contains a x.g.asked ≡ true) ⊎ (is_dead a x.g ≡ true) → (contains a x.g.asked || is_dead a x.g) ≡ true
         either (inl e) = ap (λ y. y || is_dead a x.g) e
-        either (inr e) = or_second (contains a x.g.asked) e
+        either (inr e) = or_right (contains a x.g.asked) _ e
 
     go : (steps_of c p + 1 ≤ x.done c) ⊎ Goal x → Near x (taken c step p)
     go (inr goal) = inr goal
@@ -238,7 +235,7 @@ kill_near x p a at may later = go (is_dead a x.g) refl
     h = p.history
 
     taken_here : contains a (h.killed ++ a ∷ []) ≡ true
-    taken_here = contains_push a a h.killed ∙ or_second (contains a h.killed) (eq-eqb a a refl)
+    taken_here = contains_push a a h.killed ∙ or_right (contains a h.killed) _ (eq-eqb a a refl)
 
     dead_after : is_dead a (add_event h (event.TakeKill a)) ≡ true
     dead_after = ap (λ y. y || has_terminated (runs_of a h)) taken_here

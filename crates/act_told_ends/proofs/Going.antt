@@ -9,7 +9,7 @@ use Rattle.act_told_ends.proofs.Common.{items_of, refusal_of, add_event, unanswe
 use Rattle.act_told_ends.proofs.Common.{slice_get_front, slice_get_last, calls_to_grow, option_map-none, option_or-none, option_or-none_second, needs-none}
 use Rattle.act_told_ends.proofs.Common.{run_needs, copies_named, arguments_stay, calls_to-at, limit_of-same, IsPrefix, At, steps_of, next_step, MayTake}
 use Rattle.act_told_ends.proofs.Common.{is_kill_of, option_or, nat_le, is_earlier, copies_held, CallLetter, SubmitRefused, Handle, NoSuchActor, NoCopy}
-use Rattle.act_told_ends.proofs.Common.{TooManyArgs, BadFuture, TooManyCalls, IsWorld, world, take_needs, or_second, either_of, not_so, IsReady, ready}
+use Rattle.act_told_ends.proofs.Common.{TooManyArgs, BadFuture, TooManyCalls, IsWorld, world, take_needs, or_right, either_of, not_so, IsReady, ready}
 use Rattle.act_told_ends.proofs.Common.{front_short, next_unanswered, IsAlike, may_take, Told, IsWalk, MayGoOn, Calls, Asks, Steps, Sends, Delivers, Runs}
 use Rattle.act_told_ends.proofs.Common.{TakesKill, letter_of, letter_place, front_whole}
 use Rattle.act_rules.specs.declared.event.Event.TheVariants as event
@@ -142,7 +142,7 @@ run_goes x p b c item at may e told same = letters (has_letter (letter_of b item
     allowed sent {o} caller at =
         let known = settled.0 in
         let free : (sent || not (is_some (kept_at (kept_of c g) call.0))) ≡ true =
-        or_second sent (ap (λ o. not (is_some o)) unanswered_yet) in
+        or_right sent _ (ap (λ o. not (is_some o)) unanswered_yet) in
         rw (caller, at, known, free) refl
 
     may_send : refusal_of g (event.Send c call.0) ≡ None
@@ -262,6 +262,14 @@ submits x p c a method args at free may later = go (cases_lt (length (calls_of c
     go (inl lt) = inl (omega (arith, lt))
     go (inr short) = inr (copies short (has_copies c a g named))
 
+-- whoever may ask for a kill has a copy of the handle
+pub ask_copies : (h : History) (c a : ℕ) → refusal_of h (event.AskKill c a) ≡ None → is_some (copies_of c a h) ≡ true
+ask_copies h c a may = some (copies_of c a h) (needs-none (is_caller c h) NoCaller (option_map Handle (handle_refusal (copies_of c a h))) may).1
+  where
+    some : (o : Option ℕ) → option_map Handle (handle_refusal o) ≡ None → is_some o ≡ true
+    some None e = cc
+    some (Some n) e = refl
+
 pub asks : (x : Case) (p : At) (c a : ℕ) → Here x p → x.bound c ≡ None → refusal_of p.history (event.AskKill c a) ≡ None → x.told.dead a ≡ true
     → ((contains a x.g.asked || is_dead a x.g) ≡ true) ⊎ Goal x
 asks x p c a at free may dead = go (contains a x.g.asked) refl
@@ -272,15 +280,11 @@ asks x p c a at free may dead = go (contains a x.g.asked) refl
     needed : (is_caller c p.history ≡ true) × (option_map Handle (handle_refusal (copies_of c a p.history)) ≡ None)
     needed = needs-none (is_caller c p.history) NoCaller (option_map Handle (handle_refusal (copies_of c a p.history))) may
 
-    some : (o : Option ℕ) → option_map Handle (handle_refusal o) ≡ None → is_some o ≡ true
-    some None e = cc
-    some (Some n) e = refl
-
     known : is_caller c x.g ≡ true
     known = caller_same c w at.setting.world ∙ needed.0
 
     named : names c (cast_of a x.g) ≡ true
-    named = ap (λ o. names c o) (cast_same a w at.setting.world) ∙ copies_named c a p.history (some (copies_of c a p.history) needed.1)
+    named = ap (λ o. names c o) (cast_same a w at.setting.world) ∙ copies_named c a p.history (ask_copies p.history c a may)
 
     copies : contains a x.g.asked ≡ false → (n : ℕ) × (copies_of c a x.g ≡ Some n) → Goal x
     copies never (zero, holds) = let bad : true ≡ false = sym (at.setting.walk.asks c a free holds dead) ∙ never in cc
@@ -315,4 +319,4 @@ kill_asked (step ∷ steps) n zero a e lt = absurd (omega (arith, lt))
 kill_asked (step ∷ steps) zero (suc m) a e lt =
     let same : step ≡ Kill a = cc in
     let indeed : is_kill_of a step ≡ true = ap (is_kill_of a) same ∙ eq-eqb a a refl in rw indeed refl
-kill_asked (step ∷ steps) (suc n) (suc m) a e lt = or_second (is_kill_of a step) (kill_asked steps n m a e (omega (arith, lt)))
+kill_asked (step ∷ steps) (suc n) (suc m) a e lt = or_right (is_kill_of a step) _ (kill_asked steps n m a e (omega (arith, lt)))

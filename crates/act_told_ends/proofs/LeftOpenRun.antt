@@ -6,7 +6,7 @@ use Rattle.act_told_ends.proofs.Common.{opening_of, calls_of, runs_of, kept_of, 
 use Rattle.act_told_ends.proofs.Common.{after_run, and_also, after, after_all, outcome_by, outcome_of, outcomes, slice_get_last, slice_get_front, run_stands}
 use Rattle.act_told_ends.proofs.Common.{run_needs, next_item_caller, kept_at_is, kept_by, answer_at-front, answer_in_stays, added_grows, filter_map-same}
 use Rattle.act_told_ends.proofs.Common.{All_weaker, IsSound, sound_step, IsSoundPost, one_place, IsNext, next_item_is, calls_to-at, Grows, ReplyPost}
-use Rattle.act_told_ends.proofs.Common.{next_unanswered, IsReplyForDeath, not_so}
+use Rattle.act_told_ends.proofs.Common.{next_unanswered, IsReplyForDeath, not_so, ran_on}
 use Rattle.act_rules.specs.declared.event.Event.TheVariants as event
 use Rattle.act_told_ends.proofs.Later.{IsLater}
 use Rattle.act_told_ends.proofs.Along.{after_is}
@@ -75,12 +75,9 @@ pub record IsRunOf (x : Open) (h : History) (posts : List Post) (a c : ℕ) (ite
 abbrev own_post : History → ℕ → ℕ → Post
 own_post h a c = ReplyPost c a (length (runs_of a h))
 
-abbrev ran : History → ℕ → ℕ → RunItem → History
-ran h a c item = after_run a c h (Some item)
-
 item_told : (x : Open) (h : History) (posts : List Post) (a c : ℕ) (item : RunItem) → IsRunOf x h posts a c item
     → slice_get (runs_of a x.last) (length (runs_of a h)) ≡ Some item
-item_told x h posts a c item r = slice_get_front (runs_of a (ran h a c item)) (runs_of a x.last) (length (runs_of a h)) (r.later.early.runs a)
+item_told x h posts a c item r = slice_get_front (runs_of a (ran_on h a c item)) (runs_of a x.last) (length (runs_of a h)) (r.later.early.runs a)
     (run_stands a h.ran item)
 
 is_put : (x : Open) (h : History) (posts : List Post) (a c : ℕ) (item : RunItem) → IsRunOf x h posts a c item → IsPut x (own_post h a c)
@@ -93,7 +90,7 @@ is_put x h posts a c item r = (
 
 -- its reply is the answer that stands for the death
 own_answer : (x : Open) (h : History) (posts : List Post) (a c : ℕ) (item : RunItem) (r : IsRunOf x h posts a c item)
-    → answer_of a (length (runs_of a h)) (ran h a c item) ≡ kept_at (x.kept c) item.future
+    → answer_of a (length (runs_of a h)) (ran_on h a c item) ≡ kept_at (x.kept c) item.future
 own_answer x h posts a c item r =
     let caller : item.caller ≡ c = next_item_caller a c h r.is in
     let reply : IsReplyForDeath x.casts x.told x.kept c item.future = replaced x c item.future r.put in
@@ -101,7 +98,7 @@ own_answer x h posts a c item r =
     let same : (reply.3.actor ≡ a) × (reply.3.place ≡ n) =
     one_place x.last a n reply.3.actor reply.3.place x.sound.order (item_told x h posts a c item r) caller refl
     (ap (λ l. slice_get l reply.3.place) (x.leaves.runs reply.3.actor) ∙ reply.3.at) reply.3.caller reply.3.future in
-    let opens : option_and_then (λ state. answer_at state (runs_of a x.last) n) (opening_of a (ran h a c item))
+    let opens : option_and_then (λ state. answer_at state (runs_of a x.last) n) (opening_of a (ran_on h a c item))
     ≡ option_and_then (λ state. answer_at state (runs_of a x.last) n) (opening_of a (opening x.casts)) =
     ap (λ casts. option_and_then (λ state. answer_at state (runs_of a x.last) n)
     (option_map (λ (cast : ActorSpec). cast.opening) (find (λ (cast : ActorSpec). cast.actor == a) casts))) r.beside.opened in
@@ -115,29 +112,30 @@ own_answer x h posts a c item r =
     ≡ option_and_then (λ state. answer_at state (x.told.runs reply.3.actor) reply.3.place) (opening_of reply.3.actor (opening x.casts)) =
     ap (λ l. option_and_then (λ state. answer_at state l reply.3.place) (opening_of reply.3.actor (opening x.casts)))
     (x.leaves.runs reply.3.actor) in
-    go (opening_of a (ran h a c item)) ∙ opens ∙ sym there ∙ told ∙ reply.3.is ∙ sym reply.2
+    go (opening_of a (ran_on h a c item)) ∙ opens ∙ sym there ∙ told ∙ reply.3.is ∙ sym reply.2
   where
     n : ℕ
     n = length (runs_of a h)
 
-    go : (o : Option KindState) → option_and_then (λ state. answer_at state (runs_of a (ran h a c item)) n) o
+    go : (o : Option KindState) → option_and_then (λ state. answer_at state (runs_of a (ran_on h a c item)) n) o
         ≡ option_and_then (λ state. answer_at state (runs_of a x.last) n) o
     go None = refl
-    go (Some state) = sym (answer_at-front state (runs_of a (ran h a c item)) (runs_of a x.last) n (r.later.early.runs a) (run_stands a h.ran item))
+    go (Some state) = sym (answer_at-front state (runs_of a (ran_on h a c item)) (runs_of a x.last) n (r.later.early.runs a) (run_stands a h.ran item))
 
 -- it is kept once it is collected
 own_kept : (x : Open) (h : History) (posts : List Post) (a c : ℕ) (item : RunItem) → IsRunOf x h posts a c item
-    → add_event (with_collected h posts) (event.Run a c) ≡ with_collected (ran h a c item) posts
-    → kept_at (kept_of c (with_collected (ran h a c item) (posts ++ own_post h a c ∷ []))) item.future ≡ kept_at (x.kept c) item.future
+    → add_event (with_collected h posts) (event.Run a c) ≡ with_collected (ran_on h a c item) posts
+    → kept_at (kept_of c (with_collected (ran_on h a c item) (posts ++ own_post h a c ∷ []))) item.future ≡ kept_at (x.kept c) item.future
 own_kept x h posts a c item r left =
     subst (λ k. kept_at (kept_of c f) k ≡ kept_at (x.kept c) item.future) future
-    (kept_at_is f c call.0 ∙ ap (kept_by f c call.0) stands ∙ go (answer_of a (length (runs_of a h)) (ran h a c item)) refl (own_answer x h posts a c item r))
+    (kept_at_is f c call.0 ∙ ap (kept_by f c call.0) stands
+    ∙ go (answer_of a (length (runs_of a h)) (ran_on h a c item)) refl (own_answer x h posts a c item r))
   where
     g : History
     g = with_collected h posts
 
     f : History
-    f = with_collected (ran h a c item) (posts ++ own_post h a c ∷ [])
+    f = with_collected (ran_on h a c item) (posts ++ own_post h a c ∷ [])
 
     is : IsNext a c h item
     is = next_item_is a c h r.is
@@ -154,31 +152,32 @@ own_kept x h posts a c item r left =
     answers : Post → Option Answer
     answers p = answer_in f c call.0 call.1.actor p
 
-    grows : Grows g (with_collected (ran h a c item) posts)
+    grows : Grows g (with_collected (ran_on h a c item) posts)
     grows = subst (λ k. Grows g k) left (added_grows g (event.Run a c))
 
     -- nothing answered it before
     none : slice_get (filter_map answers posts) 0 ≡ None
     none = ap (λ l. slice_get l 0) (filter_map-same answers (answer_in g c call.0 call.1.actor) posts
-        (All_weaker (IsSoundPost g) (λ p. answers p ≡ answer_in g c call.0 call.1.actor p) posts (λ p sound. answer_same (with_collected (ran h a c item) posts)
-        (posts ++ own_post h a c ∷ []) c call.0 call.1.actor p ∙ answer_in_stays g c call.0 call.1.actor grows p sound) r.beside.other.posts.collected)) ∙
+        (All_weaker (IsSoundPost g) (λ p. answers p ≡ answer_in g c call.0 call.1.actor p) posts (λ p sound. answer_same
+        (with_collected (ran_on h a c item) posts) (posts ++ own_post h a c ∷ []) c call.0 call.1.actor p
+        ∙ answer_in_stays g c call.0 call.1.actor grows p sound) r.beside.other.posts.collected)) ∙
         sym (ap (kept_by g c call.0) stands) ∙ sym (kept_at_is g c call.0) ∙ next_unanswered g a c r.beside.other is.at (run_needs h a c r.may).2
 
-    own : answers (own_post h a c) ≡ answer_of a (length (runs_of a h)) (ran h a c item)
-    own = ap (λ y. cond y (answer_of a (length (runs_of a h)) (ran h a c item)) None) (
-        and_from (c == c) (is_item_of c call.0 (slice_get (runs_of a (ran h a c item)) (length (runs_of a h)))) (eq-eqb c c refl)
+    own : answers (own_post h a c) ≡ answer_of a (length (runs_of a h)) (ran_on h a c item)
+    own = ap (λ y. cond y (answer_of a (length (runs_of a h)) (ran_on h a c item)) None) (
+        and_from (c == c) (is_item_of c call.0 (slice_get (runs_of a (ran_on h a c item)) (length (runs_of a h)))) (eq-eqb c c refl)
         (ap (λ o. is_item_of c call.0 o) (run_stands a h.ran item)
         ∙ and_from (item.caller == c) (item.future == call.0) (eq-eqb item.caller c (next_item_caller a c h r.is))
         (eq-eqb item.future call.0 (sym future))))
 
-    go : (o : Option Answer) → answer_of a (length (runs_of a h)) (ran h a c item) ≡ o → o ≡ kept_at (x.kept c) item.future
+    go : (o : Option Answer) → answer_of a (length (runs_of a h)) (ran_on h a c item) ≡ o → o ≡ kept_at (x.kept c) item.future
         → slice_get (filter_map answers (posts ++ own_post h a c ∷ [])) 0 ≡ kept_at (x.kept c) item.future
     go None e same = let bad : ◌≡◌ {A = Option Answer} None (Some (replaced x c item.future r.put).1) = same ∙ (replaced x c item.future r.put).2 in cc
     go (Some answer) e same = first_then answers posts (own_post h a c) none (own ∙ e) ∙ same
 
 -- the run of such a call, and the collecting of its reply
 run_goes : (x : Open) (h : History) (posts : List Post) (a c : ℕ) (item : RunItem) → IsRunOf x h posts a c item
-    → Goes x h posts (event.Run a c) (event.Collect (length h.posts) ∷ []) (ran h a c item)
+    → Goes x h posts (event.Run a c) (event.Collect (length h.posts) ∷ []) (ran_on h a c item)
 run_goes x h posts a c item r =
     let is_one : after g (event.Run a c) ≡ one = after_is g (event.Run a c) may_run ∙ left_one in
     record {
@@ -201,12 +200,12 @@ run_goes x h posts a c item r =
     g = with_collected h posts
 
     one : History
-    one = with_collected (ran h a c item) posts
+    one = with_collected (ran_on h a c item) posts
 
     two : History
-    two = with_collected (ran h a c item) (posts ++ own_post h a c ∷ [])
+    two = with_collected (ran_on h a c item) (posts ++ own_post h a c ∷ [])
 
-    is_ran : add_event h (event.Run a c) ≡ ran h a c item
+    is_ran : add_event h (event.Run a c) ≡ ran_on h a c item
     is_ran = ap (after_run a c h) r.is
 
     later : IsLater (add_event h (event.Run a c)) x.last
@@ -232,7 +231,7 @@ run_goes x h posts a c item r =
     stays d k put e = given_stays x one (event.Collect (length h.posts)) d k sound_one may_collect left_two put
         (given_stays x g (event.Run a c) d k r.beside.other may_run left_one put e)
 
-    given : (d k b place : ℕ) (other : RunItem) → is_replaced x d k ≡ true → slice_get (runs_of b (ran h a c item)) place ≡ Some other → other.caller ≡ d
+    given : (d k b place : ℕ) (other : RunItem) → is_replaced x d k ≡ true → slice_get (runs_of b (ran_on h a c item)) place ≡ Some other → other.caller ≡ d
         → other.future ≡ k → kept_at (kept_of d two) k ≡ kept_at (x.kept d) k
     given d k b place other put at caller future =
         ran_each (λ b place (other : RunItem). other.caller ≡ d → other.future ≡ k → kept_at (kept_of d two) k ≡ kept_at (x.kept d) k) h a c item

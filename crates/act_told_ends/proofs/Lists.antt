@@ -1,6 +1,6 @@
 -- Fronts of one list, what stands in a list, and what a pushed list holds.
-use Rattle.act_told_ends.proofs.Common.{◌≡◌, ℕ, zero, suc, ◌≤◌, Bool, cond, List, [], ◌∷◌, ◌++◌, length, take, Option, Some, None, inl, inr, ◌⊎◌, refl, ap, sym}
-use Rattle.act_told_ends.proofs.Common.{◌∙◌, subst, slice_get, filter, filter_map, cons_option, IsPrefix, take-prefix, take-front, slice_get_pushed, stands_in}
+use Rattle.act_told_ends.proofs.Common.{◌≡◌, ℕ, zero, suc, ◌≤◌, List, [], ◌∷◌, ◌++◌, length, take, Option, Some, None, inl, inr, ◌⊎◌, refl, ap, sym}
+use Rattle.act_told_ends.proofs.Common.{◌∙◌, subst, slice_get, filter_map, cons_option, IsPrefix, take-prefix, take-front, slice_get_pushed, stands_in}
 use Rattle.act_told_ends.proofs.Common.{gives_first}
 
 -- ---- fronts of one list
@@ -35,10 +35,3 @@ first_in {A = A} {B = B} f (x ∷ xs) y e = go (f x) refl (first_in f xs y) e
 pub some_first : {A B : Type 0} (f : A → Option B) (xs : List A) (i : ℕ) {x : A} (y : B) → slice_get xs i ≡ Some x → f x ≡ Some y
     → (z : B) × (slice_get (filter_map f xs) 0 ≡ Some z)
 some_first f xs i {x} y at gives = gives_first f xs x (stands_in xs i at) gives
-
--- ---- the same test, the same choice
-
--- tests that always agree keep the same items of a list
-pub filter_alike : {A : Type 0} (p q : A → Bool) (xs : List A) → ((x : A) → p x ≡ q x) → filter p xs ≡ filter q xs
-filter_alike p q [] same = refl
-filter_alike {A = A} p q (x ∷ xs) same = ap (λ b. cond b (x ∷ filter p xs) (filter p xs)) (same x) ∙ ap (λ l. cond (q x) (x ∷ l) l) (filter_alike p q xs same)

@@ -6,12 +6,13 @@ use Rattle.act_told_ends.proofs.Common.{callers_in, is_caller, calls_of, copies_
 use Rattle.act_told_ends.proofs.Common.{is_drained, has_letter, calls_to, handle_refusal, deliver_refusal, outcomes, history, ran_all, summary, At, IsPlay}
 use Rattle.act_told_ends.proofs.Common.{both_ways, NoteLetter, named_among, notes_sent, NotesSent, IsWorld, world, Told, Leaves, EndsAsTold, IsThrough}
 use Rattle.act_told_ends.proofs.Common.{MayRetire, LetsGo, Notes, Retires, IsToRetire, RetiredAsTold, last_note, letter_place}
-use Rattle.act_early.proofs.Listed.{all_actors, all_listed, cast_listed}
+use Rattle.act_early.proofs.Listed.{all_actors, cast_listed}
 use Rattle.act_early.proofs.Told.{same_told}
 use Rattle.act_told_ends.proofs.Bridge.{IsLate, late_play, free_play}
 use Rattle.act_told_ends.proofs.Covered.{cast_same}
 use Rattle.act_told_ends.proofs.Going.{has_copies, may_deliver}
 use Rattle.act_told_ends.proofs.Through.{world_of}
+use Rattle.act_rules.proofs.Elements.{all_listed}
 
 -- a play that ends as is told, and a walk that is through
 record IsRest (casts : List ActorSpec) (bound : ℕ → Option (List Step)) (told : Told) (plans : ℕ → List Step) (late : At) (g : History) : Type 0 where

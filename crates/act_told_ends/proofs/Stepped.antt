@@ -1,18 +1,17 @@
 -- A step in a walk, and all that may be done next.
 use Rattle.act_told_ends.proofs.Common.{◌≡◌, ℕ, ◌+◌, ◌-◌, ◌<◌, ◌≤◌, Bool, true, false, cond, List, [], ◌∷◌, ◌++◌, length, take, Option, Some, None, inl, inr}
-use Rattle.act_told_ends.proofs.Common.{◌⊎◌, refl, ap, sym, ◌∙◌, subst, arith, ◌==◌, ◌||◌, filter, filter_map, find, slice_get, list_any, list_any-append}
+use Rattle.act_told_ends.proofs.Common.{◌⊎◌, refl, ap, sym, ◌∙◌, subst, arith, ◌==◌, ◌||◌, filter, filter_map, find, slice_get, list_any}
 use Rattle.act_told_ends.proofs.Common.{filter_map-append, append-nil, eqb-true, eq-eqb, slice_get_within, Event, Submission, Step, Submit, Kill, Await, Answer}
-use Rattle.act_told_ends.proofs.Common.{kept_at, has_terminated, ActorSpec, History, opening, under, names, contains, cast_of, count_pairs, calls_of, copies_of}
-use Rattle.act_told_ends.proofs.Common.{runs_of, kept_of, is_dead, refusal_of, add_event, under-push, IsPrefix, slice_get_front, front_next, Grows, added_grows}
+use Rattle.act_told_ends.proofs.Common.{kept_at, ActorSpec, History, opening, under, names, contains, cast_of, count_pairs, calls_of, copies_of}
+use Rattle.act_told_ends.proofs.Common.{kept_of, is_dead, refusal_of, add_event, under-push, IsPrefix, slice_get_front, front_next, Grows, added_grows}
 use Rattle.act_told_ends.proofs.Common.{calls_grow, At, MayTake, after_step, is_kill_of, steps_of, take-at, take-past, past_none, take-prefix, step_runs}
 use Rattle.act_told_ends.proofs.Common.{step_kills, IsPrefix-filter_map, follows, submission_in, is_copy_of, is_release_of, submitted_one, copied_one}
-use Rattle.act_told_ends.proofs.Common.{released_one, counted, front_short, IsWorld, either_of, or_second, step_keeps, world_step, event_of, or_last}
+use Rattle.act_told_ends.proofs.Common.{released_one, counted, front_short, IsWorld, either_of, or_right, step_keeps, world_step, event_of}
 use Rattle.act_told_ends.proofs.Common.{opened_none, Told, IsWalk, DidFirst, EndsAsTold, submission_of, copies, releases, MayGoOn, Calls, Asks, Steps}
 use Rattle.act_told_ends.proofs.Common.{DoesWithout, Sends, Delivers, Runs, Collects, TakesKill, Tells, Hears, IsThrough, IsWalked, Begins, GoesOn, Mails}
-use Rattle.act_told_ends.proofs.Common.{Brings, gone_on, one_step_more, filter_map_alike, front_whole}
+use Rattle.act_told_ends.proofs.Common.{Brings, gone_on, one_step_more, filter_map_alike, front_whole, any_push}
 use Rattle.act_rules.proofs.Growth.{after_run_grows}
 use Rattle.act_rules.specs.declared.event.Event.TheVariants as event
-use Rattle.act_told_ends.proofs.Lists.{filter_alike}
 use Rattle.act_told_ends.proofs.Bridge.{IsLate, late_play}
 use Rattle.act_told_ends.proofs.Posted.{RunsPosted, CameBy, Replied, Died, came_by, posted_step, all_posted}
 use Rattle.act_told_ends.proofs.Covered.{same_submission, same_copy, same_release}
@@ -20,6 +19,8 @@ use Rattle.act_told_ends.proofs.Covers.{step_collects, step_asks}
 use Rattle.act_told_ends.proofs.Through.{world_of, stuck_in}
 use Rattle.act_told_ends.proofs.Walked.{IsGoing, new_kept, old_reply, told_death, hear_more, still_killed, quiet_going, kill_going, run_going, reply_going}
 use Rattle.act_told_ends.proofs.Walked.{death_going}
+use Rattle.act_early.proofs.Stepping.{step_dead}
+use Rattle.std.proofs.lemmas.List.Elements.{filter_agree}
 
 -- ---- what a step leaves as it was
 
@@ -30,11 +31,6 @@ step_grows c step h = added_grows h (event_of c step)
 step_retired : (c : ℕ) (step : Step) (h : History) → (after_step c step h).retired ≡ h.retired
 step_retired c (Submit a method args) h = refl
 step_retired c step h = refl
-
-step_dead : (c a : ℕ) (step : Step) (h : History) → is_dead a (after_step c step h) ≡ is_dead a h
-step_dead c a step h =
-    ap (λ l. contains a l || has_terminated (runs_of a (after_step c step h))) (step_kills c step h)
-    ∙ ap (λ l. contains a h.killed || has_terminated (under a l)) (step_runs c step h)
 
 -- an asked kill stays asked, and the dead dead
 still_asked : (c a : ℕ) (step : Step) (h : History) → (contains a h.asked ≡ true) ⊎ (is_dead a h ≡ true)
@@ -67,21 +63,20 @@ did_own c n step steps h at first =
     let all : take (n + 1) steps ≡ take n steps ++ step ∷ [] = take-at steps n at in
     let within : n < length steps = slice_get_within steps n step at in
     let asked_by : (a : ℕ) → list_any (is_kill_of a) (take (n + 1) steps) ≡ (list_any (is_kill_of a) (take n steps) || is_kill_of a step) =
-    λ a. ap (list_any (is_kill_of a)) all ∙ list_any-append (is_kill_of a) (take n steps) (step ∷ [])
-    ∙ or_last (list_any (is_kill_of a) (take n steps)) (is_kill_of a step) in
+    λ a. ap (list_any (is_kill_of a)) all ∙ any_push (is_kill_of a) (take n steps) step in
     record {
       calls = submitted_one c c step h ∙ ap (λ y. calls_of c h ++ filter_map submission_in (cond y (step ∷ []) [])) mine ∙ ap (λ l. calls_of c h ++ l)
           (filter_map_alike submission_in submission_of (step ∷ []) same_submission) ∙ ap (λ l. l ++ filter_map submission_of (step ∷ [])) first.calls ∙
           sym (filter_map-append submission_of (take n steps) (step ∷ [])) ∙ ap (filter_map submission_of) (sym all);
       copied = λ a. copied_one c c a step h ∙ ap (λ y. count_pairs c a h.copied + length (filter (is_copy_of a) (cond y (step ∷ []) []))) mine ∙
-          ap (λ l. count_pairs c a h.copied + length l) (filter_alike (is_copy_of a) (copies a) (step ∷ []) (same_copy a)) ∙
+          ap (λ l. count_pairs c a h.copied + length l) (filter_agree (is_copy_of a) (copies a) (same_copy a) (step ∷ [])) ∙
           counted (copies a) (take n steps) (step ∷ []) (take (n + 1) steps) (count_pairs c a h.copied) (first.copied a) all;
       released = λ a lt. released_one c c a step h ∙ ap (λ y. count_pairs c a h.released + length (filter (is_release_of a) (cond y (step ∷ []) []))) mine ∙
-          ap (λ l. count_pairs c a h.released + length l) (filter_alike (is_release_of a) (releases a) (step ∷ []) (same_release a)) ∙
+          ap (λ l. count_pairs c a h.released + length l) (filter_agree (is_release_of a) (releases a) (same_release a) (step ∷ [])) ∙
           counted (releases a) (take n steps) (step ∷ []) (take (n + 1) steps) (count_pairs c a h.released) (first.released a within) all;
       asked = λ a e. either_of (list_any (is_kill_of a) (take n steps)) (is_kill_of a step)
           ((contains a (after_step c step h).asked ≡ true) ⊎ (is_dead a (after_step c step h) ≡ true)) (sym (asked_by a) ∙ e)
-          (λ old. still_asked c a step h (first.asked a old)) (λ new. inl (step_asks c a step h ∙ or_second (contains a h.asked) new));
+          (λ old. still_asked c a step h (first.asked a old)) (λ new. inl (step_asks c a step h ∙ or_right (contains a h.asked) _ new));
     }
 
 -- a kill of a dead actor that it does without adds nothing
@@ -91,8 +86,7 @@ did_without c n a steps h at dead first =
     let all : take (n + 1) steps ≡ take n steps ++ Kill a ∷ [] = take-at steps n at in
     let no_more : (m : ℕ) → m ≡ m + 0 = λ m. omega arith in
     let asked_by : (b : ℕ) → list_any (is_kill_of b) (take (n + 1) steps) ≡ (list_any (is_kill_of b) (take n steps) || (a == b)) =
-    λ b. ap (list_any (is_kill_of b)) all ∙ list_any-append (is_kill_of b) (take n steps) (Kill a ∷ [])
-    ∙ or_last (list_any (is_kill_of b) (take n steps)) (a == b) in
+    λ b. ap (list_any (is_kill_of b)) all ∙ any_push (is_kill_of b) (take n steps) (Kill a) in
     record {
       calls = first.calls ∙ sym (append-nil (filter_map submission_of (take n steps))) ∙ sym (filter_map-append submission_of (take n steps) (Kill a ∷ []))
           ∙ ap (filter_map submission_of) (sym all);

@@ -3,7 +3,7 @@ use Rattle.act_told_ends.proofs.Common.{◌≡◌, ℕ, ◌≤◌, true, List, [
 use Rattle.act_told_ends.proofs.Common.{Answer, kept_at, has_terminated, ActorSpec, History, opening, contains, calls_of, runs_of, kept_of, is_dead, refusal_of}
 use Rattle.act_told_ends.proofs.Common.{add_event, history, after_all_keeps, At, steps_of, with_event, is_free, IsPlay, Opens, Takes, Skips, Closes, Happens}
 use Rattle.act_told_ends.proofs.Common.{world_sound, world_retires, both_ways, past_none, same_kept, kept_long, front_short, IsWorld, world, either_of}
-use Rattle.act_told_ends.proofs.Common.{world_step, or_second, Told, EndsAsTold, IsWalk, MayGoOn, IsThrough, front_whole}
+use Rattle.act_told_ends.proofs.Common.{world_step, or_right, Told, EndsAsTold, IsWalk, MayGoOn, IsThrough, front_whole}
 use Rattle.act_rules.specs.declared.event.Event.TheVariants as event
 use Rattle.act_told_ends.proofs.Bridge.{IsLate, late_play}
 use Rattle.act_told_ends.proofs.Later.{IsLater, later_same, later_trans, later_event, later_step}
@@ -104,7 +104,7 @@ through x at = record {
         (λ e. dead_covered g x.late a at (at.setting.end.leaves.dead a ∙ e))
       where
         ended_late : (a : ℕ) → has_terminated (runs_of a g) ≡ true → is_dead a late ≡ true
-        ended_late a ended = or_second (contains a late.killed) (ap has_terminated (at.setting.end.leaves.runs a ∙ sym (runs a)) ∙ ended)
+        ended_late a ended = or_right (contains a late.killed) _ (ap has_terminated (at.setting.end.leaves.runs a ∙ sym (runs a)) ∙ ended)
 
 -- ---- all of it
 

@@ -4,6 +4,7 @@ use Rattle.act_told_ends.proofs.Common.{sym, ◌∙◌, ◌==◌, slice_get, enu
 use Rattle.act_told_ends.proofs.Common.{calls_to, number_of, kept_at, is_known, settle, map-slice_get, slice_get-map, option_map, option_map-none, Plain, Fut}
 use Rattle.act_told_ends.proofs.Common.{is_earlier, settled_future, head_same, tail_same, arg_as_run, filter_mapped, take-map}
 use Rattle.act_types.specs.declared.call.Value.{Value}
+use Rattle.act_rules.proofs.AsSubmitted.{goes_to}
 
 -- ---- the same actors
 
@@ -37,22 +38,19 @@ number_same a k xs ys e = passing (λ (call : Submission). call.actor) (λ n. n 
 abbrev pub firsts : List (ℕ × Submission) → List ℕ
 firsts calls = map (λ (call : ℕ × Submission). call.0) calls
 
-abbrev to : ℕ → ℕ × Submission → Bool
-to a call = call.1.actor == a
-
 firsts_same : (a m : ℕ) (xs ys : List Submission) → actors xs ≡ actors ys
-    → firsts (filter (to a) (enumerate_from m xs)) ≡ firsts (filter (to a) (enumerate_from m ys))
+    → firsts (filter (goes_to a) (enumerate_from m xs)) ≡ firsts (filter (goes_to a) (enumerate_from m ys))
 firsts_same a m [] [] e = refl
 firsts_same a m [] (y ∷ ys) e = cc
 firsts_same a m (x ∷ xs) [] e = cc
 firsts_same a m (x ∷ xs) (y ∷ ys) e =
     both (x.actor == a) (firsts_same a (m + 1) xs ys (tail_same x.actor y.actor (actors xs) (actors ys) e))
-    ∙ ap (λ n. firsts (cond (n == a) ((m, y) ∷ filter (to a) (enumerate_from (m + 1) ys)) (filter (to a) (enumerate_from (m + 1) ys))))
+    ∙ ap (λ n. firsts (cond (n == a) ((m, y) ∷ filter (goes_to a) (enumerate_from (m + 1) ys)) (filter (goes_to a) (enumerate_from (m + 1) ys))))
     (head_same x.actor y.actor (actors xs) (actors ys) e)
   where
-    both : (b : Bool) → firsts (filter (to a) (enumerate_from (m + 1) xs)) ≡ firsts (filter (to a) (enumerate_from (m + 1) ys))
-        → firsts (cond b ((m, x) ∷ filter (to a) (enumerate_from (m + 1) xs)) (filter (to a) (enumerate_from (m + 1) xs)))
-        ≡ firsts (cond b ((m, y) ∷ filter (to a) (enumerate_from (m + 1) ys)) (filter (to a) (enumerate_from (m + 1) ys)))
+    both : (b : Bool) → firsts (filter (goes_to a) (enumerate_from (m + 1) xs)) ≡ firsts (filter (goes_to a) (enumerate_from (m + 1) ys))
+        → firsts (cond b ((m, x) ∷ filter (goes_to a) (enumerate_from (m + 1) xs)) (filter (goes_to a) (enumerate_from (m + 1) xs)))
+        ≡ firsts (cond b ((m, y) ∷ filter (goes_to a) (enumerate_from (m + 1) ys)) (filter (goes_to a) (enumerate_from (m + 1) ys)))
     both true e = ap (λ l. m ∷ l) e
     both false e = e
 

@@ -15,6 +15,7 @@ use Rattle.act_told_ends.proofs.Bridge.{IsLate}
 use Rattle.act_told_ends.proofs.Posted.{RunsPosted, CameBy, Replied, Died, came_by, reply_answers, posted_step}
 use Rattle.act_told_ends.proofs.Covered.{cast_same}
 use Rattle.act_rules.proofs.Table.{first_answer-same}
+use Rattle.act_rules.proofs.Events.{run_collected}
 
 -- what a walk keeps: it is one, and a death that it collected could be heard
 pub record IsGoing (casts : List ActorSpec) (bound : ℕ → Option (List Step)) (told : Told) (done : ℕ → ℕ) (h : History) : Type 0 where
@@ -202,9 +203,11 @@ run_going casts bound told done h a c item w next is may =
     free_going h (event.Run a c) w refl may (retired (next_item a c h))
     runs
     (λ d k answer none e. let bad : None ≡ Some answer = sym none
-    ∙ sym (quiet_kept h d k (added_grows h (event.Run a c)) w.world.sound (free_idle h (event.Run a c) refl).submitted (collected (next_item a c h))) ∙ e in cc)
+    ∙ sym (quiet_kept h d k (added_grows h (event.Run a c)) w.world.sound (free_idle h (event.Run a c) refl).submitted
+    (run_collected a c h (next_item a c h))) ∙ e in cc)
     (λ b e. (w.walk.dead b (ap (contains b) (sym (killed (next_item a c h))) ∙ e), last b (ap (contains b) (sym (killed (next_item a c h))) ∙ e)))
-    (λ i d b at. hear_more d h (added_grows h (event.Run a c)) w.world.sound (w.heard i d b (ap (λ l. slice_get l i) (sym (collected (next_item a c h))) ∙ at)))
+    (λ i d b at. hear_more d h (added_grows h (event.Run a c)) w.world.sound
+    (w.heard i d b (ap (λ l. slice_get l i) (sym (run_collected a c h (next_item a c h))) ∙ at)))
   where
     g : History
     g = add_event h (event.Run a c)
@@ -212,10 +215,6 @@ run_going casts bound told done h a c item w next is may =
     retired : (o : Option RunItem) → (after_run a c h o).retired ≡ h.retired
     retired None = refl
     retired (Some item) = refl
-
-    collected : (o : Option RunItem) → (after_run a c h o).collected ≡ h.collected
-    collected None = refl
-    collected (Some item) = refl
 
     killed : (o : Option RunItem) → (after_run a c h o).killed ≡ h.killed
     killed None = refl

@@ -3,11 +3,12 @@ use Rattle.act_walks.proofs.Common.{◌≡◌, ℕ, ◌+◌, ◌<◌, ◌≤◌,
 use Rattle.act_walks.proofs.Common.{subst, arith, find, is_none, cases_lt, eqb-true, eq-eqb, Event, Step, Kill, ActorSpec, History, contains, names, cast_of}
 use Rattle.act_walks.proofs.Common.{opening, history, ◌++◌, add_event, cond, if◌then◌else◌, contains_push, option_map_or, Told, ToldActor, ToldEnd, IsEager}
 use Rattle.act_walks.proofs.Common.{KillsAreAsked, bound_of, actor_in, callers_of, is_dead_in, step_of, Parts, done_in, IsEndOf, DoesEvent, AreAsked, IsAsking}
-use Rattle.act_walks.proofs.Common.{AsksFrom, SetsOut}
+use Rattle.act_walks.proofs.Common.{AsksFrom, SetsOut, or_right}
 use Rattle.act_rules.specs.declared.event.Event.TheVariants as event
 use Rattle.act_walks.proofs.Eager.{going_of, opened, asked}
 use Rattle.act_walks.proofs.Onward.{stands_event}
-use Rattle.act_owner.proofs.Waiting.{find_true}
+use Rattle.act_rules.proofs.Elements.{found_passes}
+use Rattle.act_rules.proofs.Ended.{contains_or}
 
 -- ---- who may ask
 
@@ -37,28 +38,15 @@ no_step end c a free d steps bound = go (c == d) refl
 -- ---- the actors below a number
 
 -- whose kill is asked once it was asked of one more
-pushed : (b a : ℕ) (asks : List ℕ) → contains b (asks ++ a ∷ []) ≡ true → (contains b asks ≡ true) ⊎ (a ≡ b)
-pushed b a asks has = go (contains b asks) refl (a == b) refl (sym (contains_push b a asks) ∙ has)
-  where
-    go : (x : Bool) → contains b asks ≡ x → (y : Bool) → (a == b) ≡ y → (contains b asks || (a == b)) ≡ true → (contains b asks ≡ true) ⊎ (a ≡ b)
-    go true is y same e = inl is
-    go false is true same e = inr (eqb-true a b same)
-    go false is false same e = let bad : (contains b asks || (a == b)) ≡ false = ap (λ x. x || (a == b)) is
-        ∙ same in let no_way : true ≡ false = sym e ∙ bad in cc
-
 more_asked : (end : ToldEnd) (told : Told) (c a : ℕ) (h : History) → AreAsked end told a h → AreAsked end told (a + 1) (add_event h (event.AskKill c a))
-more_asked end told c a h before = record { asked = each; only = λ b has. last b (pushed b a h.asked has) }
+more_asked end told c a h before = record { asked = each; only = λ b has. last b (contains_or h.asked b a has) }
   where
     each : (d b : ℕ) → 1 ≤ b → b < a + 1 → bound_of end d ≡ None → told.dead b ≡ true → names d (cast_of b h) ≡ true → contains b (h.asked ++ a ∷ []) ≡ true
     each d b from upto free dead named = contains_push b a h.asked ∙ go (cases_lt b a)
       where
         go : (b < a) ⊎ (a ≤ b) → (contains b h.asked || (a == b)) ≡ true
         go (inl lt) = ap (λ x. x || (a == b)) (before.asked d b from lt free dead named)
-        go (inr ge) = let same : a ≡ b = omega (arith, upto, ge) in either (contains b h.asked) (eq-eqb a b same)
-          where
-            either : (x : Bool) {y : Bool} → y ≡ true → (x || y) ≡ true
-            either true e = refl
-            either false e = e
+        go (inr ge) = let same : a ≡ b = omega (arith, upto, ge) in or_right (contains b h.asked) (a == b) (eq-eqb a b same)
 
     last : (b : ℕ) → (contains b h.asked ≡ true) ⊎ (a ≡ b) → b < a + 1
     last b (inl has) = let below : b < a = before.only b has in omega (arith, below)
@@ -97,7 +85,7 @@ asks_one end {c} a {actor} {old} {new} at dead first does = record {
 }
   where
     free : bound_of end c ≡ None
-    free = none_free (bound_of end c) (find_true (λ c. is_none (bound_of end c)) actor.callers.items c first)
+    free = none_free (bound_of end c) (found_passes (λ c. is_none (bound_of end c)) actor.callers.items first)
 
     not_yet : {told : Told} (h : History) → AreAsked end told a h → (b : Bool) → contains a h.asked ≡ b → contains a h.asked ≡ false
     not_yet h before true e = let below : a < a = before.only a e in absurd (omega (arith, below))

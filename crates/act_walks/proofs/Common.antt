@@ -1,5 +1,4 @@
 -- The names of specifications and of the crates below that most proofs here cite, passed on from one place.
-pub use Rattle.act_early.proofs.Choosing.{cast_known}
 pub use Rattle.act_early.proofs.Common.{ActorEnded, ActorSpec, All, All_at, Answer, At, Await, Bool, Contains, Contains-append_left, Copy, Err, Event, Grows}
 pub use Rattle.act_early.proofs.Common.{Handle, History, IsKept, IsOk, IsPrefix, IsSound, IsSoundPost, Kill, Letter, List, MayTake, NoActor, NoCaller, None}
 pub use Rattle.act_early.proofs.Common.{NotDead, Ok, Option, Outcome, Post, Release, Retires, RunItem, Sending, Some, Step, Submission, Submit, WorldRefusal}
@@ -12,9 +11,9 @@ pub use Rattle.act_early.proofs.Common.{nothing_follows_step, number_of, numbere
 pub use Rattle.act_early.proofs.Common.{outcomes, ran_count, refl, refusal_of, run_needs, runs_grow, runs_of, send_refusal, slice_get, slice_get-enumerate_from}
 pub use Rattle.act_early.proofs.Common.{slice_get-filter, slice_get_front, slice_get_last, slice_get_within, subst, suc, sym, take, take-append_seam, true}
 pub use Rattle.act_early.proofs.Common.{under, under-push, was_sent, world_retires, world_sound, zero, ℕ, ◌++◌, ◌+◌, ◌-◌, ◌<◌, ◌==◌, ◌||◌, ◌∙◌, ◌∷◌, ◌≡◌, ◌≤◌}
-pub use Rattle.act_early.proofs.Common.{◌⊎◌}
+pub use Rattle.act_early.proofs.Common.{ran_on, run_stands, ◌⊎◌}
 pub use Rattle.act_early.proofs.Unanswered.{next_unanswered, number_is}
-pub use Rattle.act_early.proofs.Worlds.{IsWorld, contains_push, either_of, take_needs, world}
+pub use Rattle.act_early.proofs.Worlds.{IsWorld, either_of, take_needs, world}
 pub use Rattle.act_executor.specs.PlanPlays.{DoesPlanIn, DoesStepIn, step_of}
 pub use Rattle.act_lists.proofs.Lists.{place_in, stands_in}
 pub use Rattle.act_plan_plays.proofs.Brought.{brought_kept, brought_release, brought_send}
@@ -24,7 +23,8 @@ pub use Rattle.act_plan_plays.proofs.Common.{is_dead_slot, is_death_to, is_known
 pub use Rattle.act_plan_plays.proofs.Common.{not_dead, option_map_or, replicate, shows_dead, shows_next, slice_set, stage_of_slot, world_view, ◌≢◌}
 pub use Rattle.act_plan_plays.proofs.Events.{done_of, post_mail, post_none}
 pub use Rattle.act_plan_plays.specs.Parts.{IsBrought, after_mail, after_move, after_post}
-pub use Rattle.act_rules.proofs.Ended.{NothingFollows}
+pub use Rattle.act_rules.proofs.Ended.{NothingFollows, contains_push}
+pub use Rattle.act_rules.proofs.Events.{some_cast}
 pub use Rattle.act_rules.proofs.Letters.{calls_to-number, has_last, has_letter-at}
 pub use Rattle.act_rules.proofs.Lists.{front_whole, option_map-none}
 pub use Rattle.act_rules.proofs.RanAll.{copies_named, named_call}
@@ -59,7 +59,7 @@ pub use Rattle.act_walks.specs.declared.told.ToldCall.{ToldCall}
 pub use Rattle.act_walks.specs.declared.told.ToldCaller.{ToldCaller}
 pub use Rattle.act_walks.specs.declared.told.ToldEnd.{ToldEnd}
 pub use Rattle.std.proofs.Common.{Bor, OnErr, Result, nat_lt, option_copied}
-pub use Rattle.std.proofs.lemmas.Bool.{ltb-false, or_cases, or_parts}
+pub use Rattle.std.proofs.lemmas.Bool.{ltb-false, or_cases, or_parts, or_right}
 pub use Rattle.std.proofs.lemmas.List.{map-append, take_all, take_more}
 pub use Rattle.std.proofs.lemmas.List.Elements.{All-append, All-cons, All-head, All-nil, All-tail}
 pub use Rattle.std.proofs.lemmas.Option.{slice_get-get_or, slice_get-map, slice_get_past}

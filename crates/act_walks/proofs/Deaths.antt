@@ -2,12 +2,12 @@
 use Rattle.act_walks.proofs.Common.{◌≡◌, ℕ, zero, suc, ◌+◌, ◌<◌, Bool, true, false, List, [], ◌∷◌, length, Option, Some, None, refl, ap, sym, ◌∙◌, subst, arith}
 use Rattle.act_walks.proofs.Common.{◌==◌, ◌||◌, Contains, slice_get, option_map, is_some, eqb-true, eq-eqb, map-slice_get, Event, Post, Submission, Answer}
 use Rattle.act_walks.proofs.Common.{Step, ActorSpec, History, history, names, cast_of, is_caller, kept_of, kept_at, is_dead, refusal_of, add_event, is_reply}
-use Rattle.act_walks.proofs.Common.{needs-none, NoCaller, NotDead, Handle, NoActor, needs, cast_known, ◌≤◌, ◌⊎◌, inl, inr, get_or, get_or_from_slice_get}
+use Rattle.act_walks.proofs.Common.{needs-none, NoCaller, NotDead, Handle, NoActor, needs, some_cast, ◌≤◌, ◌⊎◌, inl, inr, get_or, get_or_from_slice_get}
 use Rattle.act_walks.proofs.Common.{cases_lt, IsBehind, WorldView, SlotView, Died, Ended, Vacant, IsStage, stage_of_slot, is_dead_slot, Refines, IsOwnerOf}
 use Rattle.act_walks.proofs.Common.{is_death_to, shows_dead, option_map_or, Did, copies_in, OwnerView, is_known_dead, list_any, not_dead, length-map}
 use Rattle.act_walks.proofs.Common.{slice_get-map, DeathPost, Told, MayHear, Left, Open, Reply, Death, ToldCall, ToldEnd, SomeEnd, IsEager, Fits, FitsLeft}
 use Rattle.act_walks.proofs.Common.{bound_of, calls_in, submission_of_call, Parts, done_in, Moves, NoTell, Does, HearsNow, Hears, lets_hear, answer_lets}
-use Rattle.act_walks.proofs.Common.{AllLetHear, place_in}
+use Rattle.act_walks.proofs.Common.{AllLetHear, place_in, or_right}
 use Rattle.act_plan_plays.proofs.Common.{Runs}
 use Rattle.act_plan_plays.proofs.Done.{names_copies}
 use Rattle.act_plan_plays.proofs.Moving.{told_place}
@@ -43,7 +43,7 @@ not_shown end c a h {world} behind hidden = record {
   none = λ _ told fits few hears never may.
       let needed = tell_needs h a c may in
       let refines : Refines h world = subst (λ g. Refines g world) (sym behind.is) behind.reached in
-      let bad : true ≡ false = sym (dead_slot h a (slice_get world.slots a) (refines.actors a) (cast_known (cast_of a h) c needed.1) needed.2) ∙ hidden in cc;
+      let bad : true ≡ false = sym (dead_slot h a (slice_get world.slots a) (refines.actors a) (some_cast c (cast_of a h) needed.1) needed.2) ∙ hidden in cc;
 }
 
 pub no_caller : (end : ToldEnd) (c a : ℕ) (h : History) → is_caller c h ≡ false → Hears end c a h false
@@ -58,11 +58,7 @@ at_any : (c a i : ℕ) (posts : List Post) → slice_get posts i ≡ Some (Death
 at_any c a i [] at = cc
 at_any c a zero (post ∷ posts) at =
     let is : post ≡ DeathPost c a = cc in ap (λ p. is_death_to c a p || list_any (is_death_to c a) posts) is ∙ rw (eq-eqb c c refl, eq-eqb a a refl) refl
-at_any c a (suc i) (post ∷ posts) at = second (is_death_to c a post) (at_any c a i posts at)
-  where
-    second : (x : Bool) {y : Bool} → y ≡ true → (x || y) ≡ true
-    second true e = refl
-    second false e = e
+at_any c a (suc i) (post ∷ posts) at = or_right (is_death_to c a post) _ (at_any c a i posts at)
 
 known_death : (h : History) (c a : ℕ) {owner : OwnerView} → IsOwnerOf h c owner → Contains h.collected (DeathPost c a) → is_known_dead owner a ≡ true
 known_death h c a is has = let place = place_in h.collected (DeathPost c a) has in is.deaths a ∙ at_any c a place.0 h.collected place.1

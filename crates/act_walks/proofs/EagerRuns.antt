@@ -1,11 +1,11 @@
 -- A run that is told, whose reply is kept at once or lost, and a death that is heard at once, leave a walk eager.
 use Rattle.act_walks.proofs.Common.{◌≡◌, ℕ, true, false, List, [], ◌∷◌, ◌++◌, length, Option, Some, None, inl, inr, ◌⊎◌, refl, ap, sym, ◌∙◌, subst, Contains}
-use Rattle.act_walks.proofs.Common.{cond, slice_get, is_some, eq-eqb, RunItem, Post, Step, Answer, kept_at, ActorSpec, History, calls_of, runs_of, kept_of}
-use Rattle.act_walks.proofs.Common.{next_item, refusal_of, add_event, after_run, and_also, under-push, Grows, added_grows, runs_grow, IsSound, IsSoundPost}
+use Rattle.act_walks.proofs.Common.{slice_get, is_some, RunItem, Post, Step, Answer, kept_at, ActorSpec, History, calls_of, runs_of, kept_of}
+use Rattle.act_walks.proofs.Common.{next_item, refusal_of, add_event, after_run, and_also, Grows, added_grows, runs_grow, IsSound, IsSoundPost}
 use Rattle.act_walks.proofs.Common.{IsPrefix, All_at, slice_get_front, slice_get_last, run_needs, is_reply, At, Contains-append_left, ReplyPost, DeathPost}
 use Rattle.act_walks.proofs.Common.{next_unanswered, IsWorld, world, Told, Runs, Collects, Tells, IsNextRun, MayHear, IsWalked, IsLate, late_play, push_at}
 use Rattle.act_walks.proofs.Common.{IsGoing, hear_more, quiet_kept, collect_may, IsBrought, brought_kept, SomeEnd, RepliesAreKept, DeathsAreHeard, IsEager}
-use Rattle.act_walks.proofs.Common.{place_in, stands_in}
+use Rattle.act_walks.proofs.Common.{place_in, stands_in, run_stands, ran_on}
 use Rattle.act_rules.proofs.Growth.{after_run_grows}
 use Rattle.act_rules.specs.declared.event.Event.TheVariants as event
 use Rattle.act_early.proofs.Items.{ready, same_item}
@@ -82,25 +82,18 @@ may_run casts bound told s done h e a item next may some = go (next_item a item.
       may = may;
     }
 
-abbrev ran : ℕ → RunItem → History → History
-ran a item h = after_run a item.caller h (Some item)
-
 abbrev reply_of : ℕ → RunItem → History → Post
 reply_of a item h = ReplyPost item.caller a (length (runs_of a h))
 
 run_walked : (casts : List ActorSpec) (bound : ℕ → Option (List Step)) (told : Told) (done : ℕ → ℕ) (h : History) (a : ℕ) (item : RunItem)
-    → MayRun casts bound told done h a item → IsWalked casts bound told done (ran a item h)
+    → MayRun casts bound told done h a item → IsWalked casts bound told done (ran_on h a item.caller item)
 run_walked casts bound told done h a item r =
     subst (λ o. IsWalked casts bound told done (after_run a item.caller h o)) r.is
     (GoesOn done h (Runs a item r.next r.is r.may) r.eager.walked)
 
-run_stands : (h : History) (a : ℕ) (item : RunItem) → slice_get (runs_of a (ran a item h)) (length (runs_of a h)) ≡ Some item
-run_stands h a item = ap (λ l. slice_get l (length (runs_of a h)))
-    (under-push a a h.ran item ∙ ap (λ b. runs_of a h ++ cond b (item ∷ []) []) (eq-eqb a a refl)) ∙ slice_get_last (runs_of a h) item
-
 -- a reply that is posted once it ran was posted before, or is the new one, of this item
 which_reply : (P : ℕ → ℕ → Type 0) (h : History) (a : ℕ) (item : RunItem) (j d b place : ℕ) (other : RunItem)
-    → slice_get (h.posts ++ reply_of a item h ∷ []) j ≡ Some (ReplyPost d b place) → slice_get (runs_of b (ran a item h)) place ≡ Some other
+    → slice_get (h.posts ++ reply_of a item h ∷ []) j ≡ Some (ReplyPost d b place) → slice_get (runs_of b (ran_on h a item.caller item)) place ≡ Some other
     → (slice_get h.posts j ≡ Some (ReplyPost d b place) → P d other.future) → P item.caller item.future → P d other.future
 which_reply P h a item j d b place other at there old new = go (push_at h.posts (reply_of a item h) j at)
   where
@@ -109,10 +102,10 @@ which_reply P h a item j d b place other at there old new = go (push_at h.posts 
     go (inr last) =
         let post : ReplyPost d b place ≡ ReplyPost item.caller a (length (runs_of a h)) = last.1 in
         let caller : d ≡ item.caller = cc in let actor : b ≡ a = cc in let here : place ≡ length (runs_of a h) = cc in
-        let first : slice_get (runs_of a (ran a item h)) (length (runs_of a h)) ≡ Some other =
-        subst (λ n. slice_get (runs_of n (ran a item h)) (length (runs_of a h)) ≡ Some other) actor
-        (subst (λ n. slice_get (runs_of b (ran a item h)) n ≡ Some other) here there) in
-        let both : Some item ≡ Some other = sym (run_stands h a item) ∙ first in let one : item ≡ other = cc in
+        let first : slice_get (runs_of a (ran_on h a item.caller item)) (length (runs_of a h)) ≡ Some other =
+        subst (λ n. slice_get (runs_of n (ran_on h a item.caller item)) (length (runs_of a h)) ≡ Some other) actor
+        (subst (λ n. slice_get (runs_of b (ran_on h a item.caller item)) n ≡ Some other) here there) in
+        let both : Some item ≡ Some other = sym (run_stands a h.ran item) ∙ first in let one : item ≡ other = cc in
         subst (λ n. P n other.future) (sym caller) (subst (λ (i : RunItem). P item.caller i.future) one new)
 
 -- a death that is posted once it ran was posted before
@@ -140,7 +133,7 @@ lost casts bound told done h a item r none = record {
 }
   where
     g : History
-    g = ran a item h
+    g = ran_on h a item.caller item
 
     grows : Grows h g
     grows = after_run_grows a item.caller h (Some item)
@@ -158,7 +151,7 @@ ran_lost casts {bound} told s {done} h e a item next may some none =
 
 -- the call that runs has no answer before
 unanswered : (casts : List ActorSpec) (bound : ℕ → Option (List Step)) (told : Told) (done : ℕ → ℕ) (h : History) (a : ℕ) (item : RunItem)
-    → MayRun casts bound told done h a item → kept_at (kept_of item.caller (ran a item h)) item.future ≡ None
+    → MayRun casts bound told done h a item → kept_at (kept_of item.caller (ran_on h a item.caller item)) item.future ≡ None
 unanswered casts bound told done h a item r =
     let sound = (going_of r.some r.eager.walked).world.sound in let is = ready a item.caller h item sound r.is in
     let none = next_unanswered h a item.caller sound is.next.at (run_needs h a item.caller r.may).2 in
@@ -167,7 +160,7 @@ unanswered casts bound told done h a item r =
 
 kept_now : (casts : List ActorSpec) (bound : ℕ → Option (List Step)) (told : Told) (done : ℕ → ℕ) (h : History) (a : ℕ) (item : RunItem)
     → MayRun casts bound told done h a item → is_reply (kept_at (told.kept item.caller) item.future) ≡ true
-    → IsEager casts bound told done (add_event (ran a item h) (event.Collect (length h.posts)))
+    → IsEager casts bound told done (add_event (ran_on h a item.caller item) (event.Collect (length h.posts)))
 kept_now casts bound told done h a item r reply = record {
   walked = walked;
   brought = brought_kept g (event.Collect (length h.posts)) (collect_may g (length h.posts) at) refl (subst (λ o. IsBrought (after_run a item.caller h o)) r.is
@@ -180,7 +173,7 @@ kept_now casts bound told done h a item r reply = record {
 }
   where
     g : History
-    g = ran a item h
+    g = ran_on h a item.caller item
 
     q : History
     q = add_event g (event.Collect (length h.posts))
@@ -204,7 +197,7 @@ kept_now casts bound told done h a item r reply = record {
     at = slice_get_last h.posts new
 
     walked : IsWalked casts bound told done q
-    walked = GoesOn done g (Collects (length h.posts) item.caller a (length (runs_of a h)) item at (run_stands h a item) reply
+    walked = GoesOn done g (Collects (length h.posts) item.caller a (length (runs_of a h)) item at (run_stands a h.ran item) reply
         (unanswered casts bound told done h a item r)) (run_walked casts bound told done h a item r)
 
     w : IsWorld casts q
@@ -214,7 +207,7 @@ kept_now casts bound told done h a item r reply = record {
     has = ap (λ o. slice_get (and_also h.collected o) (length h.collected)) at ∙ slice_get_last h.collected new
 
     kept : (answer : Answer) × (kept_at (kept_of item.caller q) item.future ≡ Some answer)
-    kept = reply_answers q item.caller a (length (runs_of a h)) (length h.collected) w.sound w.retires.named has (run_stands h a item) refl
+    kept = reply_answers q item.caller a (length (runs_of a h)) (length h.collected) w.sound w.retires.named has (run_stands a h.ran item) refl
 
 pub ran_kept : (casts : List ActorSpec) {bound : ℕ → Option (List Step)} (told : Told) → SomeEnd casts bound told → {done : ℕ → ℕ} (h : History) →
     IsEager casts bound told done h → (a : ℕ) (item : RunItem) → IsNextRun told a h item → refusal_of h (event.Run a item.caller) ≡ None → is_some (next_item a
@@ -224,7 +217,7 @@ ran_kept casts {bound} told s {done} h e a item next may some reply =
     let r = may_run casts bound told s done h e a item next may some in
     subst (λ o. (refusal_of (after_run a item.caller h o) (event.Collect (length h.posts)) ≡ None)
     × IsEager casts bound told done (add_event (after_run a item.caller h o) (event.Collect (length h.posts)))) (sym r.is) (
-      collect_may (ran a item h) (length h.posts) (slice_get_last h.posts (reply_of a item h)),
+      collect_may (ran_on h a item.caller item) (length h.posts) (slice_get_last h.posts (reply_of a item h)),
       kept_now casts bound told done h a item r reply,
     )
 

@@ -1,7 +1,7 @@
 -- How a walk rests: events of that time one after the other.
 use Rattle.act_walks.proofs.Common.{◌≡◌, ℕ, ◌+◌, ◌<◌, ◌≤◌, ◌==◌, nat_lt, length, get_or, take, arith, Bool, true, false, List, [], ◌∷◌, ◌++◌, Option, Some}
 use Rattle.act_walks.proofs.Common.{None, Result, Ok, Err, inl, inr, ◌⊎◌, refl, ap, sym, ◌∙◌, subst, append_assoc, OnOk, OnErr, is_some, option_map, slice_get}
-use Rattle.act_walks.proofs.Common.{get_or_from_slice_get, slice_get-get_or, slice_get_within, Vec, option_map_or, cases_lt, eqb-true, or_cases, append-nil}
+use Rattle.act_walks.proofs.Common.{get_or_from_slice_get, slice_get_within, Vec, option_map_or, cases_lt, eqb-true, or_cases, append-nil}
 use Rattle.act_walks.proofs.Common.{take_more, All-append, All-cons, All-nil, Event, Did, WorldRefusal, ActorSpec, History, opening, contains, cast_of, names}
 use Rattle.act_walks.proofs.Common.{is_caller, copies_of, history, refusal_of, outcome_of, outcome_by, did, add_event, after, needs, NoActor, Handle, NoCaller}
 use Rattle.act_walks.proofs.Common.{Step, needs-none, option_map-none, copies_named, contains_push, WorldView, IsBehind, after_mail, after_post, done_of, Told}
@@ -212,9 +212,6 @@ pub settled_all : (n : ℕ) (actors : List ToldActor) (world : WorldView) (event
 settled_all n actors world events whole settled a actor at told = let within = slice_get_within actors a actor at in settled a actor (omega arith) at told
 
 -- ---- what is told
-
-pub item_there : (actors : List ToldActor) (n : ℕ) (one : ToldActor) → n < length actors → one ≡ get_or actors n one → slice_get actors n ≡ Some one
-item_there actors n one within is = slice_get-get_or actors n one within ∙ ap (λ x. Some x) (sym is)
 
 -- an actor that the data says retired is told so
 pub says_retired : {end : ToldEnd} (a : ℕ) (actor : ToldActor) (told : Told) → slice_get end.actors.items a ≡ Some actor → Fits end told

@@ -5,10 +5,10 @@ use Rattle.act_walks.proofs.Common.{opening, history, contains, names, cast_of, 
 use Rattle.act_walks.proofs.Common.{after_run, needs-none, copy_refusal, copies_named, MayTake, IsKept, after_all_keeps, run_needs, first_answer, map, eqb-true}
 use Rattle.act_walks.proofs.Common.{Retires, ◌≤◌, enumerate_from, named_call, contains_push, either_of, take_needs, Told, IsThrough, IsGoing, ToldEnd}
 use Rattle.act_walks.proofs.Common.{FitsCasts, bound_of, Parts, done_in, IsEndOf, IsWalking, GoesOn, Moves, NoMove, ComesThrough, or_parts}
-use Rattle.act_early.proofs.Common.{handle_refusal}
 use Rattle.act_rules.proofs.Retired.{submit_needs}
 use Rattle.act_rules.specs.declared.event.Event.TheVariants as event
 use Rattle.act_told_ends.proofs.Asked.{can_ask}
+use Rattle.act_told_ends.proofs.Going.{ask_copies}
 use Rattle.act_walks.proofs.Eager.{going_of}
 use Rattle.act_walks.proofs.Stuck.{stuck}
 use Rattle.act_walks.proofs.Comes.{comes, post_casts}
@@ -20,13 +20,6 @@ use Rattle.act_walks.proofs.Onward.{Nothing, goes_trans}
 -- an actor whose kill was asked is named
 abbrev AskedAreNamed : History → Type 0
 AskedAreNamed h = (a : ℕ) → contains a h.asked ≡ true → (c : ℕ) × (names c (cast_of a h) ≡ true)
-
-ask_copies : (h : History) (c a : ℕ) → refusal_of h (event.AskKill c a) ≡ None → is_some (copies_of c a h) ≡ true
-ask_copies h c a may = some (copies_of c a h) (needs-none (is_caller c h) NoCaller (option_map Handle (handle_refusal (copies_of c a h))) may).1
-  where
-    some : (o : Option ℕ) → option_map Handle (handle_refusal o) ≡ None → is_some o ≡ true
-    some None e = cc
-    some (Some n) e = refl
 
 copy_copies : (h : History) (c a : ℕ) → refusal_of h (event.Copy c a) ≡ None → is_some (copies_of c a h) ≡ true
 copy_copies h c a may = some (copies_of c a h) (needs-none (is_caller c h) NoCaller (option_map Handle (copy_refusal (copies_of c a h))) may).1

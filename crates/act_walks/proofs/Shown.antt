@@ -2,7 +2,7 @@
 use Rattle.act_walks.proofs.Common.{◌≡◌, ℕ, Bool, true, false, cond, List, [], ◌∷◌, ◌++◌, length, Option, Some, None, refl, ap, sym, ◌∙◌, subst, ◌==◌, map}
 use Rattle.act_walks.proofs.Common.{slice_get, is_some, eqb-true, under-push, append-nil, Event, RunItem, Submission, ActorSpec, History, opening, cast_of}
 use Rattle.act_walks.proofs.Common.{is_caller, calls_of, kept_of, runs_of, first_answer, kept_at, next_item, after_run, IsKept, after_all_keeps, run_needs}
-use Rattle.act_walks.proofs.Common.{Retires, world_retires, cast_known, WorldView, IsBehind, named_call, named_among, enumerate_from, Bor, option_copied}
+use Rattle.act_walks.proofs.Common.{Retires, world_retires, some_cast, WorldView, IsBehind, named_call, named_among, enumerate_from, Bor, option_copied}
 use Rattle.act_walks.proofs.Common.{nat_lt, get_or, ltb-false, slice_get_past}
 use Rattle.act_rules.specs.declared.event.Event.TheVariants as event
 use Rattle.act_world.proofs.Lists.{read_is}
@@ -43,7 +43,7 @@ run_cast h b c a (Some item) cast some none = under-push a b h.ran item ∙ go (
 
 cast_step : IsKept RunsAreCast
 cast_step h (event.Run b c) cast may = λ a none.
-    run_cast h b c a (next_item b c h) cast (cast_known (cast_of b h) c (run_needs h b c may).1) (casts (next_item b c h) a none)
+    run_cast h b c a (next_item b c h) cast (some_cast c (cast_of b h) (run_needs h b c may).1) (casts (next_item b c h) a none)
   where
     casts : (o : Option RunItem) (a : ℕ) → cast_of a (after_run b c h o) ≡ None → cast_of a h ≡ None
     casts None a e = e

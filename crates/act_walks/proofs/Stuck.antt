@@ -1,13 +1,15 @@
 -- Where an eager walk can do nothing of what is told, it is through.
 use Rattle.act_walks.proofs.Common.{◌≡◌, ℕ, true, false, List, [], ◌∷◌, ◌++◌, length, Option, Some, None, inl, inr, ◌⊎◌, refl, ap, sym, ◌∙◌, subst, Contains}
-use Rattle.act_walks.proofs.Common.{slice_get, is_some, not, not-true, option_map, Letter, RunItem, Post, Submission, Step, Handle, NoCaller, ActorEnded}
-use Rattle.act_walks.proofs.Common.{ActorSpec, History, opening, contains, names, cast_of, is_caller, copies_of, calls_of, runs_of, is_dead, is_ended}
-use Rattle.act_walks.proofs.Common.{has_letter, next_item, refusal_of, add_event, after_run, and_also, letter_actor, deliver_refusal, needs-none, copies_named}
+use Rattle.act_walks.proofs.Common.{slice_get, is_some, not, not-true, Letter, RunItem, Post, Submission, Step, ActorEnded}
+use Rattle.act_walks.proofs.Common.{ActorSpec, History, opening, contains, names, cast_of, calls_of, runs_of, is_dead, is_ended}
+use Rattle.act_walks.proofs.Common.{has_letter, next_item, refusal_of, add_event, and_also, letter_actor, deliver_refusal, needs-none, copies_named}
 use Rattle.act_walks.proofs.Common.{MayTake, IsKept, after_all_keeps, Contains-append_left, IsPrefix, added_grows, DeathPost, Kill, Told, MayGoOn, Calls, Asks}
 use Rattle.act_walks.proofs.Common.{DoesWithout, Sends, Delivers, Runs, Collects, TakesKill, Tells, IsThrough, IsNextRun, MayHear, IsWalked, push_at}
-use Rattle.act_walks.proofs.Common.{walked_left, goes_on, IsBrought, SomeEnd, IsEager, KillsAreAsked, IsAtRest, place_in, stands_in, has_letter-at}
-use Rattle.act_early.proofs.Common.{handle_refusal}
+use Rattle.act_walks.proofs.Common.{walked_left, IsBrought, SomeEnd, IsEager, KillsAreAsked, IsAtRest, place_in, stands_in, has_letter-at}
 use Rattle.act_rules.specs.declared.event.Event.TheVariants as event
+use Rattle.act_rules.proofs.Events.{run_collected}
+use Rattle.act_told_ends.proofs.Deciding.{stuck_through}
+use Rattle.act_told_ends.proofs.Going.{ask_copies}
 use Rattle.act_told_ends.specs.Walks.{Steps, Hears}
 use Rattle.act_walks.proofs.Eager.{going_of}
 
@@ -33,11 +35,8 @@ collect_posted h j was post has = go (slice_get h.posts j) refl has
     go (Some new) at has = let place = place_in (h.collected ++ new ∷ []) post has in either new place.0 at (push_at h.collected new place.0 place.1)
 
 was_posted_step : IsKept WasPosted
-was_posted_step h (event.Run a c) was may = more_posted h (add_event h (event.Run a c)) was (same (next_item a c h)) (added_grows h (event.Run a c)).posts
-  where
-    same : (o : Option RunItem) → (after_run a c h o).collected ≡ h.collected
-    same None = refl
-    same (Some item) = refl
+was_posted_step h (event.Run a c) was may =
+    more_posted h (add_event h (event.Run a c)) was (run_collected a c h (next_item a c h)) (added_grows h (event.Run a c)).posts
 was_posted_step h (event.Collect j) was may = collect_posted h j was
 was_posted_step h (event.Tell a c) was may = more_posted h (add_event h (event.Tell a c)) was refl (added_grows h (event.Tell a c)).posts
 was_posted_step h other was may = was
@@ -61,12 +60,7 @@ has_arrived h i {letter} brought at may = brought letter (has_letter-at h.mail i
 
 -- whoever may ask for a kill is named by the cast
 ask_named : (h : History) (c a : ℕ) → refusal_of h (event.AskKill c a) ≡ None → names c (cast_of a h) ≡ true
-ask_named h c a may = copies_named c a h
-    (some (copies_of c a h) (needs-none (is_caller c h) NoCaller (option_map Handle (handle_refusal (copies_of c a h))) may).1)
-  where
-    some : (o : Option ℕ) → option_map Handle (handle_refusal o) ≡ None → is_some o ≡ true
-    some None e = cc
-    some (Some n) e = refl
+ask_named h c a may = copies_named c a h (ask_copies h c a may)
 
 pub stuck : (casts : List ActorSpec) (bound : ℕ → Option (List Step)) (told : Told) → SomeEnd casts bound told → (done : ℕ → ℕ) (h : History) → IsEager casts
     bound told done h → KillsAreAsked bound told h → ((c : ℕ) (call : Submission) → bound c ≡ None → slice_get (told.calls c) (length (calls_of c h)) ≡
@@ -76,7 +70,7 @@ pub stuck : (casts : List ActorSpec) (bound : ℕ → Option (List Step)) (told 
     ((a : ℕ) (item : RunItem) → IsNextRun told a h item → next_item a item.caller h ≡ Some item → refusal_of h (event.Run a item.caller) ≡ None → ⊥) →
     ((a : ℕ) → told.dead a ≡ true → length (runs_of a h) ≡ length (told.runs a) → refusal_of h (event.TakeKill a) ≡ None → ⊥) →
     ((c a : ℕ) → MayHear told c a h → (Contains h.collected (DeathPost c a) → ⊥) → refusal_of h (event.Tell a c) ≡ None → ⊥) → IsThrough bound told done h
-stuck casts bound told s done h e kills calls steps without sends runs takes tells = go (goes_on casts bound told s.0 done h s.1 e.walked)
+stuck casts bound told s done h e kills calls steps without sends runs takes tells = stuck_through casts bound told done h e.walked none s.0 s.1
   where
     none : MayGoOn bound told done h → ⊥
     none (Calls c call free next may) = calls c call free next may
@@ -91,10 +85,6 @@ stuck casts bound told s done h e kills calls steps without sends runs takes tel
     none (TakesKill a dead last may) = takes a dead (ap (λ items. length items) last) may
     none (Tells c a hears untold may) = tells c a hears (λ has. untold (was_posted casts bound told done h e.walked (DeathPost c a) has)) may
     none (Hears j c a hears unheard at) = unheard (e.heard j c a at)
-
-    go : IsThrough bound told done h ⊎ MayGoOn bound told done h → IsThrough bound told done h
-    go (inl through) = through
-    go (inr thing) = absurd (none thing)
 
 pub at_rest : (casts : List ActorSpec) {bound : ℕ → Option (List Step)} (told : Told) → SomeEnd casts bound told → {done : ℕ → ℕ} {h : History}
     → IsEager casts bound told done h → IsThrough bound told done h → IsAtRest told h

@@ -1,31 +1,15 @@
 -- The whole walk.
 use Rattle.act_walks.proofs.Common.{◌≡◌, ℕ, zero, suc, ◌+◌, ◌<◌, ◌≤◌, Bool, true, false, List, [], length, inl, inr, ◌⊎◌, cases_lt, Option, Some, None, refl}
-use Rattle.act_walks.proofs.Common.{ap, sym, ◌∙◌, subst, arith, ◌==◌, slice_get, eqb-true, slice_get_within, option_and_then, Event, Step, ActorSpec, history}
+use Rattle.act_walks.proofs.Common.{ap, sym, ◌∙◌, subst, arith, slice_get, slice_get_within, option_and_then, Event, Step, ActorSpec, history}
 use Rattle.act_walks.proofs.Common.{IsOk, IsBehind, WorldView, IsReachedBy, Did, WorldRefusal, replicate, All-nil, Vec, leb, leb-true, leb-false, get_or}
-use Rattle.act_walks.proofs.Common.{slice_get-get_or, get_or_from_slice_get, Told, RetiredAsTold, one_step_more, ToldCaller, ToldEnd, SetsOut, SomeEnd}
-use Rattle.act_walks.proofs.Common.{IsAtRest, Fits, FitsCasts, bound_of, caller_in, steps_in, IsPaced, Starts, Steps, Others, Closes, AreAllDone, RestsOn}
+use Rattle.act_walks.proofs.Common.{slice_get-get_or, get_or_from_slice_get, Told, RetiredAsTold, ToldCaller, ToldEnd, SetsOut, SomeEnd}
+use Rattle.act_walks.proofs.Common.{IsAtRest, Fits, FitsCasts, bound_of, caller_in, steps_in, IsPaced, Starts, AreAllDone, RestsOn}
 use Rattle.act_walks.proofs.Common.{Parts, done_in, Stands, ComesThrough, HasDone, HaveDone, GoesFar, DoesAllSteps, Decides}
-use Rattle.act_walks.proofs.Paced.{does_all_its_steps}
+use Rattle.act_walks.proofs.Paced.{does_all_its_steps, paced_within}
 use Rattle.act_walks.proofs.Stuck.{at_rest}
 use Rattle.act_walks.proofs.Calls.{bound_is}
 
 -- ---- how many steps a caller did
-
-pub at_most : (casts : List ActorSpec) (bound : ℕ → Option (List Step)) (done : ℕ → ℕ) (events : List Event) → IsPaced casts bound done events
-    → (c : ℕ) (steps : List Step) → bound c ≡ Some steps → done c ≤ length steps
-at_most casts bound done events Starts c steps is = omega arith
-at_most casts bound done events (Steps before first now d own step free at does paced) c steps is =
-    go (d == c) refl (at_most casts bound before first paced c steps is)
-  where
-    go : (b : Bool) → (d == c) ≡ b → before c ≤ length steps → one_step_more d before c ≤ length steps
-    go true e rest =
-        let same : d ≡ c = eqb-true d c e in let both : Some own ≡ Some steps = sym free ∙ ap bound same ∙ is in let one : own ≡ steps = cc in
-        let within = slice_get_within own (before d) step at in let long : length own ≡ length steps = ap (λ l. length l) one in
-        let here : before d ≡ before c = ap before same in let more : one_step_more d before c ≡ before c + 1 = rw e refl in
-        omega (arith, within, long, here, more)
-    go false e rest = let more : one_step_more d before c ≡ before c = rw e refl in omega (arith, rest, more)
-at_most casts bound done events (Others before first other strange paced) c steps is = at_most casts bound before first paced c steps is
-at_most casts bound done events (Closes before first d a own free all paced) c steps is = at_most casts bound before first paced c steps is
 
 exactly : (n m : ℕ) → n ≤ m → m ≤ n → n ≡ m
 exactly n m one two = omega (arith, one, two)
@@ -33,7 +17,7 @@ exactly n m one two = omega (arith, one, two)
 pub all_done : (end : ToldEnd) (casts : List ActorSpec) (walk : Parts) → Stands end casts walk → HaveDone end walk.done
     → AreAllDone (bound_of end) (done_in walk.done)
 all_done end casts walk s have c steps is =
-    exactly (done_in walk.done c) (length steps) (at_most casts (bound_of end) (done_in walk.done) walk.events s.paced c steps is) (have c steps is)
+    exactly (done_in walk.done c) (length steps) (paced_within casts (bound_of end) (done_in walk.done) walk.events s.paced c is) (have c steps is)
 
 -- ---- whether callers did all their steps
 

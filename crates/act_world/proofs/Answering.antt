@@ -5,14 +5,13 @@ use Rattle.act_world.proofs.Common.{list_any-append, ActorDied, Reply, Answered,
 use Rattle.act_world.proofs.Common.{calls_of, kept_of, runs_of, opening_of, answer_of, answer_in, is_item_of, first_answer, outcome_of, did_reply, did_collect}
 use Rattle.act_world.proofs.Common.{after, was_sent, answer_alive, held_submission, or_else, kept_of-collected, First, Late, Stray, OwnerView, is_to, is_death}
 use Rattle.act_world.proofs.Common.{is_of_call, collected_reply, after_reply_that, is_death-only, NetworkView, told_collected, SlotView, IsOwnerOf, is_death_to}
-use Rattle.act_world.proofs.Common.{reply_as, Refines, ReplyPost, Kept, DidLate}
+use Rattle.act_world.proofs.Common.{reply_as, Refines, ReplyPost, Kept, DidLate, get_set-same, get_set-other}
 use Rattle.act_world.proofs.Lawful.{IsLawful}
-use Rattle.act_world.proofs.Pending.{kept_long}
 use Rattle.act_world.proofs.Sending.{seen_owner}
 use Rattle.act_world.proofs.Tables.{table_is, kept_there}
 use Rattle.act_world.proofs.Heard.{heard, or_else_none, heard_ties, heard_grows, finish, Collects}
 use Rattle.act_world.proofs.Numbered.{sent_before}
-use Rattle.act_world.proofs.Lists.{get_set-same, get_set-other}
+use Rattle.act_rules.proofs.Kept.{kept_size}
 
 -- ---- a reply is of a call of its caller
 
@@ -77,7 +76,7 @@ first_table : (h : History) (c a place : ℕ) (item : RunItem) (answer : Answer)
 first_table h c a place item answer at caller answered empty =
     table_is (slice_set (kept_of c h) item.future (Some answer)) (calls_of c h)
     (λ (call : ℕ × Submission). or_else (first_answer h c call) (answer_in h c call.0 call.1.actor (ReplyPost c a place)))
-    (length-set (kept_of c h) item.future (Some answer) ∙ kept_long h c) one
+    (length-set (kept_of c h) item.future (Some answer) ∙ kept_size c h) one
     ∙ sym (kept_of-collected h c (ReplyPost c a place))
   where
     itself : (x : Submission) → slice_get (calls_of c h) item.future ≡ Some x → slice_get (slice_set (kept_of c h) item.future (Some answer)) item.future ≡ Some
@@ -101,7 +100,7 @@ late_table : (h : History) (c a place : ℕ) (item : RunItem) (answer earlier : 
     answer_of a place h ≡ Some answer → kept_at (kept_of c h) item.future ≡ Some earlier → kept_of c h ≡ kept_of c (heard h (ReplyPost c a place))
 late_table h c a place item answer earlier at caller answered full =
     table_is (kept_of c h) (calls_of c h) (λ (call : ℕ × Submission). or_else (first_answer h c call) (answer_in h c call.0 call.1.actor (ReplyPost c a place)))
-    (kept_long h c) one
+    (kept_size c h) one
     ∙ sym (kept_of-collected h c (ReplyPost c a place))
   where
     stays : (j : ℕ) (x : Submission) → slice_get (calls_of c h) j ≡ Some x →

@@ -1,26 +1,22 @@
 -- A kill that is asked.
-use Rattle.act_world.proofs.Common.{◌≡◌, ℕ, ◌<◌, Bool, true, false, List, [], ◌∷◌, ◌++◌, length, Some, Ok, Err, inl, inr, refl, sym, ◌∙◌, subst, get_or, ◌==◌}
-use Rattle.act_world.proofs.Common.{◌||◌, position, slice_get, slice_set, unwrap_or, or-true, or-false, ne_eqb, eq-eqb, eqb_tells, get_or-set_same}
-use Rattle.act_world.proofs.Common.{get_or-set_other, list_any-append, unwrap_or-slice_get, KillNote, AskKill, Asked, HandleRefusal, Handle, handle_refusal}
+use Rattle.act_world.proofs.Common.{◌≡◌, ℕ, ◌<◌, Bool, true, false, List, [], ◌∷◌, ◌++◌, length, Some, Ok, Err, inl, inr, refl, sym, ◌∙◌, subst, get_or}
+use Rattle.act_world.proofs.Common.{position, slice_get, slice_set, unwrap_or, or-true, or-false, ne_eqb, eq-eqb, eqb_tells, get_or-set_same}
+use Rattle.act_world.proofs.Common.{get_or-set_other, unwrap_or-slice_get, KillNote, AskKill, Asked, HandleRefusal, Handle, handle_refusal}
 use Rattle.act_world.proofs.Common.{History, contains, outcome_of, add_event, after, added_grows, copies_in, OwnerView, kill_told, NetworkView, is_owner}
-use Rattle.act_world.proofs.Common.{SlotView, Refines}
+use Rattle.act_world.proofs.Common.{SlotView, Refines, contains_push}
 use Rattle.act_world.proofs.Changes.{refused_follows, accepted_follows}
 use Rattle.act_world.proofs.Lawful.{IsLawful}
 use Rattle.act_world.proofs.Frames.{same_caller, owners_stay, mail_stays}
 use Rattle.act_world.proofs.OneCaller.{or_else-Ok, or_else-Err, caller_here, handle_refused, callers_tie}
-
--- one number more
-contains-push : (b a : ℕ) (ns : List ℕ) → contains b (ns ++ a ∷ []) ≡ (contains b ns || ((a == b) || false))
-contains-push b a ns = list_any-append (λ m. m == b) ns (a ∷ [])
 
 -- the mark that a kill of the actor was asked
 asked_after : (asked : List Bool) (numbers : List ℕ) (a : ℕ) → a < length asked → ((b : ℕ) → unwrap_or (slice_get asked b) false ≡ contains b numbers)
     → (b : ℕ) → unwrap_or (slice_get (slice_set asked a true) b) false ≡ contains b (numbers ++ a ∷ [])
 asked_after asked numbers a within all b = unwrap_or-slice_get (slice_set asked a true) b false ∙ elim (eqb_tells a b) [
   | inl t ↦ subst (λ x. get_or (slice_set asked a true) x false ≡ contains x (numbers ++ a ∷ [])) t.1
-      (get_or-set_same asked a true false within ∙ sym (contains-push a a numbers ∙ rw (eq-eqb a a refl) (or-true (contains a numbers))))
+      (get_or-set_same asked a true false within ∙ sym (contains_push a a numbers ∙ rw (eq-eqb a a refl) (or-true (contains a numbers))))
   | inr f ↦ get_or-set_other asked a b true false (λ same. f.1 (sym same)) ∙ sym (unwrap_or-slice_get asked b false) ∙ all b
-      ∙ sym (contains-push b a numbers ∙ rw (ne_eqb a b f.1) (or-false (contains b numbers)))
+      ∙ sym (contains_push b a numbers ∙ rw (ne_eqb a b f.1) (or-false (contains b numbers)))
 ]
 
 -- where a caller asks a kill unrefused, what is told and the world with this kill marked follow the rules

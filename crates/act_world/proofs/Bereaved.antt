@@ -4,15 +4,16 @@ use Rattle.act_world.proofs.Common.{◌==◌, ◌&&◌, zip, count_by, slice_get
 use Rattle.act_world.proofs.Common.{or-false, eq-eqb, eqb_tells, length-map, list_any-append, slice_get-map, ActorDied, Death, Submission, Answer, History}
 use Rattle.act_world.proofs.Common.{calls_of, kept_of, answer_in, first_answer, was_sent, All_at, length-zip_same, eq_turned, or_else, kept_of-collected}
 use Rattle.act_world.proofs.Common.{copies_in, NetworkView, told_collected, SlotView, IsOwnerOf, is_death_to, Refines, DeathPost, DidDie, OwnerView}
-use Rattle.act_world.proofs.Common.{collect_result, with_death, call_waits_for, answer_after_death}
+use Rattle.act_world.proofs.Common.{collect_result, with_death, call_waits_for, answer_after_death, get_set-other}
 use Rattle.act_owner.specs.Owner.{is_known_dead as knows_dead}
 use Rattle.act_world.proofs.Lawful.{IsLawful, IsNamedPost}
-use Rattle.act_world.proofs.Pending.{kept_long, unanswered_is}
+use Rattle.act_world.proofs.Pending.{unanswered_is}
 use Rattle.act_world.proofs.Seeing.{is_named}
 use Rattle.act_world.proofs.Sending.{seen_owner}
-use Rattle.act_world.proofs.Lists.{zip_at, get_set-other}
+use Rattle.act_world.proofs.Lists.{zip_at}
 use Rattle.act_world.proofs.Tables.{table_is, kept_there}
 use Rattle.act_world.proofs.Heard.{heard, heard_ties, heard_grows, finish, Collects}
+use Rattle.act_rules.proofs.Kept.{kept_size}
 
 -- ---- a death
 
@@ -40,7 +41,7 @@ death_table h c a is = rw (is.calls, is.kept) (table ∙ sym (kept_of-collected 
         (λ (call : ℕ × Submission). or_else (first_answer h c call) (answer_in h c call.0 call.1.actor (DeathPost c a))) (enumerate_from 0 (calls_of c h))
     table = table_is (map (answer_after_death a) (zip (calls_of c h) (kept_of c h))) (calls_of c h)
         (λ (call : ℕ × Submission). or_else (first_answer h c call) (answer_in h c call.0 call.1.actor (DeathPost c a)))
-        (length-map (zip (calls_of c h) (kept_of c h)) (answer_after_death a) ∙ length-zip_same (calls_of c h) (kept_of c h) (kept_long h c))
+        (length-map (zip (calls_of c h) (kept_of c h)) (answer_after_death a) ∙ length-zip_same (calls_of c h) (kept_of c h) (kept_size c h))
         (λ j x e. slice_get-map (answer_after_death a) (zip (calls_of c h) (kept_of c h)) j ∙ ap (λ o. option_map (answer_after_death a) o)
         (zip_at (calls_of c h) (kept_of c h) j x e (kept_there h c j x e)) ∙ ap (λ o. Some o) (one_death h c a j x (first_answer h c (j, x))))
 

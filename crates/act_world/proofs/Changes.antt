@@ -1,10 +1,10 @@
 -- How a world goes on where one of its actors changes, or nothing does.
 use Rattle.act_world.proofs.Common.{◌≡◌, ◌≢◌, ℕ, ◌+◌, ◌<◌, ◌≤◌, ◌++◌, ◌∷◌, [], true, false, List, length, map, arith, length-append, get_or, Some, None, inl}
-use Rattle.act_world.proofs.Common.{inr, refl, ap, sym, ◌∙◌, subst, Option, Result, Ok, Err, OnErr, IfNone, slice_get, slice_set, option_map, eqb_tells}
+use Rattle.act_world.proofs.Common.{inr, refl, ap, sym, ◌∙◌, subst, Option, Ok, Err, IfNone, slice_get, slice_set, option_map, eqb_tells}
 use Rattle.act_world.proofs.Common.{set-get_or, slice_get-map, slice_get-get_or, get_or_from_slice_get, Event, Did, WorldRefusal, History, cast_of, names}
 use Rattle.act_world.proofs.Common.{is_ended, refusal_of, did, add_event, outcome_of, after, MailEntry, MailedNotice, NetworkView, IsGrown, SlotView, Runs}
-use Rattle.act_world.proofs.Common.{Died, Ended, Vacant, WorldOf, WorldView, is_live_slot, IsStage, Refines, Outcome, with_slots}
-use Rattle.act_world.proofs.Lists.{get_set-same, get_set-other, set-same}
+use Rattle.act_world.proofs.Common.{Died, Ended, Vacant, WorldOf, WorldView, is_live_slot, IsStage, Refines, Outcome, with_slots, get_set-same, get_set-other}
+use Rattle.act_world.proofs.Lists.{set-same}
 
 -- ---- what is told, and what stands after
 
@@ -25,12 +25,7 @@ pub refused_in_slot : {h : History} (event : Event) (refusal : WorldRefusal) {wo
 refused_in_slot {h} event refusal {world} a {slot} new at same told_is refused refines =
     rw (told_is, same, set-same world.slots a at) (refused_follows event refused refines)
 
--- what holds holds of an error
-pub on_err : {A E P : Type 0} (result : Result A E) → P → OnErr result P
-on_err (Ok value) holds = tt
-on_err (Err error) holds = holds
-
--- and of nothing
+-- what holds anyway holds where there is nothing
 pub on_none : {A P : Type 0} (found : Option A) → P → IfNone found P
 on_none (Some value) holds = tt
 on_none None holds = holds

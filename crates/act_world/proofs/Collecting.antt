@@ -34,7 +34,8 @@ has_post {h} network slots j {notice} refines e = go (slice_get h.posts j) refl 
     go None at e = cc
     go (Some post) at e = record { post = post; at = at; is = e }
 
-abbrev told_to : ℕ → Reply → MailedNotice
+-- a reply as it is mailed to a caller
+abbrev pub told_to : ℕ → Reply → MailedNotice
 told_to c reply = record { caller = c; notice = Answered reply }
 
 by_reply : (h : History) (network : NetworkView) (slots : List SlotView) (j c a place : ℕ) (notice : MailedNotice) → IsLawful h →

@@ -11,7 +11,7 @@ pub use Rattle.act_handles.proofs.Lookups.{given-without_copy}
 pub use Rattle.act_handles.specs.Handles.{copies_in, copy_answer, given_in, with_copy, with_number, without_copy}
 pub use Rattle.act_inbox.specs.Inbox.{IsDrained, IsOpened, arrival_of, handed_of, has_come, is_packet_of, next_of, note_after, note_arrival, note_of}
 pub use Rattle.act_inbox.specs.Inbox.{waiting_after, waiting_packet}
-pub use Rattle.act_lists.proofs.Lists.{slice_get_last, slice_get_more}
+pub use Rattle.act_lists.proofs.Lists.{contains_tail, get_set-other, get_set-same, slice_get_last, slice_get_more}
 pub use Rattle.act_owner.proofs.Told.{is_death-only, none_dead}
 pub use Rattle.act_owner.specs.Owner.{KnowsDeath, OwnerView, address_at, after_collect, after_reply_that, answer_after_death, call_waits_for, collect_result}
 pub use Rattle.act_owner.specs.Owner.{collected_reply, is_death, is_of_call, is_sent, is_to, kill_told, numbered_call, opened_with, owner_limit as limit_known}
@@ -21,18 +21,18 @@ pub use Rattle.act_owner.specs.declared.owner.Call.{Call}
 pub use Rattle.act_owner.specs.declared.owner.Collected.{Collected}
 pub use Rattle.act_owner.specs.declared.owner.Collected.TheVariants.{First, Late, Stray}
 pub use Rattle.act_rules.proofs.AsSubmitted.{IsCallTo, calls_to-at}
-pub use Rattle.act_rules.proofs.Ended.{ended_by, needs-none, not_terminated, run_needs, under-push}
+pub use Rattle.act_rules.proofs.Ended.{contains_other, contains_push, ended_by, needs-none, not_terminated, run_needs, under-push}
 pub use Rattle.act_rules.proofs.Events.{all_from_each, calls_to-length, collect_unrefused, telling_unrefused}
 pub use Rattle.act_rules.proofs.Finding.{find-None, find-Some, position_or_len-Some}
 pub use Rattle.act_rules.proofs.Growth.{Grows, added_grows, after_run_grows, calls_grow, calls_to_grow, runs_grow}
 pub use Rattle.act_rules.proofs.Kept.{answer_of_stays}
 pub use Rattle.act_rules.proofs.KindFaults.{answer_alive}
 pub use Rattle.act_rules.proofs.Letters.{IsSoundLetter, calls_to-number, has_last, has_letter-at, has_letter-sound, is_letter-same, kept_extends, letter_is}
-pub use Rattle.act_rules.proofs.Limits.{limit_of-same}
+pub use Rattle.act_rules.proofs.Limits.{limit_above, limit_of-same}
 pub use Rattle.act_rules.proofs.Lists.{All_at, All_more, All_weaker, enumerate_from-append, eq_turned, front_trans, length-filter_least, length-zip_same}
 pub use Rattle.act_rules.proofs.Lists.{option_map-none, option_or-none, slice_get-enumerate_from, slice_get-filter, slice_get_front, whole_front}
 pub use Rattle.act_rules.proofs.Order.{IsNext, next_item_is}
-pub use Rattle.act_rules.proofs.Posts.{IsSoundPost}
+pub use Rattle.act_rules.proofs.Posts.{IsSoundPost, ran_on}
 pub use Rattle.act_rules.proofs.RanAll.{AllNamed, Retires, copies_named, named_call, retires_step, world_retires}
 pub use Rattle.act_rules.proofs.Retired.{IsSoundNote, calls_to-push, times-push}
 pub use Rattle.act_rules.proofs.RunLists.{answer_at-push, state_after-push}

@@ -1,6 +1,6 @@
 -- What stays of a world where its history goes on, part by part.
 use Rattle.act_world.proofs.Common.{◌≡◌, ◌≢◌, ℕ, zero, suc, ◌<◌, Bool, true, false, cond, List, [], ◌∷◌, ◌++◌, length, Some, None, inl, inr, refl, ap, sym, ◌∙◌}
-use Rattle.act_world.proofs.Common.{subst, arith, get_or, Option, ◌==◌, ◌||◌, find, position, slice_get, slice_set, option_map, option_and_then, nat_lt}
+use Rattle.act_world.proofs.Common.{subst, arith, get_or, Option, ◌||◌, find, position, slice_get, slice_set, option_map, option_and_then, nat_lt}
 use Rattle.act_world.proofs.Common.{list_any, eq-eqb, ne_eqb, eqb_tells, find-set, find_past, position-Some, Answered, RunItem, Submission, Letter, Post}
 use Rattle.act_world.proofs.Common.{items_of, state_after, has_terminated, calls_to, ActorSpec, History, contains, under, cast_of, names, is_caller, calls_of}
 use Rattle.act_world.proofs.Common.{copies_of, runs_of, ran_count, kept_of, is_ended, is_dead, is_retired, has_letter, was_sent, slice_get_front, All_at, Grows}
@@ -10,11 +10,9 @@ use Rattle.act_world.proofs.Common.{ActorView, MailEntry, MailedNotice, is_owner
 use Rattle.act_world.proofs.Common.{packet_by_number, mail_entry, reply_as, reply_at, posted_notice, held_packet, IsLive, IsStage, CallLetter, NoteLetter}
 use Rattle.act_world.proofs.Common.{ReplyPost, DeathPost}
 use Rattle.act_world.proofs.Lawful.{IsLawful}
+use Rattle.act_rules.proofs.Callers.{cast_of-same}
 
 -- ---- the casts
-
-pub cast_of-same : (h g : History) (a : ℕ) → g.casts ≡ h.casts → cast_of a g ≡ cast_of a h
-cast_of-same h g a casts = ap (λ l. find (λ (cast : ActorSpec). cast.actor == a) l) casts
 
 pub is_caller-same : (h g : History) (c : ℕ) → g.casts ≡ h.casts → is_caller c g ≡ is_caller c h
 is_caller-same h g c casts = ap (λ l. list_any (λ (cast : ActorSpec). contains c cast.callers) l) casts

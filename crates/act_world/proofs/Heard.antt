@@ -4,14 +4,13 @@ use Rattle.act_world.proofs.Common.{slice_set, list_any, or-false, ne_eqb, list_
 use Rattle.act_world.proofs.Common.{answer_in, first_answer, did, Outcome, outcome_of, did_collect, add_event, after, and_also, was_sent, Grows, added_grows}
 use Rattle.act_world.proofs.Common.{or_else, kept_of-collected, OwnerView, collect_result, after_collect, KnowsDeath, MailedNotice, NetworkView, told_collected}
 use Rattle.act_world.proofs.Common.{SlotView, WorldView, IsOwnerOf, is_death_to, Refines, zero, true, arith, and_parts, eqb-true, Contains, collect_unrefused}
-use Rattle.act_world.proofs.Common.{ReplyPost, DeathPost}
+use Rattle.act_world.proofs.Common.{ReplyPost, DeathPost, contains_tail}
 use Rattle.act_world.proofs.Changes.{accepted_follows}
 use Rattle.act_world.proofs.Lawful.{IsLawful}
 use Rattle.act_world.proofs.Frames.{SameCaller, owners_change, mail_stays, replies_stay, stages_stay}
-use Rattle.act_world.proofs.Pending.{kept_long}
 use Rattle.act_world.proofs.Sending.{SeesOwner}
 use Rattle.act_world.proofs.Tables.{table_is, kept_there}
-use Rattle.act_world.proofs.Lists.{contains-more}
+use Rattle.act_rules.proofs.Kept.{kept_size}
 
 -- ---- the history after the post was collected
 
@@ -46,7 +45,7 @@ death_listed c a (post ∷ posts) e = go (is_death_to c a post) refl (death_list
     go : (b : Bool) → is_death_to c a post ≡ b → (list_any (is_death_to c a) posts ≡ true → Contains posts (DeathPost c a)) →
         (b || list_any (is_death_to c a) posts) ≡ true → Contains (post ∷ posts) (DeathPost c a)
     go true is rest e = (zero, omega arith, death_is c a post is)
-    go false is rest e = contains-more posts post (DeathPost c a) (rest e)
+    go false is rest e = contains_tail post (DeathPost c a) posts (rest e)
 
 pub or_else_none : (o : Option Answer) → o ≡ or_else o None
 or_else_none None = refl
@@ -59,7 +58,7 @@ others h post d apart = record {
   copies = λ b. refl;
   sent = λ k. same_sent k (slice_get (calls_of d h) k);
   kept = kept_of-collected h d post ∙ sym (table_is (kept_of d h) (calls_of d h)
-      (λ (call : ℕ × Submission). or_else (first_answer h d call) (answer_in h d call.0 call.1.actor post)) (kept_long h d) (λ j x e. kept_there h d j x e ∙
+      (λ (call : ℕ × Submission). or_else (first_answer h d call) (answer_in h d call.0 call.1.actor post)) (kept_size d h) (λ j x e. kept_there h d j x e ∙
       ap (λ o. Some o) (or_else_none (first_answer h d (j, x)) ∙ ap (λ o. or_else (first_answer h d (j, x)) o) (sym (no_answer h d j x.actor post apart)))));
   deaths = λ b. list_any-append (is_death_to d b) h.collected (post ∷ []) ∙
       ap (λ t. list_any (is_death_to d b) h.collected || (t || false)) (no_death d b post apart) ∙ or-false (list_any (is_death_to d b) h.collected);

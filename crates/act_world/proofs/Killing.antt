@@ -1,9 +1,9 @@
 -- An actor that takes a kill.
 use Rattle.act_world.proofs.Common.{◌≡◌, ℕ, ◌<◌, Bool, true, false, List, [], ◌∷◌, ◌++◌, length, map, get_or, Some, refl, ap, sym, ◌∙◌, subst, ◌==◌, slice_get}
-use Rattle.act_world.proofs.Common.{slice_set, unwrap_or, or-true, or-false, eq-eqb, or_right, or_left, map-set, list_any-append, TakeKill, NoActor, Handle}
+use Rattle.act_world.proofs.Common.{slice_set, unwrap_or, eq-eqb, or_right, or_left, map-set, TakeKill, NoActor, Handle}
 use Rattle.act_world.proofs.Common.{ActorEnded, NoKill, has_terminated, history, History, contains, runs_of, is_dead, is_retired, Outcome, outcome_of, did}
 use Rattle.act_world.proofs.Common.{add_event, after, added_grows, ActorView, NetworkView, SlotView, Runs, Died, Ended, Vacant, with_slots, take_kill}
-use Rattle.act_world.proofs.Common.{FollowsRules, IsLive, IsDead, IsStage, Refines, ne_eqb}
+use Rattle.act_world.proofs.Common.{FollowsRules, IsLive, IsDead, IsStage, Refines, ne_eqb, contains_push, contains_other}
 use Rattle.act_world.proofs.Changes.{accepted_follows, refused_in_slot, stages_change, slot_within}
 use Rattle.act_world.proofs.Lawful.{IsLawful, world_lawful}
 use Rattle.act_world.proofs.Frames.{same_caller, owners_stay, mail_stays, replies_stay, stage_stays, dead_same}
@@ -12,10 +12,7 @@ use Rattle.act_world.proofs.Frames.{same_caller, owners_stay, mail_stays, replie
 
 -- a list that ends with a number contains it
 pub contains-last : (a : ℕ) (ns : List ℕ) → contains a (ns ++ a ∷ []) ≡ true
-contains-last a ns = list_any-append (λ m. m == a) ns (a ∷ []) ∙ (let same : (a == a) ≡ true = eq-eqb a a refl in rw same (or-true (contains a ns)))
-
-pub contains-other : (a b : ℕ) (ns : List ℕ) → (a == b) ≡ false → contains b (ns ++ a ∷ []) ≡ contains b ns
-contains-other a b ns apart = list_any-append (λ m. m == b) ns (a ∷ []) ∙ rw apart (or-false (contains b ns))
+contains-last a ns = contains_push a a ns ∙ or_right (contains a ns) (a == a) (eq-eqb a a refl)
 
 -- ---- the actor dies
 
@@ -36,7 +33,7 @@ dead_ties h network slots a live lawful refines at is =
     record {
       owners = owners_stay h g network.owners refl (λ c. same_caller c h lawful grows refl refl refl refl refl) refines.owners;
       actors = stages_change h g slots a (Died (record { id = live.id; log = live.log })) refines.actors at (dead_now h a live is) (λ b stage apart was.
-          stage_stays h g b stage lawful grows refl refl (dead_same h g b (contains-other a b h.killed (ne_eqb a b apart)) refl) refl was);
+          stage_stays h g b stage lawful grows refl refl (dead_same h g b (contains_other a b h.killed (ne_eqb a b apart)) refl) refl was);
       mail = mail_stays network.mail lawful grows refines.mail;
       mail_count = refines.mail_count;
       replies = replies_stay h g network.replies lawful grows refines.replies;

@@ -1,6 +1,6 @@
 -- Laws of lists: what stands at a place, what is written there, and what a filter leaves.
-use Rattle.act_world.proofs.Common.{◌≡◌, ◌≢◌, ℕ, zero, suc, true, false, List, [], ◌∷◌, length, Some, None, refl, ap, sym, Bool, cond, arith, slice_get}
-use Rattle.act_world.proofs.Common.{slice_set, filter, take, zip, slice_get_past, ◌∙◌, get_or, nat_lt, ltb-true, slice_get-get_or, Contains}
+use Rattle.act_world.proofs.Common.{◌≡◌, ℕ, zero, suc, true, false, List, [], ◌∷◌, length, Some, None, refl, ap, sym, Bool, cond, arith, slice_get}
+use Rattle.act_world.proofs.Common.{slice_set, filter, take, zip, slice_get_past, ◌∙◌, get_or, nat_lt, ltb-true, slice_get-get_or}
 
 pub zip_at : {X Y : Type 0} (xs : List X) (ys : List Y) (j : ℕ) (x : X) {y : Y} → slice_get xs j ≡ Some x → slice_get ys j ≡ Some y →
     slice_get (zip xs ys) j ≡ Some (x, y)
@@ -16,9 +16,6 @@ read_is {X = X} {read} n {x} same within is =
     ap (λ l. slice_get l n) (sym same) ∙ slice_get-get_or read n x (ltb-true n (length read) (sym within)) ∙ ap (λ y. Some y) (sym is)
 
 -- what a list contains, a longer one does
-pub contains-more : {A : Type 0} (xs : List A) (y x : A) → Contains xs x → Contains (y ∷ xs) x
-contains-more xs y x c = (suc c.0, omega (arith, c.1), c.2)
-
 -- where an element of a filtered list stands in the list, and how many pass before it
 pub record IsRanked {A : Type 0} (p : A → Bool) (xs : List A) (n : ℕ) (x : A) : Type 0 where
   pub place : ℕ
@@ -34,20 +31,6 @@ filter_rank {A = A} p (y ∷ xs) n x e = go (p y) refl n (λ m. filter_rank p xs
     go true passes zero rest e = record { place = zero; at = e; rank_is = refl }
     go true passes (suc m) rest e = record { place = suc (rest m e).place; at = (rest m e).at; rank_is = rw passes (ap suc (rest m e).rank_is) }
     go false passes n rest e = record { place = suc (rest n e).place; at = (rest n e).at; rank_is = rw passes (rest n e).rank_is }
-
--- what is written at a place of a list stands there
-pub get_set-same : {X : Type 0} (xs : List X) (i : ℕ) {x : X} (y : X) → slice_get xs i ≡ Some x → slice_get (slice_set xs i y) i ≡ Some y
-get_set-same [] i y e = cc
-get_set-same (z ∷ xs) zero y e = refl
-get_set-same (z ∷ xs) (suc i) {x} y e = get_set-same xs i y e
-
--- what is written at one place leaves what stands at another
-pub get_set-other : {X : Type 0} (xs : List X) (i j : ℕ) (y : X) → i ≢ j → slice_get (slice_set xs i y) j ≡ slice_get xs j
-get_set-other [] i j y apart = refl
-get_set-other (z ∷ xs) zero zero y apart = absurd (apart refl)
-get_set-other (z ∷ xs) zero (suc j) y apart = refl
-get_set-other (z ∷ xs) (suc i) zero y apart = refl
-get_set-other (z ∷ xs) (suc i) (suc j) y apart = get_set-other xs i j y (λ e. apart (ap suc e))
 
 -- what stands at a place, written there again, leaves the list as it was
 pub set-same : {X : Type 0} (xs : List X) (i : ℕ) {x : X} → slice_get xs i ≡ Some x → slice_set xs i x ≡ xs

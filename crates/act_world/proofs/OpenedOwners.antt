@@ -1,11 +1,12 @@
 -- The callers at the opening.
 use Rattle.act_world.proofs.Common.{◌≡◌, ◌≢◌, ℕ, suc, ◌+◌, ◌<◌, Bool, true, false, List, [], ◌∷◌, ◌++◌, length, map, filter, take, Option, Some, None, is_some}
 use Rattle.act_world.proofs.Common.{All, AllPairs, get_or, inl, inr, refl, ap, sym, ◌∙◌, subst, arith, ◌==◌, ◌||◌, if◌then◌else◌, find, position}
-use Rattle.act_world.proofs.Common.{option_and_then, unwrap_or, slice_get, replicate, option_or, eqb_tells, append-nil, get_or-map, length-map, take_more}
+use Rattle.act_world.proofs.Common.{option_and_then, unwrap_or, slice_get, replicate, eqb_tells, append-nil, get_or-map, length-map, take_more}
 use Rattle.act_world.proofs.Common.{flat_map-append, All-tail, All-map, All-filter, find-append, list_any-append, AllPairs-filter, KindState, IsLimit, opening}
 use Rattle.act_world.proofs.Common.{contains, cast_of, names, is_caller, copies-opened, given-opened, find-Some, find-None, Cast, ActorsDiffer, none_dead}
 use Rattle.act_world.proofs.Common.{IsOwnerAt, IsOwnerOf, actor_spec, actor_limit, callers_named, limits_that_name, HasOwners, append_assoc, or-false, eq-eqb}
-use Rattle.act_world.proofs.Common.{ActorSpec, OwnerView, opened_with, is_owner}
+use Rattle.act_world.proofs.Common.{ActorSpec, OwnerView, opened_with, is_owner, contains_push, limit_above}
+use Rattle.act_lists.proofs.Options.{or_nothing}
 
 -- ---- the actors of a caller
 
@@ -29,16 +30,9 @@ pub limits_fit : {K : Type 0} (c : ℕ) (casts : List (Cast K)) → All (λ cast
 limits_fit {K} c casts fit =
     All-map (λ (limit : ℕ × Option ℕ). limit.1 ≢ Some 0) (λ cast. actor_limit cast) (filter (λ cast. contains c cast.callers) casts)
     (All-filter (λ (cast : Cast K). contains c cast.callers) (λ (cast : Cast K). cast.pending ≢ Some 0) casts
-    (λ i d within. some_calls (get_or casts i d).pending (fit i d within)))
-  where
-    some_calls : (limit : Option ℕ) → IsLimit limit → limit ≢ Some 0
-    some_calls None is same = cc
-    some_calls (Some limit) is same = let none : limit ≡ 0 = cc in absurd (omega (arith, is.0))
+    (λ i d within. limit_above (get_or casts i d).pending (fit i d within)))
 
 -- ---- a caller more
-
-is_in_more : (c d : ℕ) (callers : List ℕ) → contains d (callers ++ c ∷ []) ≡ (contains d callers || ((c == d) || false))
-is_in_more c d callers = list_any-append (λ m. m == d) callers (c ∷ [])
 
 seen : (c : ℕ) (owners : List OwnerView) (place : Option ℕ) → position (is_owner c) owners ≡ place → is_some (find (is_owner c) owners) ≡ is_some place
 seen c owners None at = rw (find-None (is_owner c) owners at) refl
@@ -59,8 +53,8 @@ pub owner_known : {K : Type 0} (casts : List (Cast K)) (callers : List ℕ) (own
 owner_known casts callers owners c there has d =
     let is_in : contains c callers ≡ true = sym (listed casts callers owners c has) ∙ there in
     elim (eqb_tells c d) [
-      | inl t ↦ let e : contains d callers ≡ true = subst (λ x. contains x callers ≡ true) t.1 is_in in rw (is_in_more c d callers, e) (rw e at (has d))
-      | inr f ↦ rw (is_in_more c d callers, f.0, or-false (contains d callers)) (has d)
+      | inl t ↦ let e : contains d callers ≡ true = subst (λ x. contains x callers ≡ true) t.1 is_in in rw (contains_push d c callers, e) (rw e at (has d))
+      | inr f ↦ rw (contains_push d c callers, f.0, or-false (contains d callers)) (has d)
     ]
 
 -- one that is new
@@ -73,15 +67,11 @@ owner_new casts callers owners c absent has d =
       | inl t ↦
           subst (λ x. find (is_owner x)
           (owners ++ one ∷ []) ≡ (if contains x (callers ++ c ∷ []) then Some (opened_with x (limits_that_name x casts)) else None)) t.1
-          (rw (find-append (is_owner c) owners (one ∷ []), is_in_more c c callers, has c, is_out, eq-eqb c c refl) refl)
-      | inr
-          f ↦ rw (find-append (is_owner d) owners (one ∷ []), is_in_more c d callers, f.0, or-false (contains d callers), or_nothing (find (is_owner d) owners))
+          (rw (find-append (is_owner c) owners (one ∷ []), contains_push c c callers, has c, is_out, eq-eqb c c refl) refl)
+      | inr f ↦
+          rw (find-append (is_owner d) owners (one ∷ []), contains_push d c callers, f.0, or-false (contains d callers), or_nothing (find (is_owner d) owners))
           (has d)
     ]
-  where
-    or_nothing : (o : Option OwnerView) → option_or o None ≡ o
-    or_nothing None = refl
-    or_nothing (Some owner) = refl
 
 -- ---- the callers of the opening
 

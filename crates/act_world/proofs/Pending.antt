@@ -1,12 +1,9 @@
 -- How many of a caller's calls are pending.
 use Rattle.act_world.proofs.Common.{◌≡◌, ℕ, suc, ◌+◌, Bool, true, false, cond, List, [], ◌∷◌, length, Some, None, refl, ap, sym, ◌∙◌, arith, Option, ◌==◌, ◌&&◌}
-use Rattle.act_world.proofs.Common.{not, filter, zip, slice_get, option_and_then, is_some, is_none, enumerate_from, length-map, length-enumerate_from}
-use Rattle.act_world.proofs.Common.{length-filter, Submission, Answer, kept_at, History, calls_of, kept_of, first_answer, unanswered, OwnerView, call_waits_for}
+use Rattle.act_world.proofs.Common.{not, filter, zip, slice_get, option_and_then, is_some, is_none, enumerate_from}
+use Rattle.act_world.proofs.Common.{length-filter, Submission, Answer, kept_at, History, calls_of, kept_of, unanswered, OwnerView, call_waits_for}
 use Rattle.act_world.proofs.Common.{pending, IsOwnerOf}
-
--- each call has a place in the table of answers
-pub kept_long : (h : History) (c : ℕ) → length (kept_of c h) ≡ length (calls_of c h)
-kept_long h c = length-map (enumerate_from 0 (calls_of c h)) (first_answer h c) ∙ length-enumerate_from 0 (calls_of c h)
+use Rattle.act_rules.proofs.Kept.{kept_size}
 
 -- the calls that wait are those that have no answer
 waiting_from : (a n : ℕ) (whole kept : List (Option Answer)) (calls : List Submission) → length kept ≡ length calls →
@@ -41,4 +38,4 @@ unanswered_is h c a owner is =
     sym (length-filter (call_waits_for a) (zip owner.calls owner.kept))
     ∙ ap (λ calls. length (filter (call_waits_for a) (zip calls owner.kept))) is.calls
     ∙ ap (λ kept. length (filter (call_waits_for a) (zip (calls_of c h) kept))) is.kept
-    ∙ waiting_from a 0 (kept_of c h) (kept_of c h) (calls_of c h) (kept_long h c) (λ i. let z : i ≡ 0 + i = omega arith in ap (slice_get (kept_of c h)) z)
+    ∙ waiting_from a 0 (kept_of c h) (kept_of c h) (calls_of c h) (kept_size c h) (λ i. let z : i ≡ 0 + i = omega arith in ap (slice_get (kept_of c h)) z)

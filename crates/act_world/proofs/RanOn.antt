@@ -1,16 +1,12 @@
 -- A history with one item more that ran, and the actor that ran it.
-use Rattle.act_world.proofs.Common.{◌≡◌, ◌≢◌, ℕ, ◌+◌, ◌<◌, Bool, true, false, cond, List, [], ◌∷◌, ◌++◌, length, Some, None, inl, inr, refl, ap, sym, ◌∙◌}
-use Rattle.act_world.proofs.Common.{arith, length-append, Option, ◌==◌, ◌||◌, nat_lt, eq-eqb, ne_eqb, ltb-true, lt-ltb, eqb_tells, append-nil, filter-append}
+use Rattle.act_world.proofs.Common.{◌≡◌, ◌≢◌, ℕ, ◌+◌, ◌<◌, Bool, true, false, cond, List, [], ◌∷◌, ◌++◌, length, Some, None, refl, ap, sym, ◌∙◌}
+use Rattle.act_world.proofs.Common.{arith, length-append, Option, ◌==◌, ◌||◌, nat_lt, eq-eqb, ne_eqb, ltb-true, lt-ltb, append-nil, filter-append}
 use Rattle.act_world.proofs.Common.{Packet, RunItem, after_item, state_after, items_of, has_terminated, History, contains, cast_of, names, runs_of, ran_count}
-use Rattle.act_world.proofs.Common.{is_ended, is_retired, has_letter, after_run, after_run_grows, under-push, ended_by, IsSoundLetter, has_letter-sound}
+use Rattle.act_world.proofs.Common.{is_ended, is_retired, has_letter, after_run_grows, under-push, ended_by, IsSoundLetter, has_letter-sound}
 use Rattle.act_world.proofs.Common.{state_after-push, handed_of, waiting_packet, ActorView, item_of, HasRunCall, Runs, dead_slot, bury_ended, packet_by_number}
-use Rattle.act_world.proofs.Common.{held_packet, is_note_of, IsLive, IsDead, IsStage, CallLetter}
+use Rattle.act_world.proofs.Common.{held_packet, is_note_of, IsLive, IsDead, IsStage, CallLetter, ran_on, or_right, eq_turned}
 use Rattle.act_world.proofs.Lawful.{IsLawful}
 use Rattle.act_world.proofs.Frames.{packet_stays}
-
--- a history with one run more
-abbrev pub ran_on : History → ℕ → ℕ → RunItem → History
-ran_on h a c item = after_run a c h (Some item)
 
 -- an item that ran is the last of its actor's run list
 pub runs_here : (h : History) (a c : ℕ) (item : RunItem) → runs_of a (ran_on h a c item) ≡ runs_of a h ++ item ∷ []
@@ -23,17 +19,11 @@ runs_other h a b c item apart = under-push b a h.ran item ∙ ap (λ x. runs_of 
 count_then : (h : History) (a c d : ℕ) (item : RunItem) → item.caller ≡ c →
     cond (d == c) (ran_count d a h + 1) (ran_count d a h) ≡ ran_count d a (ran_on h a c item)
 count_then h a c d item mine =
-    go (eqb_same d c)
+    go (eq_turned d c)
     ∙ sym (length-append (items_of d (runs_of a h)) (cond (item.caller == d) (item ∷ []) []))
     ∙ ap (λ items. length items) (sym (filter-append (λ (i : RunItem). i.caller == d) (runs_of a h) (item ∷ [])))
     ∙ ap (λ items. length (items_of d items)) (sym (runs_here h a c item))
   where
-    eqb_same : (x y : ℕ) → (x == y) ≡ (y == x)
-    eqb_same x y = elim (eqb_tells x y) [
-      | inl t ↦ t.0 ∙ sym (eq-eqb y x (sym t.1))
-      | inr f ↦ f.0 ∙ sym (ne_eqb y x (λ e. f.1 (sym e)))
-    ]
-
     by : (b : Bool) → cond b (ran_count d a h + 1) (ran_count d a h) ≡ ran_count d a h + length {A = RunItem} (cond b (item ∷ []) [])
     by true = refl
     by false = omega arith
@@ -112,14 +102,10 @@ dead_ran : (h : History) (a c : ℕ) (packet : Packet) (live new : ActorView) �
 dead_ran h a c packet live new is ran ends = record {
   cast = is.cast;
   cast_is = is.cast_is;
-  died = or_last (contains a h.killed) (ap has_terminated (sym (log_ran h a c is ran)) ∙ ends);
+  died = or_right (contains a h.killed) _ (ap has_terminated (sym (log_ran h a c is ran)) ∙ ends);
   id = ran.id ∙ is.id;
   log = log_ran h a c is ran;
 }
-  where
-    or_last : (x : Bool) {y : Bool} → y ≡ true → (x || y) ≡ true
-    or_last true e = refl
-    or_last false e = e
 
 -- its slot
 pub slot_ran : (h : History) (a c : ℕ) (packet : Packet) (live new : ActorView) → IsLawful h → IsLive h a live → HasRunCall c packet live new →

@@ -12,23 +12,18 @@ use Rattle.act_world.proofs.Lawful.{IsLawful, has_letter-last}
 use Rattle.act_world.proofs.Frames.{SameCaller, owners_change, mail_stays, go_together}
 use Rattle.act_world.proofs.OneCaller.{or_else-Ok, or_else-Err, caller_here, handle_refused, callers_tie, sent_stays, times-same, times-other_caller}
 use Rattle.act_world.proofs.OneCaller.{times-other_actor}
+use Rattle.act_handles.proofs.Copies.{held_less}
+use Rattle.act_lists.proofs.Options.{cond_none}
+use Rattle.std.proofs.lemmas.Option.{cond_some}
 
 -- ---- what the caller tells
 
 -- the note that a release sends, where it leaves no copy
-abbrev note_letter : History → ℕ → ℕ → Letter
+abbrev pub note_letter : History → ℕ → ℕ → Letter
 note_letter h c a = NoteLetter c a (length (calls_to a (calls_of c h)))
 
 abbrev note_if : History → ℕ → ℕ → Bool → Option Letter
 note_if h c a last = cond last (Some (note_letter h c a)) None
-
-chosen : {X : Type 0} (b : Bool) (x y : X) → Some y ≡ cond b (Some x) None → (b ≡ true) × (y ≡ x)
-chosen true x y e = (refl, cc)
-chosen false x y e = cc
-
-passed : {X : Type 0} (b : Bool) (x : X) → None ≡ cond b (Some x) None → b ≡ false
-passed true x e = cc
-passed false x e = refl
 
 -- an answer that nothing refused
 release_accepted : (owner : OwnerView) (a : ℕ) {told : Option ReleaseNote} → Ok told ≡ release_told owner a
@@ -44,10 +39,6 @@ last_here h c a is e = ap (λ copies. copies_held copies == 1) (sym (is.copies a
 last_unrefused : (copies : Option ℕ) → copies_held copies ≡ 1 → handle_refusal copies ≡ None
 last_unrefused None e = cc
 last_unrefused (Some n) e = let one : n ≡ 1 = e in rw one refl
-
-held_less : (copies : Option ℕ) → copies_held (option_map (λ copies. copies - 1) copies) ≡ copies_held copies - 1
-held_less None = refl
-held_less (Some n) = refl
 
 -- ---- the callers
 
@@ -129,7 +120,8 @@ pub release_follows : {h : History} (old : NetworkView) (slots : List SlotView) 
     Refines (after h (Release c a)) (record { network = record old { owners = slice_set old.owners place new }; slots = slots })
 release_follows {h} old slots c a {place} copies {owner} new {again} lawful refines at owner_is told new_is again_is held =
     let here = caller_here old slots c refines at owner_is in let accepted = release_accepted owner a told in
-    let last : is_last c a h ≡ false = last_here h c a here.is (passed (copies_held (copies_in a owner.handles) == 1) (release_note owner a) accepted.1) in
+    let last : is_last c a h ≡ false = last_here h c a here.is
+    (cond_none (copies_held (copies_in a owner.handles) == 1) (release_note owner a) (sym accepted.1)) in
     let within : place < length old.owners = (position-Some (is_owner c) old.owners place owner at).0 in
     let same : again ≡ with_handles owner (without_copy a owner.handles) = again_is ∙ get_or-set_same old.owners place new again within ∙ new_is in
     let left : copies ≡ copies_held (copies_of c a h) - 1 =
@@ -148,10 +140,10 @@ pub last_follows : {h : History} (old : NetworkView) (mail : List MailEntry) (sl
     (record { network = record old { owners = slice_set old.owners place new; mail = mail }; slots = slots })
 last_follows {h} old mail slots c a {place} i note {owner} new lawful refines at owner_is told new_is mail_is i_is =
     let here = caller_here old slots c refines at owner_is in let accepted = release_accepted owner a told in
-    let one = chosen (copies_held (copies_in a owner.handles) == 1) (release_note owner a) note accepted.1 in
+    let one = cond_some (copies_held (copies_in a owner.handles) == 1) (release_note owner a) note (sym accepted.1) in
     let last : is_last c a h ≡ true = last_here h c a here.is one.0 in
     let letter : mail_entry (add_event h (Release c a)) (note_letter h c a) ≡ Some (NoteEntry note) =
-    sym (ap (λ told. Some (NoteEntry told)) one.1 ∙ ap (λ id. Some (NoteEntry (record { caller = id; actor = a; after = given_in a owner.handles })))
+    sym (ap (λ told. Some (NoteEntry told)) (sym one.1) ∙ ap (λ id. Some (NoteEntry (record { caller = id; actor = a; after = given_in a owner.handles })))
     here.is.id ∙ ap (λ n. Some (NoteEntry (record { caller = c; actor = a; after = n }))) (here.is.given a)) in
     accepted_follows h (Release c a) (Mail i) (handle_refused h c a here accepted.0) (ap Mail (i_is ∙ refines.mail_count) ∙ did_release h c a last)
     (release_ties h old mail slots c a place owner new lawful refines at here.is new_is last

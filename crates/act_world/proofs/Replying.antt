@@ -1,8 +1,8 @@
 -- The reply of a call that ran.
 use Rattle.act_world.proofs.Common.{◌≡◌, ℕ, length, Some, ap, sym, ◌∙◌, slice_get, option_map, option_and_then, Packet, Reply, Answered, RunItem, Answer}
 use Rattle.act_world.proofs.Common.{after_item, answer_at, state_after, ActorSpec, History, runs_of, answer_of, slice_get_last, answer_at-push, ActorView}
-use Rattle.act_world.proofs.Common.{item_of, reply_of_run, MailedNotice, reply_as, reply_at, posted_notice, IsLive, ReplyPost}
-use Rattle.act_world.proofs.RanOn.{ran_on, runs_here}
+use Rattle.act_world.proofs.Common.{item_of, reply_of_run, MailedNotice, reply_as, reply_at, posted_notice, IsLive, ReplyPost, ran_on}
+use Rattle.act_world.proofs.RanOn.{runs_here}
 
 -- what the reply tells stands in the history after the run
 pub reply_posted : (h : History) (a c : ℕ) (packet : Packet) (live : ActorView) → IsLive h a live → packet.caller ≡ c → posted_notice

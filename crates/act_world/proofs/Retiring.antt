@@ -1,25 +1,18 @@
 -- An actor that ends by itself.
 use Rattle.act_world.proofs.Common.{◌≡◌, ℕ, ◌<◌, Bool, true, false, List, [], ◌∷◌, ◌++◌, length, map, get_or, Some, None, refl, ap, sym, ◌∙◌, subst, Option, Ok}
-use Rattle.act_world.proofs.Common.{Err, ◌==◌, ◌||◌, not, slice_get, slice_set, is_some, list_all, eqb-true, eq-eqb, ne_eqb, and_parts, or_parts, map-set}
-use Rattle.act_world.proofs.Common.{Retire, Retired, NoActor, WorldRefusal, Handle, ActorEnded, NotDrained, history, needs, History, contains, cast_of}
+use Rattle.act_world.proofs.Common.{Err, not, slice_get, slice_set, is_some, eqb-true, eq-eqb, ne_eqb, or_parts, map-set}
+use Rattle.act_world.proofs.Common.{Retire, Retired, NoActor, WorldRefusal, Handle, ActorEnded, NotDrained, history, needs, History, cast_of}
 use Rattle.act_world.proofs.Common.{callers_in, names, ran_count, is_ended, is_dead, is_retired, is_done, is_drained, Outcome, refusal_of, outcome_of, after}
 use Rattle.act_world.proofs.Common.{Grows, added_grows, handed_of, note_of, IsDrained, ActorView, RetiredView, MayRetire, NetworkView, SlotView, Runs, Died}
 use Rattle.act_world.proofs.Common.{Ended, Vacant, WorldView, with_slots, IsRetiredIn, is_note_of, IsLive, IsRetired, IsStage, Refines, FollowsRules}
-use Rattle.act_world.proofs.Common.{all_from_each}
+use Rattle.act_world.proofs.Common.{all_from_each, contains_other}
 use Rattle.act_world.proofs.Lawful.{IsLawful, world_lawful}
 use Rattle.act_world.proofs.Frames.{same_caller, owners_stay, still_lives, stage_stays}
 use Rattle.act_world.proofs.Changes.{accepted_follows, refused_in_slot, stages_change, slot_within}
-use Rattle.act_world.proofs.Killing.{contains-last, contains-other}
+use Rattle.act_world.proofs.Killing.{contains-last}
+use Rattle.act_rules.proofs.RanAll.{list_all-contains}
 
 -- ---- drained, as the actor and as the history tells
-
-each_of_all : (p : ℕ → Bool) (cs : List ℕ) → list_all p cs ≡ true → (c : ℕ) → contains c cs ≡ true → p c ≡ true
-each_of_all p [] all c e = cc
-each_of_all p (x ∷ cs) all c e = go (x == c) refl (each_of_all p cs (and_parts (p x) (list_all p cs) all).1 c) e
-  where
-    go : (b : Bool) → (x == c) ≡ b → (contains c cs ≡ true → p c ≡ true) → (b || contains c cs) ≡ true → p c ≡ true
-    go true is rest e = subst (λ y. p y ≡ true) (eqb-true x c is) (and_parts (p x) (list_all p cs) all).0
-    go false is rest e = rest e
 
 drained_there : (h : History) (a : ℕ) (live : ActorView) → IsLive h a live → IsDrained live.inbox → is_drained a h ≡ true
 drained_there h a live is drained = all_from_each (λ c. is_done c a h) (callers_in (cast_of a h)) (λ c named. sym (is.notes c (ran_count c a h) named) ∙
@@ -32,7 +25,7 @@ drained_here h a live is drained c listed = go (note_of live.inbox c) refl
     named = sym (is.listed c) ∙ listed
 
     told : is_note_of (ran_count c a h) (note_of live.inbox c) ≡ true
-    told = is.notes c (ran_count c a h) named ∙ each_of_all (λ d. is_done d a h) (callers_in (cast_of a h)) drained c named
+    told = is.notes c (ran_count c a h) named ∙ list_all-contains (λ d. is_done d a h) (callers_in (cast_of a h)) c drained named
 
     go : (o : Option ℕ) → note_of live.inbox c ≡ o → note_of live.inbox c ≡ Some (handed_of live.inbox c)
     go None e = let bad : false ≡ true = sym (ap (is_note_of (ran_count c a h)) e) ∙ told in cc
@@ -74,7 +67,7 @@ retired_ties : (h : History) (a : ℕ) (old : WorldView) (slot new : SlotView) �
 retired_ties h a old slot new lawful refines at is = record {
   owners = owners_stay h (without h a) old.network.owners refl (λ c. same_caller c h lawful grows refl refl refl refl refl) refines.owners;
   actors = stages_change h (without h a) old.slots a new refines.actors at is
-      (λ b stage apart was. stage_stays h (without h a) b stage lawful grows refl refl refl (contains-other a b h.retired (ne_eqb a b apart)) was);
+      (λ b stage apart was. stage_stays h (without h a) b stage lawful grows refl refl refl (contains_other a b h.retired (ne_eqb a b apart)) was);
   mail = refines.mail;
   mail_count = refines.mail_count;
   replies = refines.replies;

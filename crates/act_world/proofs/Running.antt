@@ -6,14 +6,14 @@ use Rattle.act_world.proofs.Common.{cast_of, names, is_caller, runs_of, is_ended
 use Rattle.act_world.proofs.Common.{Grows, after_run_grows, ActorView, item_of, reply_of_run, next_call, HasRunCall, MailedNotice, NetworkView, is_owner}
 use Rattle.act_world.proofs.Common.{naming_refusal, Slot, SlotView, Runs, WorldView, slot_view, world_view, with_slots, has_next_in_slot, bury_ended}
 use Rattle.act_world.proofs.Common.{HasRunNext, IsRun, posted_notice, IsLive, IsStage, Steps, is_memory, IsGrown, NoMemory, Outcome, OnErr, IfOk, on_err_weaker}
-use Rattle.act_world.proofs.Common.{slice_get-map, slice_get-get_or, Refines, FollowsRules, ReplyPost}
+use Rattle.act_world.proofs.Common.{slice_get-map, slice_get-get_or, Refines, FollowsRules, ReplyPost, ran_on}
 use Rattle.act_world.proofs.Lawful.{IsLawful, world_lawful}
 use Rattle.act_world.proofs.Frames.{same_caller, owners_stay, mail_stays, replies_stay, go_together, stage_stays, dead_same}
 use Rattle.act_world.proofs.Seeing.{refused, known}
 use Rattle.act_world.proofs.Changes.{refused_follows, accepted_follows, refused_in_slot, stages_change, has_ended, named_cast, slot_kept, grown_none}
 use Rattle.act_world.proofs.Changes.{grown_reply}
 use Rattle.act_world.proofs.NextCall.{next_is, item_is}
-use Rattle.act_world.proofs.RanOn.{ran_on, runs_other, slot_ran}
+use Rattle.act_world.proofs.RanOn.{runs_other, slot_ran}
 use Rattle.act_world.proofs.Replying.{reply_posted}
 use Rattle.act_world.proofs.Lists.{set-same}
 use Rattle.act_world.proofs.Stepping.{wanting}

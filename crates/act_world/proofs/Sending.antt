@@ -6,10 +6,9 @@ use Rattle.act_world.proofs.Common.{Letter, Mail, SendRefusal, Sending, calls_to
 use Rattle.act_world.proofs.Common.{is_letter, Outcome, did, refusal_of, outcome_of, add_event, after, and_also, call_letter, was_sent, Grows, added_grows}
 use Rattle.act_world.proofs.Common.{calls_to-number, letter_is, kept_of-same, Call, OwnerView, is_sent, sending_refusal, numbered_call, address_at, with_sent}
 use Rattle.act_world.proofs.Common.{CallKey, MailEntry, NetworkView, is_owner, SlotView, WorldView, StepsThere, IsOwnerOf, mail_entry, Refines, NoMemory}
-use Rattle.act_world.proofs.Common.{CallLetter, CallEntry, is_letter-same}
+use Rattle.act_world.proofs.Common.{CallLetter, CallEntry, is_letter-same, get_set-same, get_set-other}
 use Rattle.act_world.proofs.Changes.{refused_follows, accepted_follows}
 use Rattle.act_world.proofs.Stepping.{refused_there, wanting_there}
-use Rattle.act_world.proofs.Lists.{get_set-same, get_set-other}
 use Rattle.act_world.proofs.Lawful.{IsLawful, has_letter-last}
 use Rattle.act_world.proofs.Frames.{SameCaller, owners_change, owner_here, mail_stays, replies_stay, go_together, stages_stay}
 

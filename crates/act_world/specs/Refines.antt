@@ -1,5 +1,6 @@
 -- How a world and the history that its events make belong together.
-use Rattle.std.specs.Prelude.{◌≡◌, ℕ, ◌==◌, ◌&&◌, Bool, true, false, length, map, find, slice_get, nat_lt, Option, Some, None, option_map, option_and_then, unwrap_or, if◌then◌else◌}
+use Rattle.std.specs.Prelude.{◌≡◌, ℕ, ◌==◌, ◌&&◌, Bool, true, false, length, map, find, slice_get, nat_lt, Option, Some, None, option_map, option_and_then}
+use Rattle.std.specs.Prelude.{unwrap_or, if◌then◌else◌}
 use Rattle.std.specs.Option.{option_map_or}
 use Rattle.std.specs.List.{list_any}
 use Rattle.act_types.specs.declared.call.Packet.{Packet}
@@ -13,7 +14,8 @@ use Rattle.act_rules.specs.declared.history.Post.TheVariants.{Reply as ReplyPost
 use Rattle.act_rules.specs.declared.history.Submission.{Submission}
 use Rattle.act_rules.specs.RunList.{Answer, state_after}
 use Rattle.act_rules.specs.Submissions.{calls_to, settle}
-use Rattle.act_rules.specs.History.{ActorSpec, History, contains, cast_of, names, is_caller, calls_of, copies_of, limit_of, runs_of, ran_count, kept_of, answer_of, is_dead, is_retired, is_ended, has_letter}
+use Rattle.act_rules.specs.History.{ActorSpec, History, contains, cast_of, names, is_caller, calls_of, copies_of, limit_of, runs_of, ran_count, kept_of}
+use Rattle.act_rules.specs.History.{answer_of, is_dead, is_retired, is_ended, has_letter}
 use Rattle.act_rules.specs.Rules.{was_sent}
 use Rattle.act_handles.specs.Handles.{copies_in, given_in}
 use Rattle.act_inbox.specs.Inbox.{is_listed, handed_of, waiting_packet, note_of}
@@ -80,7 +82,8 @@ reply_at h c a place (Some item) = option_map (reply_as c a place item) (answer_
 
 -- what a post tells
 abbrev pub posted_notice : History → Post → Option MailedNotice
-posted_notice h (ReplyPost c a place) = option_map (λ reply. record { caller = c; notice = Answered reply }) (reply_at h c a place (slice_get (runs_of a h) place))
+posted_notice h (ReplyPost c a place) =
+    option_map (λ reply. record { caller = c; notice = Answered reply }) (reply_at h c a place (slice_get (runs_of a h) place))
 posted_notice h (DeathPost c a) = Some (record { caller = c; notice = Death a })
 
 -- ---- an actor

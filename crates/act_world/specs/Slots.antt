@@ -1,5 +1,6 @@
 -- What happens to an actor in its slot.
-use Rattle.std.specs.Prelude.{◌≡◌, ℕ, List, [], ◌∷◌, ◌++◌, length, Bool, true, false, if◌then◌else◌, Option, Some, None, option_map, is_some, IfNone, IfSome, Ok, Err}
+use Rattle.std.specs.Prelude.{◌≡◌, ℕ, List, [], ◌∷◌, ◌++◌, length, Bool, true, false, if◌then◌else◌, Option, Some, None, option_map, is_some, IfNone, IfSome}
+use Rattle.std.specs.Prelude.{Ok, Err}
 use Rattle.act_types.specs.declared.call.Packet.{Packet}
 use Rattle.act_types.specs.declared.call.ReleaseNote.{ReleaseNote}
 use Rattle.act_owner.specs.Owner.{OwnerView}

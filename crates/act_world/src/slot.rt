@@ -120,7 +120,8 @@ pub(crate) fn put<K: Actor>(slot: &mut Slot<K>, actor: Slot<K>)
 
 /// The actor is dead. This takes no memory.
 fn bury<K: Actor>(slot: &mut Slot<K>)
-    ensures { (live : ActorView) → slot_view K.state slot.old ≡ Runs live → slot_view K.state slot.new ≡ dead_slot live }
+    ensures { (live : ActorView) → slot_view K.state slot.old ≡ Runs live →
+        slot_view K.state slot.new ≡ dead_slot live }
 {
     match mem::replace(slot, Slot::Vacant) {
         Slot::Live(live) => put(slot, Slot::Dead(live.kill())),

@@ -3,7 +3,8 @@ use Rattle.example_callers.proofs.Common.{◌≡◌, ℕ, ◌+◌, ◌<◌, List
 use Rattle.example_callers.proofs.Common.{inr, ◌⊎◌, Int, Arg, Plain, Withdraw, Answer, kept_at, SessionView, IsLater, Submits, Retry, withdraw_try, is_lacking}
 use Rattle.example_callers.proofs.Common.{HasFailed, HasTried}
 use Rattle.example_callers.proofs.Calls.{called, kept_same}
-use Rattle.example_callers.proofs.Works.{replicate_more, length_of, last_or_before}
+use Rattle.example_callers.proofs.Works.{length_of, last_or_before}
+use Rattle.std.proofs.lemmas.List.{replicate_more}
 
 lacking_there : (o : Option Answer) → is_lacking o ≡ true → is_some o ≡ true
 lacking_there None lacking = cc

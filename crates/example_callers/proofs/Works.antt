@@ -1,11 +1,9 @@
 -- A worker at work.
 use Rattle.example_callers.proofs.Common.{◌≡◌, ℕ, ◌+◌, ◌<◌, List, [], ◌∷◌, ◌++◌, length, replicate, Option, Some, None, is_some, true, false, refl, ap, sym}
-use Rattle.example_callers.proofs.Common.{◌∙◌, arith, inl, inr, eq-or-lt_of_le, ◌⊎◌, pos, codes, length-replicate, replicate_next, Int, Arg, Plain, Method, Add}
+use Rattle.example_callers.proofs.Common.{◌∙◌, arith, inl, inr, eq-or-lt_of_le, ◌⊎◌, pos, codes, length-replicate, Int, Arg, Plain, Method, Add}
 use Rattle.example_callers.proofs.Common.{Own, Submission, Answer, kept_at, SessionView, IsLater, Submits, Worker, dequeue_call, is_job, HasDoneJobs}
 use Rattle.example_callers.proofs.Calls.{called, kept_same}
-
-pub replicate_more : {A : Type 0} (n : ℕ) (x : A) → replicate n x ++ x ∷ [] ≡ replicate (n + 1) x
-replicate_more n x = sym (replicate_next n x)
+use Rattle.std.proofs.lemmas.List.{replicate_more}
 
 pub length_of : {calls : List Submission} (n : ℕ) (x : Submission) → calls ≡ replicate n x → length calls ≡ n
 length_of n x is = ap length is ∙ length-replicate n x

@@ -1,5 +1,6 @@
 -- What a bank can be asked, what its calls do, how it is written, and that its money is neither made nor lost.
-use Rattle.std.specs.Prelude.{◌≡◌, ℕ, ◌+◌, ◌-◌, ◌^◌, List, [], ◌∷◌, ◌++◌, length, map, slice_index, slice_set, replicate, Bool, Result, Ok, Err, ℤ, pos, ◌-ℤ◌, unsigned_abs, int_lt, int_le, nat_lt, nat_le, ◌&&◌, if◌then◌else◌, bytes_eq, codes, decimal}
+use Rattle.std.specs.Prelude.{◌≡◌, ℕ, ◌+◌, ◌-◌, ◌^◌, List, [], ◌∷◌, ◌++◌, length, map, slice_index, slice_set, replicate, Bool, Result, Ok, Err, ℤ, pos, ◌-ℤ◌}
+use Rattle.std.specs.Prelude.{unsigned_abs, int_lt, int_le, nat_lt, nat_le, ◌&&◌, if◌then◌else◌, bytes_eq, codes, decimal}
 use Rattle.std.specs.List.{sum, sum_by}
 use Rattle.actors.specs.Value.{Value}
 use Rattle.actors.specs.Value.TheVariants.{Int}

@@ -1,5 +1,6 @@
 -- What a rate limiter can be asked, what its calls do, and what it never grants.
-use Rattle.std.specs.Prelude.{◌≡◌, ℕ, ◌+◌, ◌-◌, ◌≤◌, Bool, false, ◌&&◌, nat_lt, List, ◌++◌, length, filter, Result, Ok, Err, pos, if◌then◌else◌, bytes_eq, codes, decimal, is_ok}
+use Rattle.std.specs.Prelude.{◌≡◌, ℕ, ◌+◌, ◌-◌, ◌≤◌, Bool, false, ◌&&◌, nat_lt, List, ◌++◌, length, filter, Result, Ok, Err, pos, if◌then◌else◌, bytes_eq}
+use Rattle.std.specs.Prelude.{codes, decimal, is_ok}
 use Rattle.std.specs.List.{list_any}
 use Rattle.actors.specs.Value.{Value}
 use Rattle.actors.specs.Value.TheVariants.{Unit as Nothing, Int}

@@ -1,5 +1,6 @@
 -- What a purse can be asked, what its calls do, and how it is written.
-use Rattle.std.specs.Prelude.{ℕ, ◌+◌, ◌-◌, ◌^◌, List, [], ◌∷◌, ◌++◌, Bool, Result, Ok, Err, ℤ, pos, unsigned_abs, int_lt, nat_lt, nat_le, if◌then◌else◌, bytes_eq, codes, decimal}
+use Rattle.std.specs.Prelude.{ℕ, ◌+◌, ◌-◌, ◌^◌, List, [], ◌∷◌, ◌++◌, Bool, Result, Ok, Err, ℤ, pos, unsigned_abs, int_lt, nat_lt, nat_le, if◌then◌else◌}
+use Rattle.std.specs.Prelude.{bytes_eq, codes, decimal}
 use Rattle.actors.specs.Value.{Value}
 use Rattle.actors.specs.Value.TheVariants.{Unit as Nothing, Int}
 use Rattle.actors.specs.Method.{Method}

@@ -59,8 +59,8 @@ fn run_scene<Rt: Threads + Wait + Sync, K: Actor + Send, C: Code + Send>(
     requires plans { PlansFit scene.casts.items scene.plans.items }
     requires codes { CodesFit scene.casts.items scene.plans.items scene.codes.items }
     ensures { IfOk result (λ joined.
-        IsJoinedBy C.tells (map (actor_spec K.state) scene.casts.items) (map plan_view scene.plans.items) scene.codes.items
-        joined.owners.items (map (λ actor. end_view K.state actor.ended) joined.actors.items)) }
+        IsJoinedBy C.tells (map (actor_spec K.state) scene.casts.items) (map plan_view scene.plans.items)
+        scene.codes.items joined.owners.items (map (λ actor. end_view K.state actor.ended) joined.actors.items)) }
 {
     let Scene {
         casts,

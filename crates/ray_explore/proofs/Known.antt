@@ -1,8 +1,8 @@
 -- Which ends are known, once one more was told.
-use Rattle.ray_explore.proofs.Common.{◌≡◌, ℕ, ◌<◌, arith, length, Bool, true, false, cond, List, [], ◌∷◌, ◌++◌, bytes_eq, Option, refl, ap, sym, ◌∙◌, subst}
+use Rattle.ray_explore.proofs.Common.{◌≡◌, ℕ, Bool, true, false, cond, List, [], ◌∷◌, ◌++◌, bytes_eq, Option, refl, ap, sym, ◌∙◌, subst}
 use Rattle.ray_explore.proofs.Common.{Contains, BTreeSet, contains_text, Global, String, TellsEnd, TellsNew, TellsEnds, HasToldSome, HasToldMore}
 use Rattle.std.specs.Cmp.Lexicographic.{bytes_decides}
-use Rattle.std.proofs.lemmas.List.Elements.{Contains-append_left, Contains-append_right}
+use Rattle.std.proofs.lemmas.List.Elements.{Contains-append_left, Contains-push}
 use Rattle.ray_explore.proofs.Written.{one_end_more}
 
 -- the set has these lines, and what it had
@@ -29,9 +29,6 @@ known_of told lines other old new adds this earlier is = go (bytes_eq lines othe
     go true same e = subst (Contains told) ((bytes_decides lines other).0 same) this
     go false differs e = earlier e
 
-last_one : (told : List (List ℕ)) (lines : List ℕ) → Contains (told ++ lines ∷ []) lines
-last_one told lines = let within : 0 < length (lines ∷ []) = omega arith in Contains-append_right told (lines ∷ []) lines (0, within, refl)
-
 -- an end that is new was written
 pub told_new : (script lines : List ℕ) (is_new : Bool) (old new : BTreeSet (String Global)) (before after : Option (List ℕ)) → Adds lines old new →
     is_new ≡ true → TellsNew script lines is_new before after → HasToldMore script old new before after
@@ -40,7 +37,7 @@ told_new script lines is_new old new before after adds fresh wrote first (told, 
       told ++ lines ∷ [],
       record {
         tells = one_end_more script told lines first before after has.tells written;
-        known = λ other is. known_of (told ++ lines ∷ []) lines other old new adds (last_one told lines)
+        known = λ other is. known_of (told ++ lines ∷ []) lines other old new adds (Contains-push told lines)
             (λ was. Contains-append_left told (lines ∷ []) other (has.known other was)) is;
       },
     )

@@ -1,4 +1,5 @@
-//! Tests of the kinds of example_kinds and of the callers of example_callers, played and in threads, beside known kinds.
+//! Tests of the kinds of example_kinds and of the callers of example_callers, played and in threads, beside
+//! known kinds.
 #![tactic(auto)]
 
 #[cfg(test)]

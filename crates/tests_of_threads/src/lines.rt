@@ -86,7 +86,8 @@ pub(crate) fn opened_lines(alloc: Global, a: ActorId) -> Result<Lines, NoMemory>
     ensures ask { IfOk result (λ opened. opened.ask ≡ new_putter opened.control.line 1) }
     ensures letters { IfOk result (λ opened. opened.letters ≡ new_taker opened.mail.line (1 ∷ 2 ∷ [])) }
     ensures kills { IfOk result (λ opened. (opened.kills.line ≡ opened.control.line) × (opened.kills.actor ≡ a)) }
-    ensures unused { IfOk result (λ opened. (opened.kills.taken ≡ []) × (opened.kills.stamps ≡ []) × (opened.kills.lengths ≡ [])) }
+    ensures unused { IfOk result (λ opened. (opened.kills.taken ≡ []) × (opened.kills.stamps ≡ []) ×
+        (opened.kills.lengths ≡ [])) }
 {
     let mails = opened_mail(alloc, a)?;
     match opened_control(alloc, a) {

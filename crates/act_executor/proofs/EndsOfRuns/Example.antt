@@ -10,15 +10,13 @@ use Rattle.act_executor.proofs.Common.{all_one}
 use Rattle.act_types.specs.declared.call.Value.TheVariants as value
 use Rattle.act_types.specs.declared.call.Method.TheVariants as method
 use Rattle.act_rules.specs.declared.script.Step.TheVariants as step
+use Rattle.act_executor.proofs.Lists.Cuts.{pairs_one}
 
 -- ---- lists of one
 
 pub one_at : {A : Type 0} (x y : A) (k : ℕ) → slice_get (x ∷ []) k ≡ Some y → x ≡ y
 one_at x y zero e = cc
 one_at x y (suc k) e = cc
-
-pub pairs_one : {A : Type 0} (R : A → A → Type 0) (x : A) → AllPairs R (x ∷ [])
-pairs_one R x i j e first second = absurd (omega arith)
 
 -- only the first caller is named
 pub is_one : (c : ℕ) → contains c (1 ∷ []) ≡ true → 1 ≡ c

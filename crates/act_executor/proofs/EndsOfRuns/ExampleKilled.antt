@@ -7,8 +7,9 @@ use Rattle.act_executor.proofs.Common.{limits_naming, cast_at, plan_of, is_starv
 use Rattle.act_executor.proofs.Common.{all_one}
 use Rattle.act_types.specs.declared.call.Method.TheVariants as method
 use Rattle.act_rules.specs.declared.script.Step.TheVariants as step
-use Rattle.act_executor.proofs.EndsOfRuns.Example.{one_at, pairs_one, only, casts, casts_are, mails, controls, replies, letter_endpoint, kill_endpoint}
+use Rattle.act_executor.proofs.EndsOfRuns.Example.{one_at, only, casts, casts_are, mails, controls, replies, letter_endpoint, kill_endpoint}
 use Rattle.act_executor.proofs.EndsOfRuns.Example.{notice_endpoint, call, item}
+use Rattle.act_executor.proofs.Lists.Cuts.{pairs_one}
 
 abbrev letters : List Letter
 letters = Call (packet_of_item 1 item) ∷ []

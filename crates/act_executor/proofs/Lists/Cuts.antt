@@ -2,15 +2,17 @@
 use Rattle.act_executor.proofs.Common.{◌≡◌, ℕ, suc, ◌≤◌, ◌<◌, List, [], ◌∷◌, ◌++◌, Some, All, refl, ap, sym, ◌∙◌, arith, Contains, slice_get, AllPairs}
 use Rattle.act_executor.proofs.Common.{All-append, All-head, All-tail, recursion_from_All, Contains-append_right, AllPairs-cons, IsPrefix, slice_get_front}
 use Rattle.act_executor.proofs.Common.{IsFrontBelow, place_in_front, IsIn, in_from_contains, contains_from_in, all_in, front_by_places}
+use Rattle.act_serve.proofs.Clocks.{contains_head}
 
 -- ---- what is contained
 
-contains_head : {A : Type 0} (xs : List A) (x : A) → Contains (x ∷ xs) x
-contains_head xs x = (0, omega arith, refl)
+-- the one item of a list has no pair
+pub pairs_one : {A : Type 0} (R : A → A → Type 0) (x : A) → AllPairs R (x ∷ [])
+pairs_one R x i j e first second = absurd (omega arith)
 
 -- what stands between two lists
 pub contains_mid : {A : Type 0} (xs ys : List A) (x : A) → Contains (xs ++ x ∷ ys) x
-contains_mid xs ys x = Contains-append_right xs (x ∷ ys) x (contains_head ys x)
+contains_mid xs ys x = Contains-append_right xs (x ∷ ys) x (contains_head x ys)
 
 -- ---- pairs of two lists
 

@@ -1,22 +1,16 @@
 -- What each actor of a run left, at its place.
 use Rattle.act_executor.proofs.Common.{◌≡◌, ℕ, ◌<◌, List, [], ◌∷◌, ◌++◌, length, map, get_or, slice_get, Some, sym, ap, ◌∙◌, subst, All, Contains}
-use Rattle.act_executor.proofs.Common.{get_or_from_slice_get, map-map, KindState, NothingFollowsAnEnd, ActorSpec, contains, map-slice_get, Cast, actor_spec}
+use Rattle.act_executor.proofs.Common.{get_or_from_slice_get, KindState, NothingFollowsAnEnd, ActorSpec, contains, map-slice_get, Cast, actor_spec}
 use Rattle.act_executor.proofs.Common.{Letter, TakerView, ControlExecView, starter, RepliesView, ReplyExecView, notice_actor, Endpoint, ExecPasses, Finished}
 use Rattle.act_executor.proofs.Common.{end_view, end_id, end_log, IsLogOf, replies_to, deaths, caller_at, endpoint_callers, KillsTaken, HasDrained, IfRetired}
 use Rattle.act_executor.proofs.Common.{HasServed, without_given, IsAtItsEndpoint, Driven, Lines, IsExec, ServedView, IsServed, IsTold, NoticesAudited}
 use Rattle.act_executor.proofs.Common.{SitsAtReplies, NoticeTold, ActorLeft, left_of, at_other, all_at, IsIn, in_from_contains, contains_from_in, all_in}
 use Rattle.act_executor.proofs.Common.{all_by_places}
+use Rattle.act_serve.proofs.Serving.{callers_stay}
 
 -- an actor's end with its passes
 abbrev pub served_view : {K L : Type 0} → (K → KindState) → Finished K L → ServedView
 served_view state finished = record { end = end_view state finished.ended; passes = finished.passes }
-
--- endpoints at the same places are those of the same callers
-pub same_endpoint_callers : (replies : List RepliesView) (new old : List (Endpoint ReplyExecView)) → map without_given new ≡ map without_given old →
-    endpoint_callers replies new ≡ endpoint_callers replies old
-same_endpoint_callers replies new old same =
-    let at : Endpoint ReplyExecView → ℕ = λ endpoint. caller_at replies endpoint.place in
-    sym (map-map at without_given new) ∙ ap (map at) same ∙ map-map at without_given old
 
 -- ---- what shows of an actor without the place of its list
 
@@ -39,7 +33,7 @@ module _ {K L : Type 0} (state : K → KindState) (lines : Lines) (cast : Cast K
   left_is = record {
     callers = endpoint_callers lines.replies.items exec.pass.notices.items;
     same_callers = is.callers;
-    endpoints = same_endpoint_callers lines.replies.items actor.passes.notices.items exec.pass.notices.items served.stay.endpoints;
+    endpoints = callers_stay lines.replies.items exec.pass.notices.items actor.passes.notices.items served.stay.endpoints;
     log = served.log;
     last = served.last;
     given = served.given;

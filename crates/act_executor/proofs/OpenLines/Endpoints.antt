@@ -3,6 +3,7 @@ use Rattle.act_executor.proofs.Common.{◌≡◌, ◌≢◌, ℕ, zero, suc, ◌
 use Rattle.act_executor.proofs.Common.{get_or, inl, inr, refl, ap, sym, ◌∙◌, subst, arith, append_assoc, append-nil, ◌==◌, slice_get, option_map, AllPairs}
 use Rattle.act_executor.proofs.Common.{eqb_tells, map-append, map_more, All-nil, All-cons, All-tail, All-map, filter-append, slice_get-map, AllPairs-cons}
 use Rattle.act_executor.proofs.Common.{TableId, contains, map-slice_get, CallersDiffer, Endpoint, endpoint_at, group_of, endpoints_from}
+use Rattle.act_lists.proofs.Lists.{contains_tail}
 
 -- ---- one line more
 
@@ -102,9 +103,6 @@ module _ {P : Type 0} (new : TableId → ℕ → P) (number : P → ℕ) (named 
           (subst (λ k. Q (endpoint_at k (new line c))) e (each 0 line here refl refl is)) rest
       go false is rest = rest
 
-  has_cons : (y x : Endpoint P) (xs : List (Endpoint P)) → Contains xs x → Contains (y ∷ xs) x
-  has_cons y x xs has = let lt = has.1 in (suc has.0, omega arith, has.2)
-
   -- the name has its endpoint on each line that names it
   has_named : (c n : ℕ) (lines : List TableId) (names : List (List ℕ)) (i : ℕ) {line : TableId} {here : List ℕ} → slice_get lines i ≡ Some line →
       slice_get names i ≡ Some here → contains c here ≡ true → Contains (endpoints_named c n lines names) (endpoint_at (n + i) (new line c))
@@ -120,7 +118,7 @@ module _ {P : Type 0} (new : TableId → ℕ → P) (number : P → ℕ) (named 
       subst (λ k. Contains (endpoints_named c (n + 1) lines names) (endpoint_at k (new line c))) e (has_named c (n + 1) lines names i at there has) in
       elim (contains c these) as (λ b. Contains (cond b (endpoint_at n (new first c) ∷ endpoints_named c (n + 1) lines names)
       (endpoints_named c (n + 1) lines names)) (endpoint_at (n + suc i) (new line c))) [
-        | true ↦ has_cons (endpoint_at n (new first c)) (endpoint_at (n + suc i) (new line c)) (endpoints_named c (n + 1) lines names) more
+        | true ↦ contains_tail (endpoint_at n (new first c)) (endpoint_at (n + suc i) (new line c)) (endpoints_named c (n + 1) lines names) more
         | false ↦ more
       ]
 

@@ -1,13 +1,11 @@
 -- Two casts with three callers, and the parts of these, which the test opens.
 use Rattle.act_executor.proofs.Common.{◌≡◌, ◌≢◌, ℕ, true, false, List, [], ◌∷◌, All, Contains, map, refl, sym, ◌∙◌, subst, arith, ◌==◌, ◌&&◌, ◌||◌, AllPairs}
 use Rattle.act_executor.proofs.Common.{list_any, All-nil, All-cons, AllPairs-cons, contains, All-two, CallersDiffer, Cast, CallerSetup, AreMatched}
+use Rattle.act_executor.proofs.Lists.Cuts.{pairs_one}
 
 module _ {X : Type 0} (R : X → X → Type 0) where
-  one_alone : (x : X) → AllPairs R (x ∷ [])
-  one_alone x = AllPairs-cons R x [] (All-nil (R x)) (λ i j d below within. absurd (omega arith))
-
   two_apart : (x y : X) → R x y → AllPairs R (x ∷ y ∷ [])
-  two_apart x y apart = AllPairs-cons R x (y ∷ []) (All-cons (R x) y [] apart (All-nil (R x))) (one_alone y)
+  two_apart x y apart = AllPairs-cons R x (y ∷ []) (All-cons (R x) y [] apart (All-nil (R x))) (pairs_one R y)
 
   three_apart : (x y z : X) → R x y → R x z → R y z → AllPairs R (x ∷ y ∷ z ∷ [])
   three_apart x y z one two three =
@@ -56,8 +54,8 @@ module _ {K : Type 0} (one two : Cast K) (is_one : IsCast 5 2 7 one) (is_two : I
         (subst (λ l. All (Contains (map (λ (setup : CallerSetup). setup.caller) setups)) l) (sym is_two.callers)
         (All-two (Contains (map (λ (setup : CallerSetup). setup.caller) setups)) 7 1 (0, omega arith, is_both.caller) (1, omega arith, is_last.caller)));
     own_differ = all_three (λ (setup : CallerSetup). CallersDiffer setup.actors.items) both last first (subst CallersDiffer (sym is_both.actors_are)
-        (two_apart (λ m n. m ≢ n) 5 3 (λ same. absurd (omega arith)))) (subst CallersDiffer (sym is_last.actors_are) (one_alone (λ m n. m ≢ n) 3))
-        (subst CallersDiffer (sym is_first.actors_are) (one_alone (λ m n. m ≢ n) 5));
+        (two_apart (λ m n. m ≢ n) 5 3 (λ same. absurd (omega arith)))) (subst CallersDiffer (sym is_last.actors_are) (pairs_one (λ m n. m ≢ n) 3))
+        (subst CallersDiffer (sym is_first.actors_are) (pairs_one (λ m n. m ≢ n) 5));
     known = all_three (λ (setup : CallerSetup). Knows setup.caller setup.actors.items) both last first
         (known_by 7 is_both (λ a. elim (5 == a) as (λ x. (x || ((3 == a) || false)) ≡ ((x && true) || (((3 == a) && true) || false))) [
           | true ↦ refl

@@ -6,6 +6,8 @@ use Rattle.act_executor.proofs.Common.{RunItem, Submission, Answer, answer_at, i
 use Rattle.act_executor.proofs.Common.{runs_of, is_item_of, answer_of, answer_in, first_answer, slice_get-filter, slice_get-enumerate_from, slice_get_front}
 use Rattle.act_executor.proofs.Common.{calls_to-at, kept_at_is, kept_by, IsSound, consistent, places_of, CallsThatDiedNeverRan, is_between, CollectsInLine}
 use Rattle.act_executor.proofs.Common.{cond_gives, reply_alive, ReplyPost, DeathPost, IsIn, in_none, in_first}
+use Rattle.act_rules.proofs.Order.{numbered}
+use Rattle.act_rules.proofs.Elements.{in_map}
 
 -- ---- the first that answers
 
@@ -60,9 +62,6 @@ replies_alive : (c a : ℕ) (places : List ℕ) → AllByRecursion (λ x. x ≢ 
 replies_alive c a [] = tt
 replies_alive c a (place ∷ places) = ((λ e. cc), replies_alive c a places)
 
-map_in : {A B : Type 0} (g : A → B) {xs : List A} (x : A) → IsIn xs x → IsIn (map g xs) (g x)
-map_in g {xs} x i = record { place = i.place; at = slice_get-map g xs i.place ∙ ap (option_map g) i.at }
-
 -- ---- a call that ran
 
 module _ (h : History) (sound : IsSound h) (c a k p : ℕ) (item : RunItem) (at : slice_get (runs_of a h) p ≡ Some item) (caller : item.caller ≡ c)
@@ -94,7 +93,7 @@ module _ (h : History) (sound : IsSound h) (c a k p : ℕ) (item : RunItem) (at 
       subst (λ n. slice_get (filter_map (answer_in h c k n) h.collected) 0 ≡ Some (Err ActorDied)) to first in
       never_first (answer_in h c k a) (is_between c a) (DeathPost c a) (only_death h c k a) between h.collected
       (map (λ place. ReplyPost c a place) (places_of c (runs_of a h))) (ReplyPost c a p)
-      (map_in (λ place. ReplyPost c a place) p (place_listed c (runs_of a h) p item at caller)) gives (replies_alive c a (places_of c (runs_of a h))) line here
+      (in_map (λ place. ReplyPost c a place) (place_listed c (runs_of a h) p item at caller)) gives (replies_alive c a (places_of c (runs_of a h))) line here
 
 -- ---- all calls
 
@@ -104,26 +103,23 @@ record IsItemCall (h : History) (a : ℕ) (item : RunItem) : Type 0 where
   at : slice_get (calls_of item.caller h) item.future ≡ Some call
   to : call.actor ≡ a
 
-abbrev pair_of : RunItem → ℕ × ℕ
-pair_of i = (i.number, i.future)
-
 item_call : (h : History) → IsSound h → (a p : ℕ) (item : RunItem) → slice_get (runs_of a h) p ≡ Some item → IsItemCall h a item
 item_call h sound a p item at =
     let c = item.caller in
     let mine = slice_get-filter (λ (i : RunItem). i.caller == c) (runs_of a h) p at (eq-eqb c c refl) in
     let m : ℕ = length (filter (λ (i : RunItem). i.caller == c) (take p (runs_of a h))) in
-    let pair : slice_get (map pair_of (items_of c (runs_of a h))) m ≡ Some (pair_of item) =
-    slice_get-map pair_of (items_of c (runs_of a h)) m ∙ ap (option_map pair_of) mine in
-    let there : slice_get (enumerate_from 0 (map (λ (call : ℕ × Submission). call.0) (calls_to a (calls_of c h)))) m ≡ Some (pair_of item) =
+    let pair : slice_get (map numbered (items_of c (runs_of a h))) m ≡ Some (numbered item) =
+    slice_get-map numbered (items_of c (runs_of a h)) m ∙ ap (option_map numbered) mine in
+    let there : slice_get (enumerate_from 0 (map (λ (call : ℕ × Submission). call.0) (calls_to a (calls_of c h)))) m ≡ Some (numbered item) =
     slice_get_front _ _ m ((consistent h sound).in_order a c) pair in
     go m (slice_get (calls_to a (calls_of c h)) m) refl (sym (slice_get-enumerate_from 0 (map (λ (call : ℕ × Submission). call.0) (calls_to a (calls_of c h)))
     m ∙ ap (option_map (λ x. (0 + m, x))) (slice_get-map (λ (call : ℕ × Submission). call.0) (calls_to a (calls_of c h)) m)) ∙ there)
   where
     go : (m : ℕ) (o : Option (ℕ × Submission)) → slice_get (calls_to a (calls_of item.caller h)) m ≡ o →
-        option_map (λ x. (0 + m, x)) (option_map (λ (call : ℕ × Submission). call.0) o) ≡ Some (pair_of item) → IsItemCall h a item
+        option_map (λ x. (0 + m, x)) (option_map (λ (call : ℕ × Submission). call.0) o) ≡ Some (numbered item) → IsItemCall h a item
     go m None at e = cc
     go m (Some call) at e =
-        let both : (0 + m, call.0) ≡ pair_of item = cc in let future : call.0 ≡ item.future = ap (λ (x : ℕ × ℕ). x.1) both in
+        let both : (0 + m, call.0) ≡ numbered item = cc in let future : call.0 ≡ item.future = ap (λ (x : ℕ × ℕ). x.1) both in
         let to = calls_to-at a (calls_of item.caller h) m at in
         record { call = call.1; at = subst (λ k. slice_get (calls_of item.caller h) k ≡ Some call.1) future to.at; to = to.actor }
 

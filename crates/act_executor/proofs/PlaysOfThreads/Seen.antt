@@ -1,7 +1,7 @@
 -- What stands before one step of a thread: of each thread a front, with all its earlier steps.
 use Rattle.act_executor.proofs.Common.{◌≡◌, ℕ, ◌≤◌, ◌<◌, List, ◌∷◌, ◌++◌, Option, ap, sym, ◌∙◌, subst, Contains, option_map, cons_option, recursion_from_All}
 use Rattle.act_executor.proofs.Common.{All-from_recursion, contains_map, steps_in, found_in, Site, Action, action_at, actions_of, Threads, IsFrontBelow}
-use Rattle.act_executor.proofs.Common.{IsMergeOf, found_append, found_from, action_here, deed_of}
+use Rattle.act_executor.proofs.Common.{IsMergeOf, found_more, found_from, action_here, deed_of}
 use Rattle.act_causes.proofs.Found.{found_is}
 use Rattle.act_executor.proofs.Lists.Cuts.{step_seen}
 
@@ -10,7 +10,7 @@ pub found_below : {S X : Type 0} (part : S → Option X) (m : ℕ) {trace : List
     → IsFrontBelow m (found_in part trace) (found_in part front)
 found_below {S} {X} part m front seen = record {
   later = found_in part seen.later;
-  cut = ap (found_in part) seen.cut ∙ found_append part front seen.later;
+  cut = ap (found_in part) seen.cut ∙ found_more part front seen.later;
   from = All-from_recursion (λ (x : ℕ × X). m ≤ x.0) (found_in part seen.later)
       (found_from part m seen.later (recursion_from_All (λ (x : ℕ × S). m ≤ x.0) seen.later seen.from));
 }
@@ -26,7 +26,7 @@ module _ {threads : Threads} {merged : List (ℕ × (Site × Action))} (merge : 
   pub next : (before later : List (ℕ × (Site × Action))) (m : ℕ) (site : Site) (action : Action) → merged ≡ before ++ (m, (site, action)) ∷ later
       → threads site ≡ found_in (action_at site) before ++ (m, action) ∷ found_in (action_at site) later
   next before later m site action e =
-      sym (merge.of site) ∙ ap (found_in (action_at site)) e ∙ found_append (action_at site) before ((m, (site, action)) ∷ later)
+      sym (merge.of site) ∙ ap (found_in (action_at site)) e ∙ found_more (action_at site) before ((m, (site, action)) ∷ later)
       ∙ ap (λ o. found_in (action_at site) before ++ cons_option (option_map (λ x. (m, x)) o) (found_in (action_at site) later)) (action_here site action)
 
 -- before a deed with stamp m stands of each thread a front, with all its earlier steps

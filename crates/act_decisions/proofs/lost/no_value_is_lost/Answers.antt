@@ -1,5 +1,6 @@
 use Rattle.act_decisions.proofs.Common.{◌≡◌, ◌<◌, ℕ, List, length, sym, ap, ◌∙◌, arith, slice_get, ActorSpec, ToldRun, rans_in, AreAnswers, IsRunIn, TakesNone}
-use Rattle.act_decisions.proofs.Fitting.{all_runs, below_more, item_at, runs_said}
+use Rattle.act_lists.proofs.Lists.{item_at}
+use Rattle.act_decisions.proofs.Fitting.{all_runs, below_more, runs_said}
 use Rattle.act_decisions.proofs.lost.no_value_is_lost.Goals as goal
 
 pub loop-b-preserved : goal.loop-b-preserved

@@ -1,5 +1,6 @@
 use Rattle.act_decisions.proofs.Common.{◌≡◌, ◌<◌, ℕ, length, sym, ap, ◌∙◌, arith, slice_get, IsPlacedAt, ToldRun, rans_in, IsRunIn}
-use Rattle.act_decisions.proofs.Fitting.{all_runs, below_more, item_at, runs_said}
+use Rattle.act_lists.proofs.Lists.{item_at}
+use Rattle.act_decisions.proofs.Fitting.{all_runs, below_more, runs_said}
 use Rattle.act_decisions.proofs.placed.runs_are_placed.Goals as goal
 
 pub loop-a-preserved : goal.loop-a-preserved

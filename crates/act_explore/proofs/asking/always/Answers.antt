@@ -1,6 +1,7 @@
 use Rattle.act_explore.proofs.Common.{map, None, refl, sym, subst, history, plan_view, HasPassed}
 use Rattle.act_explore.proofs.Answering.{each_end_weaker, each_run_weaker}
-use Rattle.act_explore.proofs.Oks.{some_weaker, not_none}
+use Rattle.act_explore.proofs.Oks.{not_none}
+use Rattle.std.proofs.lemmas.Option.{IfSome_then}
 use Rattle.act_explore.proofs.asking.always.Goals as goal
 
 pub returns-in-Whole-clause-runs : goal.returns-in-Whole-clause-runs
@@ -28,9 +29,9 @@ returns-in-Stopped-clause-runs g c = λ is.
 pub returns-in-Stopped-clause-found : goal.returns-in-Stopped-clause-found
 returns-in-Stopped-clause-found g c =
     let kept = c.in_ok-visit_ends.ensures.keeps (record { check = c.args.check; found = None }) (refl, tt) in
-    some_weaker _ _ c.visit_ends.new.visit.found (λ events both. both.0) kept.1
+    IfSome_then c.visit_ends.new.visit.found kept.1 (λ events both. both.0)
 
 pub returns-in-Stopped-clause-breaks : goal.returns-in-Stopped-clause-breaks
 returns-in-Stopped-clause-breaks g c =
     let kept = c.in_ok-visit_ends.ensures.keeps (record { check = c.args.check; found = None }) (refl, tt) in
-    some_weaker _ _ c.visit_ends.new.visit.found (λ events both. both.1) kept.1
+    IfSome_then c.visit_ends.new.visit.found kept.1 (λ events both. both.1)

@@ -1,5 +1,6 @@
 use Rattle.act_walks.proofs.Common.{◌≡◌, ◌∙◌, length, get_or, ap, sym, subst, arith, Vec, Event, world_view}
-use Rattle.act_walks.proofs.Rested.{rests_trans, rests_for, told_false, tells_none, says_retired, item_there, settled_more, settled_same, settled_all}
+use Rattle.act_walks.proofs.Rested.{rests_trans, rests_for, told_false, tells_none, says_retired, settled_more, settled_same, settled_all}
+use Rattle.act_lists.proofs.Lists.{item_at}
 use Rattle.act_walks.proofs.resting.retire_round.Goals as goal
 use Rattle.act_walks.proofs.resting.retire_round.Goals.{then-branch, else-branch}
 
@@ -8,7 +9,7 @@ loop-number-preserved g c =
     let actors = c.args.end.now.actors.items in let n = c.loop-number.number in let one = c.actor-item.result in
     let here : one ≡ get_or actors n one = subst (λ l. one ≡ get_or l n one) c.deref-actor-items.ensures.value c.actor-item.is in
     let test = c.loop-number-test.true in let long = ap (λ l. length l) c.deref-actor-items.ensures.value in
-    let at = item_there actors n one (omega arith) here in (
+    let at = item_at actors n one (omega arith) here in (
       rests_trans c.loop-number.invariant.0 (rests_for (λ told fits. says_retired n one told at fits) c.in_ok-retire_told.ensures.rests),
       λ none. elim c.if-branch.branch [
         | then-branch w ↦ absurd (let yes = w.moved-is in cc)

@@ -38,7 +38,7 @@ pub returns-in-Ok : goal.returns-in-Ok
 returns-in-Ok g c =
     let endpoint = c.index_mut-endpoint.result.now in
     record {
-      calling = calling_posted _ c.args.letter c.in-Some.at endpoint c.post_at.new.pass (endpoint.pass.stamps ++ g.K.Stamped.stamp ∷ []) refl (search rules)
+      calling = calling_posted _ c.args.letter c.in-Some.at endpoint c.post_at.new.pass (endpoint.pass.stamps ++ g.S.Stamped.stamp ∷ []) refl (search rules)
           (search rules) (λ d. search rules) (search rules) refl (search rules) refl refl (search rules) (search rules) c.requires.calling;
       waits = posted_waits (record c.args.self.now { outbox = Some c.args.letter }) _ c.in-Some.at endpoint c.post_at.new.pass (search rules)
           (search rules) refl refl refl refl;
